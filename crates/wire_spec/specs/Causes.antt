@@ -1,0 +1,19 @@
+-- Counters that stand still at the last value of a u64, and what a counter says of an answer.
+use Rattle.std.specs.Prelude.{ℕ, ◌+◌, ◌-◌, ◌^◌, ◌≤◌, min, Result, OnErr}
+
+-- the counter, raised by n
+abbrev pub raised : ℕ → ℕ → ℕ
+raised count n = min (count + n) (2 ^ 64 - 1)
+
+-- the counter rose by n or more, or stands at its last value
+abbrev pub RoseBy : ℕ → ℕ → ℕ → Type 0
+RoseBy before now n = raised before n ≤ now
+
+-- the counter rose, or stands at its last value
+abbrev pub Rose : ℕ → ℕ → Type 0
+Rose before now = RoseBy before now 1
+
+-- a call's error has its cause in a counter of faults: it comes only where the counter rose, which never falls
+pub record HasCause {T E : Type 0} (before now : ℕ) (result : Result T E) : Type 0 where
+  pub later : before ≤ now
+  pub failed : OnErr result (Rose before now)

@@ -1,0 +1,19 @@
+-- Lists within lists.
+use Rattle.std.specs.Prelude.{◌≡◌, ◌⊎◌, ℕ, ◌<◌, List, [], ◌∷◌, ◌++◌, length, All}
+
+-- the lists one after another
+abbrev pub joined : List (List ℕ) → List ℕ
+joined [] = []
+joined (x ∷ xs) = x ++ joined xs
+
+-- a list with items left out, the others in order
+abbrev pub IsSubsequence : {X : Type 0} → List X → List X → Type 0
+IsSubsequence [] ys = Unit {0}
+IsSubsequence (x ∷ xs) [] = ⊥
+IsSubsequence (x ∷ xs) (y ∷ ys) = ((x ≡ y) × IsSubsequence xs ys) ⊎ IsSubsequence (x ∷ xs) ys
+
+-- bytes cut into pieces of one size, and the shorter rest behind them
+pub record IsCut (size : ℕ) (bytes : List ℕ) (pieces : List (List ℕ)) (tail : List ℕ) : Type 0 where
+  pub whole : bytes ≡ joined pieces ++ tail
+  pub each : All (λ piece. length piece ≡ size) pieces
+  pub short : length tail < size
