@@ -1,5 +1,5 @@
 -- Small datagrams, to try the definitions on.
-use Rattle.std.specs.Prelude.{ℕ, List, [], ◌∷◌, ◌++◌, replicate}
+use Rattle.std.specs.Prelude.{ℕ, List, [], ◌∷◌, replicate}
 
 -- an IPv4 header without payload, to 239.1.2.3
 abbrev pub small_ipv4 : List ℕ

@@ -1,0 +1,121 @@
+-- Reassembly of units from the received packets of one PID (ISO/IEC 13818-1 clause 2.4.4, RFC 4326 section 7).
+use Rattle.std.specs.Prelude.{ℕ, zero, suc, ◌+◌, Bool, true, false, not, ◌&&◌, ◌||◌, List, [], ◌∷◌, ◌++◌, take, drop, length, ◌==◌, nat_lt, nat_le, if◌then◌else◌, flat_map}
+use Rattle.ts_spec.specs.Form.{UnitForm, Span, more, stuffing, whole, bad}
+use Rattle.ts_spec.specs.Packet.{PacketFields, continues, pointer, pointer_fits}
+use Rattle.ts_spec.specs.Recording.{Record}
+use Rattle.ts_spec.specs.Received.{Arrival, packet_of, received_packets}
+
+-- Unit starts: they depend on one packet alone.
+
+-- the next start stands where a unit ends within the bytes; behind any other span there is none
+abbrev pub starts_behind : ℕ → List ℕ → ℕ → Span → (ℕ → List ℕ → List ℕ) → List ℕ
+starts_behind place bytes size stuffing next = []
+starts_behind place bytes size (whole n) next = place ∷ (if nat_le n size then next (place + n) (drop n bytes) else [])
+starts_behind place bytes size more next = place ∷ []
+starts_behind place bytes size bad next = place ∷ []
+
+-- the starts in the bytes that stand at a place of a payload, at most so many
+abbrev pub starts_within : UnitForm → ℕ → ℕ → List ℕ → List ℕ
+starts_within form zero place bytes = []
+starts_within form (suc most) place bytes =
+    if nat_lt (length bytes) form.start then [] else
+    starts_behind place bytes (length bytes) (form.span bytes) (starts_within form most)
+
+-- the places in its payload at which units start in a packet
+abbrev pub unit_starts : UnitForm → PacketFields → List ℕ
+unit_starts form packet =
+    if packet.starts && pointer_fits packet
+    then starts_within form (length packet.payload) (1 + pointer packet) (drop (1 + pointer packet) packet.payload)
+    else []
+
+-- The bytes behind a start.
+
+-- whole payloads; the pointer's bytes of the packet in which the next unit starts; whether a packet ended the list
+-- whose own pointer does not fail to fit
+pub record Given : Type 0 where
+  pub payloads : List ℕ
+  pub rest : List ℕ
+  pub is_ended : Bool
+
+abbrev pub all_of : Given → List ℕ
+all_of given = given.payloads ++ given.rest
+
+-- one payload more in front
+abbrev pub with_payload : List ℕ → Given → Given
+with_payload payload given = record { payloads = payload ++ given.payloads; rest = given.rest; is_ended = given.is_ended }
+
+-- ended by a packet that gives nothing
+abbrev pub ended_by : PacketFields → Given
+ended_by packet = record { payloads = []; rest = []; is_ended = not packet.starts || pointer_fits packet }
+
+-- what a continuous packet gives: its payload and what is behind it; with the start indicator its pointer's bytes alone
+abbrev pub given_by : PacketFields → Given → Given
+given_by packet behind =
+    if packet.starts then
+    (if pointer_fits packet
+    then record { payloads = []; rest = take (pointer packet) (drop 1 packet.payload); is_ended = true }
+    else ended_by packet)
+    else with_payload packet.payload behind
+
+abbrev pub given_behind : PacketFields → List Arrival → Given
+given_behind before [] = record { payloads = []; rest = []; is_ended = false }
+given_behind before (arrival ∷ behind) =
+    if continues before (packet_of arrival) then given_by (packet_of arrival) (given_behind (packet_of arrival) behind)
+    else ended_by (packet_of arrival)
+
+-- the payload from the start on, then what the packets behind give
+abbrev pub bytes_from : ℕ → PacketFields → List Arrival → Given
+bytes_from start packet behind = with_payload (drop start packet.payload) (given_behind packet behind)
+
+-- Outcomes of a start.
+
+pub data Outcome : Type 0 where
+  candidate : List ℕ → Outcome
+  bad_length : Outcome
+  delimit : Outcome
+  no_outcome : Outcome
+
+-- the unit is not complete: lost where a packet ended the list
+abbrev pub incomplete : Given → Outcome
+incomplete given = if given.is_ended then delimit else no_outcome
+
+-- a unit of n bytes came; where it reaches into the pointer's bytes it must end with them
+abbrev pub is_complete : ℕ → Given → Bool
+is_complete n given = nat_le n (length given.payloads) || (n == length (all_of given))
+
+abbrev pub outcome_by : Span → Given → Outcome
+outcome_by bad given = bad_length
+outcome_by (whole n) given = if is_complete n given then candidate (take n (all_of given)) else incomplete given
+outcome_by more given = incomplete given
+outcome_by stuffing given = incomplete given
+
+-- the one outcome of a start
+abbrev pub outcome_of : UnitForm → Given → Outcome
+outcome_of form given = outcome_by (form.span (all_of given)) given
+
+-- Accepted units.
+
+-- a unit with the place of its packet among the records, its place in the payload, and the packet's moment
+pub record PlacedUnit : Type 0 where
+  pub place : ℕ
+  pub start : ℕ
+  pub moment : ℕ
+  pub unit : List ℕ
+
+abbrev pub accepted_by : UnitForm → Arrival → ℕ → Outcome → List PlacedUnit
+accepted_by form arrival start (candidate unit) =
+    if form.check unit then record { place = arrival.place; start = start; moment = arrival.moment; unit = unit } ∷ [] else []
+accepted_by form arrival start bad_length = []
+accepted_by form arrival start delimit = []
+accepted_by form arrival start no_outcome = []
+
+abbrev pub accepted_at : UnitForm → Arrival → List Arrival → ℕ → List PlacedUnit
+accepted_at form arrival behind start = accepted_by form arrival start (outcome_of form (bytes_from start (packet_of arrival) behind))
+
+abbrev pub accepted_in : UnitForm → List Arrival → List PlacedUnit
+accepted_in form [] = []
+accepted_in form (arrival ∷ behind) = flat_map (accepted_at form arrival behind) (unit_starts form (packet_of arrival)) ++ accepted_in form behind
+
+-- the candidates of a PID whose check holds, in the order of their starts
+abbrev pub accepted_units : UnitForm → ℕ → List Record → List PlacedUnit
+accepted_units form pid records = accepted_in form (received_packets pid records)

@@ -1,0 +1,89 @@
+-- SNDUs, the units of ULE (RFC 4326 section 4): D and Length in bytes 0 and 1, Type in 2 and 3,
+-- the NPA address where D is 0, the PDU, the CRC-32.
+use Rattle.std.specs.Prelude.{ℕ, ◌+◌, ◌-◌, ◌%◌, ◌^◌, Bool, false, ◌&&◌, List, [], ◌++◌, take, drop, length, slice_index, ◌==◌, nat_lt, nat_le, if◌then◌else◌, Option, Some, None}
+use Rattle.std.specs.Int.{w16, w32, to_be_bytes}
+use Rattle.wire_spec.specs.Bytes.{u16_at, u32_at, six_at}
+use Rattle.wire_spec.specs.Crc.{crc32_remainder}
+use Rattle.ts_spec.specs.Form.{UnitForm, Span, more, stuffing, whole, bad}
+
+-- D is set: there is no NPA address (section 4.1)
+abbrev pub lacks_address : List ℕ → Bool
+lacks_address b = nat_le 0x80 (slice_index b 0)
+
+-- Length: the bytes behind Type, the CRC-32 among them (section 4.2)
+abbrev pub length_field : List ℕ → ℕ
+length_field b = u16_at b 0 % 2 ^ 15
+
+-- what stands behind Type at least: the address, where there is one, and the CRC-32
+abbrev pub least_length : List ℕ → ℕ
+least_length b = if lacks_address b then 4 else 10
+
+-- the End Indicator (section 4.3) is stuffing
+abbrev pub is_end_indicator : List ℕ → Bool
+is_end_indicator b = (slice_index b 0 == 0xFF) && (slice_index b 1 == 0xFF)
+
+abbrev pub sndu_span : List ℕ → Span
+sndu_span b =
+    if nat_lt (length b) 2 then more else
+    if is_end_indicator b then stuffing else
+    if nat_lt (length_field b) (least_length b) then bad else
+    whole (4 + length_field b)
+
+-- CRC-32 over all before it (section 4.6)
+abbrev pub has_right_crc : List ℕ → Bool
+has_right_crc b = crc32_remainder 0xFFFF_FFFF (take (length b - 4) b) == u32_at b (length b - 4)
+
+-- SNDUs as units of a transport stream
+abbrev pub sndu_form : UnitForm
+sndu_form = record { start = 2; longest = 32771; span = sndu_span; check = has_right_crc }
+
+-- the bytes are as many as Length says
+abbrev pub is_whole_of : ℕ → Span → Bool
+is_whole_of n (whole m) = m == n
+is_whole_of n more = false
+is_whole_of n stuffing = false
+is_whole_of n bad = false
+
+abbrev pub has_right_length : List ℕ → Bool
+has_right_length b = is_whole_of (length b) (sndu_span b)
+
+-- the bytes are an SNDU
+abbrev pub is_sndu : List ℕ → Bool
+is_sndu b = has_right_length b && has_right_crc b
+
+-- an SNDU: its NPA address, its Type, and what stands behind these and before the CRC-32
+pub record SnduFields : Type 0 where
+  pub npa : Option (List ℕ)
+  pub first_type : ℕ
+  pub bytes : List ℕ
+
+-- where the PDU begins
+abbrev pub pdu_start : List ℕ → ℕ
+pdu_start b = if lacks_address b then 4 else 10
+
+abbrev pub sndu_fields : List ℕ → SnduFields
+sndu_fields b = record {
+  npa = if lacks_address b then None else Some (six_at b 4);
+  first_type = u16_at b 2;
+  bytes = take (length b - 4 - pdu_start b) (drop (pdu_start b) b);
+}
+
+-- the bytes of an address, where there is one
+abbrev pub address_bytes : Option (List ℕ) → List ℕ
+address_bytes None = []
+address_bytes (Some npa) = npa
+
+-- D and Length of an SNDU with this address and a PDU of so many bytes
+abbrev pub head_number : Option (List ℕ) → ℕ → ℕ
+head_number None size = 2 ^ 15 + (size + 4)
+head_number (Some npa) size = length npa + size + 4
+
+-- all before the CRC-32
+abbrev pub sndu_front : Option (List ℕ) → ℕ → List ℕ → List ℕ
+sndu_front npa first_type pdu =
+    to_be_bytes w16 (head_number npa (length pdu)) ++ to_be_bytes w16 first_type ++ address_bytes npa ++ pdu
+
+-- the SNDU with this address, Type and PDU, as it is written
+abbrev pub sndu_bytes : Option (List ℕ) → ℕ → List ℕ → List ℕ
+sndu_bytes npa first_type pdu =
+    sndu_front npa first_type pdu ++ to_be_bytes w32 (crc32_remainder 0xFFFF_FFFF (sndu_front npa first_type pdu))
