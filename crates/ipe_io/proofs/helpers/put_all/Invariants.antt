@@ -1,0 +1,16 @@
+use Rattle.std.proofs.Common.{◌≤◌, ◌-◌, length, take}
+use Rattle.std.specs.Io.KnownBytes.{Appends}
+use Rattle.wire_spec.specs.Content.{Stays}
+use Rattle.ipe_io.proofs.helpers.put_all.Given as goal
+
+abbrev pub invariant-loop-done : goal.invariant-loop-done
+invariant-loop-done g l =
+    record {
+      within : l.done ≤ length l.piece;
+      written : Appends (g.K.Sink.held l.fn.sink) (g.K.Sink.held l.sink) (take l.done l.piece);
+      flushed : Stays (g.K.Sink.flushed l.fn.sink) (g.K.Sink.flushed l.sink);
+      later : g.K.Sink.faults l.fn.sink ≤ g.K.Sink.faults l.sink;
+    }
+
+abbrev pub decreases-loop-done : goal.decreases-loop-done
+decreases-loop-done g l = length l.piece - l.done

@@ -1,0 +1,15 @@
+//! The outside: where bytes and files come from and go to, in memory and for real, each with a count of faults.
+//!
+//! Sending: [Shelf, Source] -> capture -> datagrams -> packets -> [Sink].
+//! Receiving: [Shelf, Source] -> records -> datagrams -> [Outlet] -> [Rack], report -> [Sink].
+//! Begin with `Source` and `fill`, `Sink` and `put_all`, `Rack` and `put_file`.
+#![tactic(auto)]
+
+mod faults;
+mod helpers;
+mod outside;
+
+pub use faults::{AddFault, Failed, LoadFault, RecordFault, Recording};
+pub use helpers::{fill, put_all, put_file};
+pub use outside::{Outlet, Rack, Shelf, Sink, Source};
+pub use std::alloc::AllocError as OutOfMemory;
