@@ -1,0 +1,29 @@
+//! CRC-32 of sections, SNDUs and PDUs (ISO/IEC 13818-1 annex A, RFC 4326 section 4.6).
+//!
+//! Bytes come in, their CRC-32 goes out: most significant bit first, no final inversion.
+
+ghost use Rattle.std.specs.Prelude.{◌≡◌};
+ghost use Rattle.wire_spec.specs.Crc.{crc32_remainder};
+
+use crate::plain;
+
+/// The register before the first byte: each bit is 1 (ISO/IEC 13818-1 annex A).
+const START: u32 = 0xFFFF_FFFF;
+
+/// The register of CRC-32 after `bytes`, where it stood at `register` before them.
+///
+/// A unit may be given in pieces: the result for one is the register for the next.
+pub fn crc32_step(register: u32, bytes: &[u8]) -> u32
+    ensures { result ≡ crc32_remainder register bytes.now }
+{
+    plain::crc32_step(register, bytes)
+}
+
+/// The CRC-32 of `bytes`, as it stands in the four bytes behind them, the most significant first.
+///
+/// The register starts at 0xFFFFFFFF, and its last value is not inverted.
+pub fn crc32(bytes: &[u8]) -> u32
+    ensures { result ≡ crc32_remainder 0xFFFF_FFFF bytes.now }
+{
+    crc32_step(START, bytes)
+}
