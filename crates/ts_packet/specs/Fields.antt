@@ -1,0 +1,26 @@
+-- A packet of the code as fields, and why bytes are no packet.
+use Rattle.std.specs.Prelude.{ℕ, List, if◌then◌else◌, Option, Some, None}
+use Rattle.ts_spec.specs.Packet.{PacketFields, lacks_sync, is_marked, has_bad_adaptation, lacks_payload, is_scrambled}
+use Rattle.ts_packet.specs.declared.packet.Packet.{Packet}
+use Rattle.ts_packet.specs.declared.packet.PacketFault.{PacketFault}
+use Rattle.ts_packet.specs.declared.packet.PacketFault.TheVariants.{NoSync, Marked, Adaptation, NoPayload, Scrambled}
+
+-- the fields of a packet
+abbrev pub fields_in : Packet → PacketFields
+fields_in packet = record {
+  pid = packet.pid;
+  starts = packet.starts;
+  counter = packet.counter;
+  broken = packet.broken;
+  payload = packet.payload.now;
+}
+
+-- the first test that 188 bytes fail
+abbrev pub refusal : List ℕ → Option PacketFault
+refusal b =
+    if lacks_sync b then Some NoSync else
+    if is_marked b then Some Marked else
+    if has_bad_adaptation b then Some Adaptation else
+    if lacks_payload b then Some NoPayload else
+    if is_scrambled b then Some Scrambled else
+    None
