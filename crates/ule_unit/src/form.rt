@@ -1,0 +1,92 @@
+//! The form of SNDUs: what their first bytes tell of their length, and their check.
+//!
+//! The front of some bytes comes in, and how long the SNDU there is goes out.
+
+ghost use Rattle.std.specs.Prelude.{◌≡◌, ◌≤◌, length};
+ghost use Rattle.ts_spec.specs.Sndu.{sndu_span, has_right_crc};
+ghost use Rattle.ule_unit.specs.Views.{span_told, whole_within};
+
+use crc_unit::crc32;
+
+/// Bytes before the NPA address or the PDU: D and Length, then Type (RFC 4326 section 4).
+pub(crate) const HEAD: usize = 4;
+
+/// Bytes of an NPA address (RFC 4326 section 4.5).
+pub(crate) const ADDRESS: usize = 6;
+
+/// Bytes of the CRC-32 at the end (RFC 4326 section 4.6).
+pub(crate) const CRC: usize = 4;
+
+/// D in the first byte: there is no NPA address (RFC 4326 section 4.1).
+pub(crate) const NO_ADDRESS: u8 = 0x80;
+
+/// What stands before the SNDU's length in the number that the first two bytes are: D alone.
+const LENGTH_VALUES: usize = 0x8000;
+
+/// Each of the two bytes of an End Indicator (RFC 4326 section 4.3).
+const END_INDICATOR: u8 = 0xFF;
+
+/// What some bytes tell of the SNDU at their front.
+#[derive(Clone, Copy)]
+pub(crate) enum Span {
+    /// Fewer than 2 bytes.
+    More,
+    /// An End Indicator.
+    Stuffing,
+    /// An SNDU of so many bytes.
+    Whole(usize),
+    /// Length has no room for the address and the CRC-32.
+    Bad,
+}
+
+/// What `prefix` tells of the SNDU at its front (RFC 4326 sections 4.1 to 4.3).
+pub(crate) fn span_of(prefix: &[u8]) -> Span
+    ensures told { span_told result ≡ sndu_span prefix.now }
+{
+    if prefix.len() < 2 {
+        return Span::More;
+    }
+    if prefix[0] == END_INDICATOR && prefix[1] == END_INDICATOR {
+        return Span::Stuffing;
+    }
+    let length = (usize::from(prefix[0]) * 256 + usize::from(prefix[1])) % LENGTH_VALUES;
+    let least = if prefix[0] >= NO_ADDRESS {
+        CRC
+    } else {
+        ADDRESS + CRC
+    };
+    if length < least {
+        Span::Bad
+    } else {
+        Span::Whole(HEAD + length)
+    }
+}
+
+/// Whether the last four bytes are the CRC-32 of all before them (RFC 4326 section 4.6).
+pub(crate) fn check(unit: &[u8]) -> bool
+    requires { CRC ≤ length unit.now }
+    ensures checked { result ≡ has_right_crc unit.now }
+{
+    let end = unit.len() - CRC;
+    let told = u32::from_be_bytes([unit[end], unit[end + 1], unit[end + 2], unit[end + 3]]);
+    crc32(&unit[..end]) == told
+}
+
+/// The length of the SNDU that lies whole at the front of `bytes`, its CRC-32 included and not tested.
+///
+/// None: fewer than 2 bytes, an End Indicator, a Length that has no room for the address and the
+/// CRC-32, or an SNDU that goes on behind the bytes.
+pub fn whole_front(bytes: &[u8]) -> Option<usize>
+    ensures told { result ≡ whole_within (length bytes.now) (sndu_span bytes.now) }
+{
+    match span_of(bytes) {
+        Span::Whole(size) => {
+            if size <= bytes.len() {
+                Some(size)
+            } else {
+                None
+            }
+        }
+        _ => None,
+    }
+}

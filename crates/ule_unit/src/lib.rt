@@ -1,0 +1,12 @@
+//! SNDUs, the units of ULE (RFC 4326 section 4), read and written.
+//!
+//! Sending: datagram -> [ule_unit] -> unit_stream -> ts_packet.
+//! Receiving: ts_packet -> unit_stream -> [ule_unit] -> ule_extension -> datagram.
+//! Begin with `read` and `write`; `whole_front` tells how long the SNDU at the front of some bytes is.
+#![tactic(auto)]
+
+mod form;
+mod sndu;
+
+pub use form::whole_front;
+pub use sndu::{Sndu, UleFault, read};
