@@ -1,29 +1,29 @@
 -- A front is the first bytes that are a datagram: its header stands within it, and tells its length.
-use Rattle.std.proofs.Common.{◌≡◌, ◌≢◌, inl, inr, ⊎_elim, ℕ, ◌+◌, ◌*◌, ◌≤◌, ◌%◌, ◌/◌, true, false, cond, List, length, take, get_or, Some, None, refl, ap, sym, ◌∙◌, subst, arith}
-use Rattle.std.proofs.lemmas.Bool.{cases_Bool, cond-true, cond-false}
+use Rattle.std.proofs.Common.{◌≡◌, ◌≢◌, ◌⊎◌, inl, inr, ⊎_elim, ℕ, ◌+◌, ◌*◌, ◌≤◌, ◌%◌, ◌/◌, Bool, true, false, cond, List, length, take, get_or, Some, None, refl, ap, sym, ◌∙◌, subst, arith}
+use Rattle.std.proofs.lemmas.Bool.{cond-true, cond-false}
 use Rattle.std.proofs.lemmas.List.{get_or-take, length-take-le}
 use Rattle.wire_spec.specs.Bytes.{u16_at}
 use Rattle.wire_spec.specs.Datagram.{version, header_length, total_length, ipv6_length, IsIpv4, IsIpv6, IsFront, has_ipv4_front, has_ipv6_front, front_length}
 
 -- what the tests say
-ipv4_parts : (b : List ℕ) → has_ipv4_front b ≡ true
+pub ipv4_parts : (b : List ℕ) → has_ipv4_front b ≡ true
     → (version b ≡ 4) × (20 ≤ header_length b) × (header_length b ≤ total_length b) × (total_length b ≤ length b)
 ipv4_parts b h = (grind arith, grind arith, grind arith, grind arith)
 
-ipv6_parts : (b : List ℕ) → has_ipv6_front b ≡ true
+pub ipv6_parts : (b : List ℕ) → has_ipv6_front b ≡ true
     → (version b ≡ 6) × (ipv6_length b ≤ length b) × (u16_at b 4 + get_or b 6 0 ≢ 0)
 ipv6_parts b h = (grind arith, grind arith, grind arith)
 
 -- the tests from what they say
-ipv4_test : (b : List ℕ) → version b ≡ 4 → 20 ≤ header_length b → header_length b ≤ total_length b → total_length b ≤ length b
+pub ipv4_test : (b : List ℕ) → version b ≡ 4 → 20 ≤ header_length b → header_length b ≤ total_length b → total_length b ≤ length b
     → has_ipv4_front b ≡ true
 ipv4_test b v h t l = grind arith
 
-ipv6_test : (b : List ℕ) → version b ≡ 6 → ipv6_length b ≤ length b → u16_at b 4 + get_or b 6 0 ≢ 0 → has_ipv6_front b ≡ true
+pub ipv6_test : (b : List ℕ) → version b ≡ 6 → ipv6_length b ≤ length b → u16_at b 4 + get_or b 6 0 ≢ 0 → has_ipv6_front b ≡ true
 ipv6_test b v l j = grind arith
 
 -- one version's test rules out the other's
-ipv6_is_no_ipv4 : (b : List ℕ) → version b ≡ 6 → has_ipv4_front b ≡ false
+pub ipv6_is_no_ipv4 : (b : List ℕ) → version b ≡ 6 → has_ipv4_front b ≡ false
 ipv6_is_no_ipv4 b v = grind arith
 
 -- a front keeps the bytes that its header's fields stand in
@@ -35,6 +35,12 @@ header_length-take n b l = ap (λ x. 4 * (x % 16)) (get_or-take n b 0 0 (omega a
 
 u16_at-take : (n : ℕ) (b : List ℕ) (i : ℕ) → i + 2 ≤ n → u16_at (take n b) i ≡ u16_at b i
 u16_at-take n b i l = rw (get_or-take n b i 0 (omega arith), get_or-take n b (i + 1) 0 (omega arith)) refl
+
+-- the first test that holds gives the value
+either_of : (f x : Bool) (t s n : ℕ) → cond f (Some t) (cond x (Some s) None) ≡ Some n → ((f ≡ true) × (t ≡ n)) ⊎ ((x ≡ true) × (s ≡ n))
+either_of true x t s n e = inl (refl, cc)
+either_of false true t s n e = inr (refl, cc)
+either_of false false t s n e = cc
 
 -- the tested length is that of a datagram
 ipv4_front_is : (b : List ℕ) → has_ipv4_front b ≡ true → IsFront b (total_length b)
@@ -68,22 +74,18 @@ ipv6_front_is b h =
       });
     }
 
+-- which version's header tells the length
+pub front_cases : (b : List ℕ) (n : ℕ) → front_length b ≡ Some n
+    → ((has_ipv4_front b ≡ true) × (total_length b ≡ n)) ⊎ ((has_ipv6_front b ≡ true) × (ipv6_length b ≡ n))
+front_cases b n e = either_of (has_ipv4_front b) (has_ipv6_front b) (total_length b) (ipv6_length b) n e
+
 -- the length that a header tells is the one for which the first bytes are a datagram
 pub IsFront-front_length : (b : List ℕ) (n : ℕ) → front_length b ≡ Some n → IsFront b n
 IsFront-front_length b n e =
     ⊎_elim
-    (λ (yes : has_ipv4_front b ≡ true).
-    let same : total_length b ≡ n = (let told = sym (cond-true (has_ipv4_front b) (Some (total_length b)) (cond (has_ipv6_front b) (Some (ipv6_length b)) None) yes) ∙ e in cc) in
-    subst (λ (m : ℕ). IsFront b m) same (ipv4_front_is b yes))
-    (λ (no : has_ipv4_front b ≡ false).
-    let rest : cond (has_ipv6_front b) (Some (ipv6_length b)) None ≡ Some n = sym (cond-false (has_ipv4_front b) (Some (total_length b)) (cond (has_ipv6_front b) (Some (ipv6_length b)) None) no) ∙ e in
-    ⊎_elim
-    (λ (yes : has_ipv6_front b ≡ true).
-    let same : ipv6_length b ≡ n = (let told = sym (cond-true (has_ipv6_front b) (Some (ipv6_length b)) None yes) ∙ rest in cc) in
-    subst (λ (m : ℕ). IsFront b m) same (ipv6_front_is b yes))
-    (λ (none : has_ipv6_front b ≡ false). let told = sym (cond-false (has_ipv6_front b) (Some (ipv6_length b)) None none) ∙ rest in cc)
-    (cases_Bool (has_ipv6_front b)))
-    (cases_Bool (has_ipv4_front b))
+    (λ (four : (has_ipv4_front b ≡ true) × (total_length b ≡ n)). subst (λ (m : ℕ). IsFront b m) four.1 (ipv4_front_is b four.0))
+    (λ (six : (has_ipv6_front b ≡ true) × (ipv6_length b ≡ n)). subst (λ (m : ℕ). IsFront b m) six.1 (ipv6_front_is b six.0))
+    (front_cases b n e)
 
 front_of_ipv4 : (b : List ℕ) (n : ℕ) → n ≤ length b → IsIpv4 (take n b) → front_length b ≡ Some n
 front_of_ipv4 b n l d =

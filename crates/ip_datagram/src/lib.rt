@@ -9,9 +9,11 @@ mod header;
 mod hint;
 mod laws;
 mod list;
+#[cfg(test)]
+mod tests;
 
 pub use address::{IpAddress, destination};
 pub use header::{IpFault, front};
 pub use hint::{Hint, length_hint};
-pub use laws::a_front_is_one_datagram;
+pub use laws::{a_front_is_one_datagram, hints_agree_with_fronts};
 pub use list::DatagramList;
