@@ -2,7 +2,7 @@
 //!
 //! The front of some bytes comes in, and how long the SNDU there is goes out.
 
-ghost use Rattle.std.specs.Prelude.{◌≡◌, ◌≤◌, length};
+ghost use Rattle.std.specs.Prelude.{◌≡◌, length};
 ghost use Rattle.ts_spec.specs.Sndu.{sndu_span, has_right_crc};
 ghost use Rattle.ule_unit.specs.Views.{span_told, whole_within};
 
@@ -63,10 +63,13 @@ pub(crate) fn span_of(prefix: &[u8]) -> Span
 }
 
 /// Whether the last four bytes are the CRC-32 of all before them (RFC 4326 section 4.6).
+#[tactic(auto, using(crate::proofs::CheckSum::has_right_crc_short))]
 pub(crate) fn check(unit: &[u8]) -> bool
-    requires { CRC ≤ length unit.now }
     ensures checked { result ≡ has_right_crc unit.now }
 {
+    if unit.len() < CRC {
+        return false;
+    }
     let end = unit.len() - CRC;
     let told = u32::from_be_bytes([unit[end], unit[end + 1], unit[end + 2], unit[end + 3]]);
     crc32(&unit[..end]) == told

@@ -6,7 +6,9 @@
 #![tactic(auto)]
 
 mod form;
+mod laws;
 mod sndu;
 
 pub use form::whole_front;
+pub use laws::sndus_are_lawful;
 pub use sndu::{Sndu, UleFault, read};

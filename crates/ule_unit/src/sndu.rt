@@ -1,13 +1,15 @@
 //! SNDUs (RFC 4326 section 4): the bytes of one, and the fields that they carry.
 //!
-//! One whole unit comes in, and its fields go out, or why it is no SNDU.
+//! Reading: one whole unit comes in, and its fields go out, or why it is no SNDU.
+//! Writing: an address, a Type and a PDU come in, and the unit goes into the caller's bytes.
 
-ghost use Rattle.std.specs.Prelude.{◌≡◌, ◌≤◌, length, IfOk, is_ok};
+ghost use Rattle.std.specs.Prelude.{◌≡◌, ◌≤◌, ◌+◌, ◌++◌, length, take, drop, IfOk, is_ok};
 ghost use Rattle.std.specs.Result.{result_err};
-ghost use Rattle.ts_spec.specs.Sndu.{is_sndu, sndu_fields, has_right_length};
+ghost use Rattle.ts_spec.specs.Sndu.{is_sndu, sndu_fields, has_right_length, sndu_bytes, sndu_front, address_bytes, head_number};
 ghost use Rattle.ule_unit.specs.Views.{fields_in, refusal};
 
 use crate::form::{ADDRESS, CRC, HEAD, NO_ADDRESS, Span, check, span_of};
+use crc_unit::crc32;
 
 /// An SNDU: its NPA address, its Type, and what stands behind these and before the CRC-32.
 #[derive(Clone, Copy, Debug, PartialEq, Eq)]
@@ -70,4 +72,72 @@ pub fn read(unit: &[u8]) -> Result<Sndu<'_>, UleFault>
         first_type,
         bytes: &unit[HEAD + ADDRESS..end],
     })
+}
+
+/// Writes the SNDU with this address, Type and datagram to the front of `into`; answers its length.
+///
+/// A datagram has at most 32,757 bytes, since Length counts an address and the CRC-32 beside it
+/// (RFC 4326 section 4.2). No extension header is written. What stands behind in `into` stays.
+pub fn write(npa: Option<[u8; 6]>, ether_type: u16, datagram: &[u8], into: &mut [u8]) -> usize
+    requires size { length datagram.now ≤ 32757 }
+    requires room { length datagram.now + 14 ≤ length into.old }
+    ensures size { result ≡ length (sndu_bytes npa ether_type datagram.now) }
+    ensures written { into.new ≡ sndu_bytes npa ether_type datagram.now ++ drop result into.old }
+{
+    let end = write_front(npa, ether_type, datagram, into);
+    let sum = crc32(&into[..end]);
+    put(into, end, &sum.to_be_bytes());
+    end + CRC
+}
+
+/// All before the CRC-32; answers where it ends.
+fn write_front(npa: Option<[u8; 6]>, ether_type: u16, datagram: &[u8], into: &mut [u8]) -> usize
+    requires size { length datagram.now ≤ 32757 }
+    requires room { length datagram.now + 14 ≤ length into.old }
+    ensures size { result ≡ length (sndu_front npa ether_type datagram.now) }
+    ensures most { result ≤ length datagram.now + 10 }
+    ensures written { into.new ≡ sndu_front npa ether_type datagram.now ++ drop result into.old }
+{
+    let head = first_number(&npa, datagram.len() as u16);
+    put(into, 0, &head.to_be_bytes());
+    put(into, 2, &ether_type.to_be_bytes());
+    let address = bytes_of(&npa);
+    put(into, HEAD, address);
+    let start = HEAD + address.len();
+    put(into, start, datagram);
+    start + datagram.len()
+}
+
+/// D in the number that the first two bytes are: there is no NPA address (RFC 4326 section 4.1).
+const D: u16 = 0x8000;
+
+/// D and Length, as the number that the first two bytes are.
+fn first_number(npa: &Option<[u8; 6]>, size: u16) -> u16
+    requires { size ≤ 32757 }
+    ensures head { result ≡ head_number npa.now size }
+{
+    let length = bytes_of(npa).len() as u16 + size + CRC as u16;
+    match npa {
+        None => D + length,
+        Some(_) => length,
+    }
+}
+
+/// The bytes of an address, where there is one.
+fn bytes_of(npa: &Option<[u8; 6]>) -> &[u8]
+    ensures address { result.now ≡ address_bytes npa.now }
+    ensures most { length result.now ≤ 6 }
+{
+    match npa {
+        None => &[],
+        Some(npa) => npa,
+    }
+}
+
+/// Puts `piece` into `into`, from byte `at` on.
+fn put(into: &mut [u8], at: usize, piece: &[u8])
+    requires { at + length piece.now ≤ length into.old }
+    ensures put { into.new ≡ take at into.old ++ (piece.now ++ drop (at + length piece.now) into.old) }
+{
+    into[at..at + piece.len()].copy_from_slice(piece);
 }
