@@ -4,7 +4,7 @@ ghost use Rattle.std.specs.Io.{ReadsAtMost};
 ghost use Rattle.std.specs.Io.KnownBytes.{ReadConsumes, WriteAppends, Keeps};
 ghost use Rattle.wire_spec.specs.Causes.{HasCause};
 ghost use Rattle.wire_spec.specs.Content.{File, Stays, AddsFile, ChangesFile, empty_file, grown, flushed_file};
-ghost use Rattle.ipe_io.specs.Calls.{HasAddCause, HasLoadCause, IsFlushed, taken_after, ended_after, longest_file};
+ghost use Rattle.ipe_io.specs.Counts.{HasAddCause, HasLoadCause, IsFlushed, taken_after, ended_after, longest_file};
 
 use crate::{AddFault, Failed, LoadFault};
 use std::alloc::Global;

@@ -1,4 +1,4 @@
--- What one call of an object of the outside does to its counters, by its answer.
+-- What a call of an object of the outside does to its counts, by its answer.
 use Rattle.std.specs.Prelude.{◌≡◌, ℕ, ◌≤◌, Bool, List, length, Option, Some, None, Result, Ok, Err, IsErrOf, ◌==◌, if◌then◌else◌, ⊤}
 use Rattle.wire_spec.specs.Causes.{raised, Rose}
 use Rattle.ipe_io.specs.declared.faults.LoadFault.{LoadFault}
