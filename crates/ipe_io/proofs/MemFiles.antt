@@ -1,0 +1,34 @@
+-- One file of a rack in memory that changes.
+use Rattle.std.proofs.Common.{◌≡◌, ℕ, ◌<◌, ◌≤◌, List, length, take, get_or, set, map, ap, sym, ◌∙◌, arith}
+use Rattle.std.proofs.lemmas.List.{map-set, get_or-map, length-map, length-take, get_or-take}
+use Rattle.std.proofs.Math.Seq.{take-set-lt}
+use Rattle.wire_spec.specs.Content.{File, no_file}
+use Rattle.ipe_io.specs.Memory.{Stored, files_of}
+
+-- a place of a file that is seen is one of a stored file
+pub seen_is_stored : (files : List Stored) (seen : List File) (used at : ℕ) → files_of (take used files) ≡ seen → at < length seen → at < length files
+seen_is_stored files seen used at is lt = omega (arith, ap length is, length-map (take used files) (λ (s : Stored). s.file), length-take used files)
+
+-- the file that is seen at a place is the stored one
+pub file_there : (files : List Stored) (seen : List File) (used at : ℕ) (there : Stored) → files_of (take used files) ≡ seen → at < length seen
+    → there ≡ get_or files at there → get_or seen at no_file ≡ there.file
+file_there files seen used at there is lt read =
+    let front : List Stored = take used files in
+    let within : at < length (take used files) = omega (arith, ap length is, length-map front (λ (s : Stored). s.file)) in
+    let below : at < used = omega (arith, within, length-take used files) in
+    ap (λ s. get_or s at no_file) (sym is)
+    ∙ get_or-map (λ (s : Stored). s.file) front at there no_file within
+    ∙ ap (λ (s : Stored). s.file) (get_or-take used files at there below ∙ sym read)
+
+-- where the stored file changes, so does the one that is seen, and no other
+pub one_changed : (files : List Stored) (seen : List File) (used at : ℕ) (change : File → File) (before after : Stored)
+    → files_of (take used files) ≡ seen → at < length seen → before ≡ get_or files at before → after.file ≡ change before.file
+    → files_of (take used (set files at after)) ≡ set seen at (change (get_or seen at no_file))
+one_changed files seen used at change before after is lt read changed =
+    let front : List Stored = take used files in
+    let within : at < length (take used files) = omega (arith, ap length is, length-map front (λ (s : Stored). s.file)) in
+    let below : at < used = omega (arith, within, length-take used files) in
+    ap files_of (take-set-lt used files at after below)
+    ∙ map-set (λ (s : Stored). s.file) front at after
+    ∙ ap (λ s. set s at after.file) is
+    ∙ ap (set seen at) (changed ∙ ap change (sym (file_there files seen used at before is lt read)))
