@@ -1,3 +1,4 @@
 pub mod Told
 pub mod Buffers
 pub mod MemFiles
+pub mod MemShelves

@@ -10,13 +10,16 @@ mod faults;
 mod helpers;
 mod mem_file;
 mod mem_rack;
+mod mem_shelf;
 mod mem_sink;
 mod mem_source;
 mod outside;
+mod shelved_file;
 
 pub use faults::{AddFault, Failed, LoadFault, RecordFault, Recording};
 pub use helpers::{fill, put_all, put_file};
 pub use mem_rack::MemRack;
+pub use mem_shelf::MemShelf;
 pub use mem_sink::MemSink;
 pub use mem_source::MemSource;
 pub use outside::{Outlet, Rack, Shelf, Sink, Source};
