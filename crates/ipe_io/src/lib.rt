@@ -6,6 +6,8 @@
 #![tactic(auto)]
 
 mod failing_calls;
+mod file_rack;
+mod file_shelf;
 mod faults;
 mod helpers;
 mod mem_file;
@@ -15,12 +17,18 @@ mod mem_sink;
 mod mem_source;
 mod outside;
 mod shelved_file;
+mod std_sink;
+mod std_source;
 
 pub use faults::{AddFault, Failed, LoadFault, RecordFault, Recording};
+pub use file_rack::FileRack;
+pub use file_shelf::FileShelf;
 pub use helpers::{fill, put_all, put_file};
 pub use mem_rack::MemRack;
 pub use mem_shelf::MemShelf;
 pub use mem_sink::MemSink;
 pub use mem_source::MemSource;
 pub use outside::{Outlet, Rack, Shelf, Sink, Source};
+pub use std_sink::StdSink;
+pub use std_source::StdSource;
 pub use std::alloc::AllocError as OutOfMemory;

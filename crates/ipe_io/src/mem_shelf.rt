@@ -11,7 +11,7 @@ use std::alloc::{AllocError as OutOfMemory, Global};
 use std::marker::Model;
 
 // The most bytes that a loaded file has.
-const LONGEST_FILE: usize = 1_048_576;
+pub(crate) const LONGEST_FILE: usize = 1_048_576;
 
 /// One file in memory, or two. The loads whose numbers, from 0, are listed fail, and so does each of another name.
 /// Faults are counted apart for each file's name and for all other names together.

@@ -1,0 +1,109 @@
+//! A rack over the files of the current folder.
+ghost use Rattle.std.specs.Prelude.{◌≡◌, ◌<◌, ℕ, vec_len};
+ghost use Rattle.wire_spec.specs.Causes.{HasCause};
+
+use crate::{AddFault, Failed, Rack};
+use std::alloc::Global;
+use std::fs;
+use std::io::{BufWriter, ErrorKind, Write};
+use std::marker::Model;
+use std::rt::Files;
+
+// The bytes of a file that are written to the system at once.
+const BUFFER: usize = 65_536;
+
+/// Files of the current folder, each through a buffer of 64 KiB. It tells no bytes. Each refusal of the system is a
+/// fault, but want of memory in opening a file, and so is each write that takes nothing of a piece that is not empty.
+#[derive(Drop)]
+pub struct FileRack<R: Files + Drop>
+where
+    R::File: Drop,
+{
+    system: R,
+    files: Vec<BufWriter<R::File>>,
+    faults: u64,
+}
+
+impl<R: Files + Drop> FileRack<R>
+where
+    R::File: Drop,
+{
+    /// A rack without files.
+    pub fn new(alloc: Global, system: R) -> FileRack<R> {
+        FileRack {
+            system,
+            files: Vec::new(alloc),
+            faults: 0,
+        }
+    }
+
+    /// Writes out what all files hold back, also behind one that fails.
+    pub fn flush_all(&mut self) -> Result<(), Failed> {
+        let mut result = Ok(());
+        for file in self.files.iter_mut() {
+            if file.flush().is_err() {
+                self.faults = self.faults.saturating_add(1);
+                result = Err(Failed);
+            }
+        }
+        result
+    }
+}
+
+impl<R: Files + Drop> Rack for FileRack<R>
+where
+    R::File: Drop,
+{
+    ghost use Rattle.std.specs.Prelude.{None, vec_len};
+
+    ghost count = { λ s. vec_len s.files };
+
+    ghost files = { λ s. None };
+
+    ghost faults = { λ s. s.faults };
+
+    /// Creates the file, or empties it.
+    fn add(&mut self, alloc: Global, name: &str) -> Result<u32, AddFault> {
+        let Ok(place) = u32::try_from(self.files.len()) else {
+            self.faults = self.faults.saturating_add(1);
+            return Err(AddFault::Failed);
+        };
+        let file = match fs::create(&self.system, name) {
+            Ok(file) => file,
+            Err(e) if e.kind() == ErrorKind::OutOfMemory => return Err(AddFault::OutOfMemory),
+            Err(_) => {
+                self.faults = self.faults.saturating_add(1);
+                return Err(AddFault::Failed);
+            }
+        };
+        let Ok(file) = BufWriter::with_capacity(alloc, BUFFER, file) else {
+            return Err(AddFault::OutOfMemory);
+        };
+        match self.files.push(file) {
+            Ok(()) => Ok(place),
+            Err(_) => Err(AddFault::OutOfMemory),
+        }
+    }
+
+    fn write(&mut self, at: u32, piece: &[u8]) -> Result<usize, Failed> {
+        match self.files[at as usize].write(piece) {
+            Ok(count) if count > 0 || piece.is_empty() => Ok(count),
+            _ => {
+                self.faults = self.faults.saturating_add(1);
+                Err(Failed)
+            }
+        }
+    }
+
+    fn flush(&mut self, at: u32) -> Result<(), Failed> {
+        match self.files[at as usize].flush() {
+            Ok(()) => Ok(()),
+            Err(_) => {
+                self.faults = self.faults.saturating_add(1);
+                Err(Failed)
+            }
+        }
+    }
+
+    ghost as_many = { λ s. tt };
+}

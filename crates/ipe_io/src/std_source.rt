@@ -1,0 +1,65 @@
+//! A source over a reader of the system, as standard input.
+ghost use Rattle.std.specs.Prelude.{IfOk};
+
+use crate::mem_source::has_ended;
+use crate::{Failed, Source};
+use std::alloc::AllocError as OutOfMemory;
+use std::alloc::Global;
+use std::io::{BufReader, Read};
+
+// The bytes that are read from the system at once.
+const BUFFER: usize = 65_536;
+
+/// A reader of the system, through a buffer of 64 KiB. It tells no bytes. Each refusal of the system is a fault.
+#[derive(Drop)]
+pub struct StdSource<R: Read + Drop> {
+    inner: BufReader<R>,
+    taken: u64,
+    ended: bool,
+    faults: u64,
+}
+
+impl<R: Read + Drop> StdSource<R> {
+    /// A source that nothing was taken from.
+    pub fn new(alloc: Global, inner: R) -> Result<StdSource<R>, OutOfMemory> {
+        match BufReader::with_capacity(alloc, BUFFER, inner) {
+            Ok(inner) => Ok(StdSource {
+                inner,
+                taken: 0,
+                ended: false,
+                faults: 0,
+            }),
+            Err(_) => Err(OutOfMemory),
+        }
+    }
+}
+
+impl<R: Read + Drop> Source for StdSource<R> {
+    ghost use Rattle.std.specs.Prelude.{◌^◌, ◌-◌, ◌≤◌, min, None};
+    ghost use Rattle.std.proofs.Common.{arith};
+
+    ghost left = { λ s. None };
+
+    // The counter is one of 64 bits.
+    ghost taken = { λ s. min s.taken (2 ^ 64 - 1) };
+
+    ghost ended = { λ s. s.ended };
+
+    ghost faults = { λ s. s.faults };
+
+    fn read(&mut self, into: &mut [u8]) -> Result<usize, Failed> {
+        match self.inner.read(into) {
+            Ok(count) => {
+                self.taken = self.taken.saturating_add(count as u64);
+                self.ended = has_ended(self.ended, into.len(), count);
+                Ok(count)
+            }
+            Err(_) => {
+                self.faults = self.faults.saturating_add(1);
+                Err(Failed)
+            }
+        }
+    }
+
+    ghost taken_fits = { λ s. omega arith };
+}
