@@ -2,6 +2,7 @@
 ghost use Rattle.std.specs.Prelude.{◌≡◌, ◌<◌, ℕ, vec_len};
 ghost use Rattle.wire_spec.specs.Causes.{HasCause};
 
+use crate::outside::BUFFER;
 use crate::{AddFault, Failed, Rack};
 use std::alloc::Global;
 use std::fs;
@@ -9,27 +10,29 @@ use std::io::{BufWriter, ErrorKind, Write};
 use std::marker::Model;
 use std::rt::Files;
 
-// The bytes of a file that are written to the system at once.
-const BUFFER: usize = 65_536;
-
 /// Files of the current folder, each through a buffer of 64 KiB. It tells no bytes. Each refusal of the system is a
 /// fault, but want of memory in opening a file, and so is each write that takes nothing of a piece that is not empty.
 #[derive(Drop)]
-pub struct FileRack<R: Files + Drop>
-where
-    R::File: Drop,
-{
+pub struct FileRack<R: Files + Drop> {
     system: R,
     files: Vec<BufWriter<R::File>>,
     faults: u64,
 }
 
-impl<R: Files + Drop> FileRack<R>
-where
-    R::File: Drop,
-{
+impl<R: Files + Drop> Model for FileRack<R> {
+    ghost use Rattle.std.specs.Prelude.{vec_len};
+    ghost use Rattle.ipe_io.specs.Real.{FilesState};
+
+    ghost Value = { FilesState };
+
+    ghost view = { λ s. record { count = vec_len s.files; faults = s.faults } };
+}
+
+impl<R: Files + Drop> FileRack<R> {
     /// A rack without files.
-    pub fn new(alloc: Global, system: R) -> FileRack<R> {
+    pub fn new(alloc: Global, system: R) -> FileRack<R>
+        ensures { (result.count ≡ 0) × (result.faults ≡ 0) }
+    {
         FileRack {
             system,
             files: Vec::new(alloc),
@@ -38,25 +41,31 @@ where
     }
 
     /// Writes out what all files hold back, also behind one that fails.
-    pub fn flush_all(&mut self) -> Result<(), Failed> {
-        let mut result = Ok(());
-        for file in self.files.iter_mut() {
-            if file.flush().is_err() {
-                self.faults = self.faults.saturating_add(1);
-                result = Err(Failed);
-            }
-        }
-        result
+    pub fn flush_all(&mut self) -> Result<(), Failed>
+        ensures count { self.new.count ≡ self.old.count }
+        ensures cause { HasCause self.old.faults self.new.faults result }
+    {
+        let failed = flush_each(&mut self.files);
+        self.faults = self.faults.saturating_add(failed);
+        if failed == 0 { Ok(()) } else { Err(Failed) }
     }
 }
 
-impl<R: Files + Drop> Rack for FileRack<R>
-where
-    R::File: Drop,
-{
-    ghost use Rattle.std.specs.Prelude.{None, vec_len};
+// Flushes each file, and answers how many flushes failed.
+fn flush_each<W: Write + Drop>(files: &mut [BufWriter<W>]) -> u64 {
+    let mut failed: u64 = 0;
+    for file in files {
+        if file.flush().is_err() {
+            failed = failed.saturating_add(1);
+        }
+    }
+    failed
+}
 
-    ghost count = { λ s. vec_len s.files };
+impl<R: Files + Drop> Rack for FileRack<R> {
+    ghost use Rattle.std.specs.Prelude.{None};
+
+    ghost count = { λ s. s.count };
 
     ghost files = { λ s. None };
 

@@ -2,12 +2,12 @@
 ghost use Rattle.std.specs.Prelude.{◌≡◌, ◌≤◌, ℕ, List, length, vec_len, IfOk};
 ghost use Rattle.ipe_io.specs.Counts.{longest_file};
 
-use crate::mem_shelf::LONGEST_FILE;
+use crate::outside::LONGEST_FILE;
 use crate::{Failed, LoadFault, Shelf, StdSource, fill};
-use std::alloc::AllocError as OutOfMemory;
-use std::alloc::Global;
+use std::alloc::{AllocError as OutOfMemory, Global};
 use std::fs;
 use std::io::ErrorKind;
+use std::marker::Model;
 use std::rt::Files;
 
 /// The files of the current folder. It tells no bytes. Each refusal of the system is a fault, but want of memory in
@@ -18,22 +18,30 @@ pub struct FileShelf<R: Files + Drop> {
     faults: u64,
 }
 
+// It is seen as its count of faults.
+impl<R: Files + Drop> Model for FileShelf<R> {
+    ghost use Rattle.std.specs.Prelude.{ℕ};
+
+    ghost Value = { ℕ };
+
+    ghost view = { λ s. s.faults };
+}
+
 impl<R: Files + Drop> FileShelf<R> {
     /// A shelf over the files of this system.
-    pub fn new(system: R) -> FileShelf<R> {
+    pub fn new(system: R) -> FileShelf<R>
+        ensures { result ≡ 0 }
+    {
         FileShelf { system, faults: 0 }
     }
 }
 
-impl<R: Files + Drop> Shelf for FileShelf<R>
-where
-    R::File: Drop,
-{
+impl<R: Files + Drop> Shelf for FileShelf<R> {
     ghost use Rattle.std.specs.Prelude.{None};
 
     ghost file = { λ s name. None };
 
-    ghost faults = { λ s name. s.faults };
+    ghost faults = { λ faults name. faults };
 
     fn load(&mut self, alloc: Global, name: &str) -> Result<Vec<u8>, LoadFault> {
         match load_from(&self.system, alloc, name) {
@@ -48,8 +56,6 @@ where
 
 // The bytes of a file.
 fn load_from<R: Files>(system: &R, alloc: Global, name: &str) -> Result<Vec<u8>, LoadFault>
-where
-    R::File: Drop,
     ensures short { IfOk result (λ bytes. length bytes.items ≤ longest_file) }
 {
     let file = match fs::open(system, name) {

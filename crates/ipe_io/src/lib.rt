@@ -6,9 +6,9 @@
 #![tactic(auto)]
 
 mod failing_calls;
+mod faults;
 mod file_rack;
 mod file_shelf;
-mod faults;
 mod helpers;
 mod mem_file;
 mod mem_rack;
@@ -29,6 +29,6 @@ pub use mem_shelf::MemShelf;
 pub use mem_sink::MemSink;
 pub use mem_source::MemSource;
 pub use outside::{Outlet, Rack, Shelf, Sink, Source};
+pub use std::alloc::AllocError as OutOfMemory;
 pub use std_sink::StdSink;
 pub use std_source::StdSource;
-pub use std::alloc::AllocError as OutOfMemory;

@@ -5,13 +5,11 @@ ghost use Rattle.ipe_io.specs.Counts.{HasLoadCause, longest_file};
 ghost use Rattle.ipe_io.specs.Memory.{IsListed, first_call, next_call, shelved, failed_for, called, file_of, bytes_of, faults_of};
 
 use crate::failing_calls::FailingCalls;
+use crate::outside::LONGEST_FILE;
 use crate::shelved_file::ShelvedFile;
 use crate::{LoadFault, Shelf};
 use std::alloc::{AllocError as OutOfMemory, Global};
 use std::marker::Model;
-
-// The most bytes that a loaded file has.
-pub(crate) const LONGEST_FILE: usize = 1_048_576;
 
 /// One file in memory, or two. The loads whose numbers, from 0, are listed fail, and so does each of another name.
 /// Faults are counted apart for each file's name and for all other names together.

@@ -1,5 +1,5 @@
 //! A source over bytes in memory.
-ghost use Rattle.std.specs.Prelude.{◌≡◌, ◌↔◌, ℕ, ◌+◌, ◌^◌, ◌<◌, ◌≤◌, ◌-◌, false, List, length, min, Some, IfOk, IsErr, is_ok, if◌then◌else◌, ◌==◌};
+ghost use Rattle.std.specs.Prelude.{◌≡◌, ◌↔◌, ℕ, ◌+◌, ◌^◌, ◌<◌, ◌≤◌, ◌-◌, false, List, length, min, Some, IfOk, IsErr, is_ok, if◌then◌else◌};
 ghost use Rattle.std.specs.Io.{ReadsAtMost};
 ghost use Rattle.std.specs.Io.KnownBytes.{ReadConsumes};
 ghost use Rattle.wire_spec.specs.Causes.{HasCause};
@@ -7,6 +7,7 @@ ghost use Rattle.ipe_io.specs.Counts.{taken_after, ended_after};
 ghost use Rattle.ipe_io.specs.Memory.{IsListed, first_call, next_call};
 
 use crate::failing_calls::FailingCalls;
+use crate::outside::has_ended;
 use crate::{Failed, Source};
 use std::alloc::{AllocError as OutOfMemory, Global};
 use std::marker::Model;
@@ -61,13 +62,6 @@ impl MemSource {
     {
         self.faults
     }
-}
-
-// Whether the input has ended, after a read that gave this many bytes.
-pub(crate) fn has_ended(before: bool, room: usize, count: usize) -> bool
-    ensures { result ≡ (if room == 0 then before else count == 0) }
-{
-    if room == 0 { before } else { count == 0 }
 }
 
 impl Source for MemSource {

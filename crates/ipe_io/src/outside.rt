@@ -1,5 +1,5 @@
 //! The traits: what an object may tell of its content, how often it has failed, and what each call does to both.
-ghost use Rattle.std.specs.Prelude.{◌≡◌, ℕ, ◌+◌, ◌-◌, ◌*◌, ◌^◌, ◌<◌, ◌≤◌, Bool, List, [], ◌∷◌, ◌++◌, length, take, Option, None, Some, is_ok, IfOk, OnOk, OnErr, IfSome, IsErrOf, if◌then◌else◌};
+ghost use Rattle.std.specs.Prelude.{◌≡◌, ℕ, ◌+◌, ◌-◌, ◌*◌, ◌^◌, ◌<◌, ◌≤◌, Bool, List, [], ◌∷◌, ◌++◌, length, take, Option, None, Some, is_ok, IfOk, OnOk, OnErr, IfSome, IsErrOf, if◌then◌else◌, ◌==◌};
 ghost use Rattle.std.specs.Io.{ReadsAtMost};
 ghost use Rattle.std.specs.Io.KnownBytes.{ReadConsumes, WriteAppends, Keeps};
 ghost use Rattle.wire_spec.specs.Causes.{HasCause};
@@ -146,4 +146,17 @@ pub trait Outlet {
         ensures refused { OnErr result (Refused self.new service datagram.now) }
         ensures unchanged { OnErr result ((pairs : List (ℕ × List ℕ)) → StandsFor self.old pairs → StandsFor self.new pairs) }
         ensures cause { HasCause (faults self.old) (faults self.new) result };
+}
+
+// The most bytes that a loaded file has.
+pub(crate) const LONGEST_FILE: usize = 1_048_576;
+
+// The bytes that a real object reads from the system, or writes to it, at once.
+pub(crate) const BUFFER: usize = 65_536;
+
+// Whether the input has ended, after a read that gave this many bytes.
+pub(crate) fn has_ended(before: bool, room: usize, count: usize) -> bool
+    ensures { result ≡ (if room == 0 then before else count == 0) }
+{
+    if room == 0 { before } else { count == 0 }
 }

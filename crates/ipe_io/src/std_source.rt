@@ -1,14 +1,11 @@
 //! A source over a reader of the system, as standard input.
-ghost use Rattle.std.specs.Prelude.{IfOk};
+ghost use Rattle.std.specs.Prelude.{◌≡◌, false, IfOk};
 
-use crate::mem_source::has_ended;
+use crate::outside::{BUFFER, has_ended};
 use crate::{Failed, Source};
-use std::alloc::AllocError as OutOfMemory;
-use std::alloc::Global;
+use std::alloc::{AllocError as OutOfMemory, Global};
 use std::io::{BufReader, Read};
-
-// The bytes that are read from the system at once.
-const BUFFER: usize = 65_536;
+use std::marker::Model;
 
 /// A reader of the system, through a buffer of 64 KiB. It tells no bytes. Each refusal of the system is a fault.
 #[derive(Drop)]
@@ -19,9 +16,19 @@ pub struct StdSource<R: Read + Drop> {
     faults: u64,
 }
 
+impl<R: Read + Drop> Model for StdSource<R> {
+    ghost use Rattle.ipe_io.specs.Real.{InputState};
+
+    ghost Value = { InputState };
+
+    ghost view = { λ s. record { taken = s.taken; ended = s.ended; faults = s.faults } };
+}
+
 impl<R: Read + Drop> StdSource<R> {
     /// A source that nothing was taken from.
-    pub fn new(alloc: Global, inner: R) -> Result<StdSource<R>, OutOfMemory> {
+    pub fn new(alloc: Global, inner: R) -> Result<StdSource<R>, OutOfMemory>
+        ensures { IfOk result (λ s. (s.taken ≡ 0) × (s.ended ≡ false) × (s.faults ≡ 0)) }
+    {
         match BufReader::with_capacity(alloc, BUFFER, inner) {
             Ok(inner) => Ok(StdSource {
                 inner,
