@@ -40,7 +40,7 @@ pub step_low : (k poly r : ℕ) → r < 2 ^ k → register_step k poly r ≡ r *
 step_low k poly r h = ap (λ t. if t then r * 2 else bit_xor (r * 2 % 2 ^ suc k) poly) (lt-ltb r (2 ^ k) h)
 
 -- a shift that pushes out a 1 drops it and adds the polynomial
-step_high : (k poly r : ℕ) → 2 ^ k ≤ r → register_step k poly r ≡ bit_xor (r * 2 % 2 ^ suc k) poly
+pub step_high : (k poly r : ℕ) → 2 ^ k ≤ r → register_step k poly r ≡ bit_xor (r * 2 % 2 ^ suc k) poly
 step_high k poly r h = ap (λ t. if t then r * 2 else bit_xor (r * 2 % 2 ^ suc k) poly) (le-ltb r (2 ^ k) h)
 
 -- a shift of the number is a step of the list
@@ -169,10 +169,20 @@ crc8_byte_is r byte h hb =
       steps_fit 7 0xD5 8 (bit_xor r byte) (xor_lt 8 r byte h hb) (lit< tt),
     )
 
+-- the register of CRC_32 over bytes in two pieces
+pub crc32_run-append : (r : ℕ) (front back : List ℕ) → crc32_run r (front ++ back) ≡ crc32_run (crc32_run r front) back
+crc32_run-append r [] back = refl
+crc32_run-append r (x ∷ front) back = crc32_run-append (crc32_byte r x) front back
+
+-- the register of CRC_32 over bytes is a run over their bits, and keeps 32 bits
+pub crc32_run_is : (bytes : List ℕ) (r : ℕ) → r < 2 ^ 32 → AreBytes bytes
+    → (run (bits 32 0x04C1_1DB7) (bits 32 r) (bits_of bytes) ≡ bits 32 (crc32_run r bytes)) × (crc32_run r bytes < 2 ^ 32)
+crc32_run_is bytes r h all = bytes_run 31 0x04C1_1DB7 crc32_byte crc32_run (λ r. refl) (λ r b bs. refl) crc32_byte_is bytes r h all
+
 -- the register of CRC_32 ends at the remainder
 pub crc32_law : (start : ℕ) (bytes : List ℕ) → start < 2 ^ 32 → AreBytes bytes → crc32_run start bytes ≡ crc32_remainder start bytes
 crc32_law start bytes h all =
-    let it = bytes_run 31 0x04C1_1DB7 crc32_byte crc32_run (λ r. refl) (λ r b bs. refl) crc32_byte_is bytes start h all in
+    let it = crc32_run_is bytes start h all in
     sym (remainder_of 31 0x04C1_1DB7 start (crc32_run start bytes) bytes h it.1 it.0) ∙ ap (λ p. crc_remainder 32 p start bytes) (sym crc32_divisor)
 
 -- the register of CRC-8 ends at the remainder

@@ -1,0 +1,5 @@
+use Rattle.crc_law.proofs.Whole.{remainder-append, whole_zero, whole_only}
+use Rattle.crc_law.proofs.whole_unit.Goals as goal
+
+pub returns : goal.returns
+returns c = record { pieces = remainder-append; zero = whole_zero; only = whole_only }
