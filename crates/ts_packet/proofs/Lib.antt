@@ -1,1 +1,2 @@
 mod LinksLemmas
+pub mod Masks

@@ -1,5 +1,5 @@
 -- A packet of the code as fields, and why bytes are no packet.
-use Rattle.std.specs.Prelude.{ℕ, List, if◌then◌else◌, Option, Some, None}
+use Rattle.std.specs.Prelude.{ℕ, Bool, false, List, if◌then◌else◌, Option, Some, None}
 use Rattle.ts_spec.specs.Packet.{PacketFields, lacks_sync, is_marked, has_bad_adaptation, lacks_payload, is_scrambled}
 use Rattle.ts_packet.specs.declared.packet.Packet.{Packet}
 use Rattle.ts_packet.specs.declared.packet.PacketFault.{PacketFault}
@@ -24,3 +24,7 @@ refusal b =
     if lacks_payload b then Some NoPayload else
     if is_scrambled b then Some Scrambled else
     None
+
+-- the fields of a packet that is written without an adaptation field
+abbrev pub written_fields : ℕ → Bool → ℕ → List ℕ → PacketFields
+written_fields pid starts counter payload = record { pid = pid; starts = starts; counter = counter; broken = false; payload = payload }

@@ -6,7 +6,11 @@
 #![tactic(auto)]
 
 mod continuity;
+mod laws;
 mod packet;
+#[cfg(test)]
+mod tests;
 
 pub use continuity::{Continuity, Link};
-pub use packet::{Packet, PacketFault, parse};
+pub use laws::{null_packet_is_read, written_packets_are_read};
+pub use packet::{Packet, PacketFault, parse, write_null, write_packet};

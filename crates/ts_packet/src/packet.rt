@@ -1,6 +1,6 @@
-// Packets of 188 bytes: their fields are read, or the first test that they fail is named.
-ghost use Rattle.std.specs.Prelude.{◌≡◌, ℕ, ◌≤◌, length, Some, None, MatchResult, IfOk, is_ok};
-ghost use Rattle.ts_spec.specs.Packet.{fields_of, is_packet};
+// Packets of 188 bytes: fields are read, or the first test that fails is named; packets are written.
+ghost use Rattle.std.specs.Prelude.{◌≡◌, ℕ, ◌≤◌, ◌++◌, length, Some, None, MatchResult, IfOk, is_ok};
+ghost use Rattle.ts_spec.specs.Packet.{fields_of, is_packet, packet_bytes, null_packet};
 ghost use Rattle.ts_packet.specs.Fields.{fields_in, refusal};
 
 /// A packet that can be read, its payload lent out of its bytes.
@@ -51,6 +51,9 @@ const SCRAMBLING: u8 = 0xC0;
 /// adaptation_field_control, in byte 3.
 const CONTROL: u8 = 0x30;
 
+/// A payload and no adaptation field.
+const PAYLOAD_ALONE: u8 = 0x10;
+
 /// An adaptation field and no payload.
 const FIELD_ALONE: u8 = 0x20;
 
@@ -65,6 +68,12 @@ const LONGEST_FIELD: u8 = 182;
 
 /// discontinuity_indicator, in the byte behind adaptation_field_length.
 const DISCONTINUITY: u8 = 0x80;
+
+/// The PID of null packets (clause 2.4.3.3, table 2-3).
+const NULL_PID: u16 = 0x1FFF;
+
+/// The bytes of a null packet's payload. Profile: they may have any value (clause 2.4.3.3).
+const FILL: u8 = 0xFF;
 
 /// Reads the fields of a packet (clauses 2.4.3.2 to 2.4.3.5), or names the first test that it fails.
 #[tactic(auto, unfolding(ts_spec::specs::Packet::is_packet, ts_spec::specs::Packet::fields_of))]
@@ -106,4 +115,35 @@ pub fn parse(bytes: &[u8; 188]) -> Result<Packet<'_>, PacketFault>
         broken: has_field && bytes[4] >= 1 && bytes[5] & DISCONTINUITY != 0,
         payload: &bytes[start..],
     })
+}
+
+/// Writes the packet with these fields and this payload, without an adaptation field.
+pub fn write_packet(into: &mut [u8; 188], pid: u16, starts: bool, counter: u8, payload: &[u8; 184])
+    requires pid { pid ≤ 8191 }
+    requires counter { counter ≤ 15 }
+    ensures written { into.new ≡ packet_bytes pid starts counter payload.now }
+{
+    let start = if starts { START } else { 0 };
+    let head = [
+        SYNC,
+        start + (pid / 256) as u8,
+        (pid % 256) as u8,
+        PAYLOAD_ALONE + counter,
+    ];
+    put(into, &head, payload);
+}
+
+/// Writes the null packet (clause 2.4.3.3): PID 0x1FFF, counter 0, a payload of bytes FF.
+pub fn write_null(into: &mut [u8; 188])
+    ensures written { into.new ≡ null_packet }
+{
+    write_packet(into, NULL_PID, false, 0, &[FILL; 184]);
+}
+
+/// Writes a header and the payload behind it.
+fn put(into: &mut [u8; 188], head: &[u8; 4], payload: &[u8; 184])
+    ensures { into.new ≡ head.now ++ payload.now }
+{
+    into[..4].copy_from_slice(head);
+    into[4..].copy_from_slice(payload);
 }
