@@ -1,3 +1,4 @@
 pub mod CheckSum
 pub mod Puts
 pub mod Spans
+pub mod Written

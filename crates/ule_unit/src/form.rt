@@ -2,7 +2,7 @@
 //!
 //! The front of some bytes comes in, and how long the SNDU there is goes out.
 
-ghost use Rattle.std.specs.Prelude.{◌≡◌, length};
+ghost use Rattle.std.specs.Prelude.{◌≡◌, ◌≤◌, length, IfSome};
 ghost use Rattle.ts_spec.specs.Sndu.{sndu_span, has_right_crc};
 ghost use Rattle.ule_unit.specs.Views.{span_told, whole_within};
 
@@ -79,8 +79,10 @@ pub(crate) fn check(unit: &[u8]) -> bool
 ///
 /// None: fewer than 2 bytes, an End Indicator, a Length that has no room for the address and the
 /// CRC-32, or an SNDU that goes on behind the bytes.
+#[tactic(auto, using(crate::proofs::Spans::span_whole))]
 pub fn whole_front(bytes: &[u8]) -> Option<usize>
     ensures told { result ≡ whole_within (length bytes.now) (sndu_span bytes.now) }
+    ensures within { IfSome result (λ n. (8 ≤ n) × (n ≤ length bytes.now)) }
 {
     match span_of(bytes) {
         Span::Whole(size) => {

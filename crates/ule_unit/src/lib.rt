@@ -10,5 +10,5 @@ mod laws;
 mod sndu;
 
 pub use form::whole_front;
-pub use laws::sndus_are_lawful;
+pub use laws::{a_written_sndu_reads_back, sndus_are_lawful, sndus_are_units};
 pub use sndu::{Sndu, UleFault, read};

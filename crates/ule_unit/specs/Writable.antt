@@ -1,0 +1,13 @@
+-- What the bytes of an SNDU can be written of.
+use Rattle.std.specs.Prelude.{◌≡◌, ℕ, ◌<◌, ◌≤◌, ◌^◌, List, length, Option, Some, None}
+
+-- an address of 6 bytes (RFC 4326 section 4.5), or none
+abbrev pub IsAddress : Option (List ℕ) → Type 0
+IsAddress None = Unit {0}
+IsAddress (Some npa) = length npa ≡ 6
+
+-- an address, a Type of 16 bits, and a PDU that Length can count beside an address and the CRC-32 (sections 4.2 and 4.3)
+pub record IsWritable (npa : Option (List ℕ)) (first_type : ℕ) (pdu : List ℕ) : Type 0 where
+  pub address : IsAddress npa
+  pub sixteen_bits : first_type < 2 ^ 16
+  pub size : length pdu ≤ 32757
