@@ -1,0 +1,4 @@
+mod Fronts
+mod RecordsLemmas
+mod ReadLemmas
+mod Cuts

@@ -1,0 +1,15 @@
+//! Records of a recording, read one by one: transport packets with their arrival times.
+//!
+//! Receiving: Source -> [ts_record] -> ts_packet -> unit_stream.
+//! Begin with `RecordReader::new` and `next`.
+#![tactic(auto)]
+
+mod laws;
+mod moments;
+mod pieces;
+mod reader;
+#[cfg(test)]
+mod tests;
+
+pub use laws::cuts_are_unique;
+pub use reader::{Record, RecordReader};

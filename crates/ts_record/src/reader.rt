@@ -1,0 +1,117 @@
+// The reader of records: it takes one record's bytes at a time, and keeps the last moment.
+ghost use Rattle.std.specs.Prelude.{◌≡◌, ◌↔◌, ℕ, ◌^◌, ◌<◌, ◌≤◌, true, List, [], IfOk, IfSome, IfNone, OnOk, OnErr, IsErrOf, length};
+ghost use Rattle.wire_spec.specs.Causes.{Rose};
+ghost use Rattle.ts_spec.specs.Recording.{record_size};
+ghost use Rattle.ts_record.specs.Reading.{form_of, record_seen, ReaderOf, TakesBytes, ReadsRecord, ReadsEnd, closed};
+
+use crate::moments::{moment_of, stamp_size};
+use crate::pieces::fill_both;
+use ipe_io::{RecordFault, Recording, Source};
+use std::marker::Model;
+
+/// One record.
+#[derive(Clone, Copy, Debug)]
+pub struct Record {
+    /// When the packet arrived. Plain: 0. Stamped: microseconds; None where the stamp is 2^62 or more. m2ts: units
+    /// of a 27th of a microsecond, that do not fall where the stamps go round.
+    pub moment: Option<u64>,
+    /// The bytes of the packet.
+    pub bytes: [u8; 188],
+}
+
+/// Profile: the most records of one recording.
+const MOST_RECORDS: u64 = 1 << 32;
+
+/// Reads the records of a recording in order.
+#[derive(Drop)]
+pub struct RecordReader {
+    recording: Recording,
+    count: u64,
+    before: Option<u64>,
+    tail: u32,
+    is_open: bool,
+}
+
+impl Model for RecordReader {
+    ghost use Rattle.std.specs.Prelude.{ℕ, ◌+◌, ◌*◌, ◌≤◌, ◌^◌};
+    ghost use Rattle.std.specs.Option.{ForSome};
+    ghost use Rattle.ts_record.specs.Reading.{ReaderState, form_of};
+
+    ghost Value = { ReaderState };
+
+    ghost view = { λ r. record { form = form_of r.recording; count = r.count; before = r.before; tail = r.tail; is_open = r.is_open } };
+
+    ghost invariant = { λ r. (r.count ≤ 2 ^ 32) × ForSome r.before (λ m. m ≤ 2 ^ 62 + r.count * 2 ^ 30) };
+}
+
+impl RecordReader {
+    /// No record was read.
+    pub fn new(recording: Recording) -> RecordReader
+        ensures form { result.form ≡ form_of recording }
+        ensures stands { ReaderOf result [] }
+        ensures tail { result.tail ≡ 0 }
+    {
+        RecordReader {
+            recording,
+            count: 0,
+            before: None,
+            tail: 0,
+            is_open: true,
+        }
+    }
+
+    /// Reads the next record, or None at the end of the input, where fewer bytes than a record may be left over.
+    ///
+    /// `Failed`: the source failed. `TooLong`: 2^32 records were read before; nothing is taken from the source.
+    /// After an Err the reader is closed, and may not be asked again.
+    pub fn next<S: Source>(&mut self, source: &mut S) -> Result<Option<Record>, RecordFault>
+        requires { self.old.is_open ≡ true }
+        ensures read { (pieces : List (List ℕ)) → ReaderOf self.old pieces → IfOk result (λ it. IfSome it (λ r.
+            ReadsRecord self.old self.new (S.left source.old) (S.left source.new) (S.taken source.old) (S.taken source.new) pieces (record_seen r))) }
+        ensures end { (pieces : List (List ℕ)) → ReaderOf self.old pieces → IfOk result (λ it. IfNone it (
+            ReadsEnd self.old self.new (S.left source.old) (S.left source.new) (S.taken source.old) (S.taken source.new) pieces)) }
+        ensures ended { IfOk result (λ it. IfNone it (S.ended source.new ≡ true)) }
+        ensures few { OnOk result (self.old.count < 2 ^ 32) }
+        ensures too_long { IsErrOf result RecordFault.TooLong ↔ (self.old.count ≡ 2 ^ 32) }
+        ensures unchanged { IsErrOf result RecordFault.TooLong → source.new ≡ source.old }
+        ensures failed { IsErrOf result RecordFault.Failed → (bytes : List ℕ) × (length bytes < record_size self.old.form)
+            × TakesBytes (S.left source.old) (S.left source.new) (S.taken source.old) (S.taken source.new) bytes }
+        ensures cause { IsErrOf result RecordFault.Failed → Rose (S.faults source.old) (S.faults source.new) }
+        ensures later { S.faults source.old ≤ S.faults source.new }
+        ensures closed { OnErr result (self.new ≡ closed self.old) }
+    {
+        if self.count == MOST_RECORDS {
+            self.is_open = false;
+            return Err(RecordFault::TooLong);
+        }
+        let size = stamp_size(self.recording);
+        let mut stamp = [0; 8];
+        let mut bytes = [0; 188];
+        let Ok(count) = fill_both(source, &mut stamp[..size], &mut bytes) else {
+            self.is_open = false;
+            return Err(RecordFault::Failed);
+        };
+        if count < size + bytes.len() {
+            self.tail = count as u32;
+            return Ok(None);
+        }
+        let moment = moment_of(self.recording, self.before, &stamp);
+        self.count += 1;
+        self.before = moment;
+        Ok(Some(Record { moment, bytes }))
+    }
+
+    /// How many bytes, fewer than a record has, stood before the end of the input: 0 until `next` answers None.
+    pub fn tail(&self) -> u32
+        ensures { result ≡ self.now.tail }
+    {
+        self.tail
+    }
+
+    /// Whether no `next` has answered an Err.
+    pub fn is_open(&self) -> bool
+        ensures { result ≡ self.now.is_open }
+    {
+        self.is_open
+    }
+}
