@@ -1,10 +1,10 @@
 -- A CRC-32 fits four bytes, and fewer than four bytes do not end with the CRC-32 of what is before them.
-use Rattle.std.proofs.Common.{◌≡◌, ℕ, zero, suc, ◌+◌, ◌-◌, ◌*◌, ◌^◌, ◌<◌, ◌≤◌, Bool, true, false, List, [], ◌∷◌, ◌++◌, length, take, drop, get_or, ap, sym, subst, ◌∙◌, arith, lit<, pow-suc, refl}
+use Rattle.std.proofs.Common.{◌≡◌, ℕ, zero, suc, ◌+◌, ◌-◌, ◌*◌, ◌^◌, ◌<◌, Bool, true, false, List, [], ◌∷◌, ◌++◌, length, take, drop, sym, subst, ◌∙◌, arith, lit<, pow-suc, refl}
 use Rattle.std.specs.Prelude.{slice_index, replicate, if◌then◌else◌, ◌==◌}
 use Rattle.std.proofs.lemmas.Bool.{ne_eqb}
 use Rattle.std.proofs.lemmas.List.{length-append, length-replicate, length-drop, get_or_past}
 use Rattle.std.proofs.lemmas.List.Elements.{All-nil}
-use Rattle.wire_spec.specs.Bytes.{u16_at, u32_at}
+use Rattle.wire_spec.specs.Bytes.{u32_at}
 use Rattle.wire_spec.specs.BitPolynomials.{bits, number_of, added_front, divided, remainder}
 use Rattle.wire_spec.specs.Crc.{bits_of, crc_remainder, crc32_remainder}
 use Rattle.division_law.proofs.Fronts.{length-added}

@@ -1,13 +1,13 @@
 -- The bytes that are written for an SNDU: their length, their span, their check, their fields.
-use Rattle.std.proofs.Common.{◌≡◌, ℕ, suc, ◌+◌, ◌-◌, ◌*◌, ◌/◌, ◌%◌, ◌^◌, ◌<◌, ◌≤◌, Bool, true, false, Option, Some, None, List, [], ◌∷◌, ◌++◌, length, take, drop, get_or, refl, ap, sym, subst, ◌∙◌, length-append, arith, eq-eqb, eqb-true}
+use Rattle.std.proofs.Common.{◌≡◌, ℕ, ◌+◌, ◌-◌, ◌*◌, ◌/◌, ◌%◌, ◌^◌, ◌<◌, ◌≤◌, Bool, true, false, Option, Some, None, List, [], ◌∷◌, ◌++◌, length, take, drop, refl, ap, sym, ◌∙◌, length-append, arith, eq-eqb, eqb-true}
 use Rattle.std.specs.Prelude.{slice_index, ◌&&◌, ◌==◌, nat_lt, nat_le, if◌then◌else◌}
-use Rattle.std.specs.Int.{w16, w32, to_be_bytes}
+use Rattle.std.specs.Int.{w32, to_be_bytes}
 use Rattle.std.proofs.lemmas.Bool.{ne_eqb, le-ltb, le-leb, lt-leb}
 use Rattle.std.proofs.lemmas.List.{append-nil, take_at, get_or-append-add}
 use Rattle.wire_spec.specs.Bytes.{u16_at, u32_at, six_at}
 use Rattle.wire_spec.specs.Crc.{crc32_remainder}
 use Rattle.ts_spec.specs.Form.{whole}
-use Rattle.ts_spec.specs.Sndu.{SnduFields, sndu_span, sndu_fields, sndu_front, sndu_bytes, address_bytes, lacks_address, length_field, least_length, is_end_indicator, has_right_crc, has_right_length, is_whole_of, is_sndu}
+use Rattle.ts_spec.specs.Sndu.{sndu_span, sndu_fields, sndu_front, sndu_bytes, address_bytes, lacks_address, length_field, least_length, is_end_indicator, has_right_crc, has_right_length, is_whole_of, is_sndu}
 use Rattle.ule_unit.specs.Writable.{IsWritable}
 use Rattle.ule_unit.proofs.CheckSum.{crc32_below}
 

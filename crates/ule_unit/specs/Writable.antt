@@ -6,7 +6,7 @@ abbrev pub IsAddress : Option (List ℕ) → Type 0
 IsAddress None = Unit {0}
 IsAddress (Some npa) = length npa ≡ 6
 
--- an address, a Type of 16 bits, and a PDU that Length can count beside an address and the CRC-32 (sections 4.2 and 4.3)
+-- an address or none, a Type of 16 bits, and a PDU that Length counts beside an address and the CRC-32 (section 4.2)
 pub record IsWritable (npa : Option (List ℕ)) (first_type : ℕ) (pdu : List ℕ) : Type 0 where
   pub address : IsAddress npa
   pub sixteen_bits : first_type < 2 ^ 16

@@ -20,7 +20,10 @@ pub(crate) const CRC: usize = 4;
 /// D in the first byte: there is no NPA address (RFC 4326 section 4.1).
 pub(crate) const NO_ADDRESS: u8 = 0x80;
 
-/// What stands before the SNDU's length in the number that the first two bytes are: D alone.
+/// D in the number that the first two bytes are.
+pub(crate) const D: u16 = 0x8000;
+
+/// Length is the lower 15 bits of the first two bytes, under D (RFC 4326 section 4.2).
 const LENGTH_VALUES: usize = 0x8000;
 
 /// Each of the two bytes of an End Indicator (RFC 4326 section 4.3).

@@ -11,4 +11,7 @@ mod sndu;
 
 pub use form::whole_front;
 pub use laws::{a_written_sndu_reads_back, sndus_are_lawful, sndus_are_units};
-pub use sndu::{Sndu, UleFault, read};
+pub use sndu::{Sndu, UleFault, read, write};
+
+#[cfg(test)]
+mod tests;

@@ -8,7 +8,7 @@ ghost use Rattle.std.specs.Result.{result_err};
 ghost use Rattle.ts_spec.specs.Sndu.{is_sndu, sndu_fields, has_right_length, sndu_bytes, sndu_front, address_bytes, head_number};
 ghost use Rattle.ule_unit.specs.Views.{fields_in, refusal};
 
-use crate::form::{ADDRESS, CRC, HEAD, NO_ADDRESS, Span, check, span_of};
+use crate::form::{ADDRESS, CRC, D, HEAD, NO_ADDRESS, Span, check, span_of};
 use crc_unit::crc32;
 
 /// An SNDU: its NPA address, its Type, and what stands behind these and before the CRC-32.
@@ -90,7 +90,7 @@ pub fn write(npa: Option<[u8; 6]>, ether_type: u16, datagram: &[u8], into: &mut 
     end + CRC
 }
 
-/// All before the CRC-32; answers where it ends.
+/// Writes all before the CRC-32; answers where it ends.
 fn write_front(npa: Option<[u8; 6]>, ether_type: u16, datagram: &[u8], into: &mut [u8]) -> usize
     requires size { length datagram.now ≤ 32757 }
     requires room { length datagram.now + 14 ≤ length into.old }
@@ -107,9 +107,6 @@ fn write_front(npa: Option<[u8; 6]>, ether_type: u16, datagram: &[u8], into: &mu
     put(into, start, datagram);
     start + datagram.len()
 }
-
-/// D in the number that the first two bytes are: there is no NPA address (RFC 4326 section 4.1).
-const D: u16 = 0x8000;
 
 /// D and Length, as the number that the first two bytes are.
 fn first_number(npa: &Option<[u8; 6]>, size: u16) -> u16
