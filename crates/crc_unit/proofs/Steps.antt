@@ -27,7 +27,7 @@ steps_low k poly (suc n) r h =
 
 -- a byte's step by the table: the entry at the highest byte with the new one added, and the other bytes moved up
 pub by_entry : (r byte : ℕ) → r < 2 ^ 32 → byte < 2 ^ 8
-    → bit_xor (r * 2 ^ 8 % 2 ^ 32) (crc32_entry (bit_xor (r / 2 ^ 24) byte)) ≡ crc32_byte r byte
+    → bit_xor (r * 2 ^ 8 % 2 ^ 32) (crc32_entry 8 (bit_xor (r / 2 ^ 24) byte)) ≡ crc32_byte r byte
 unfolding crc32_entry crc32_byte
 by_entry r byte h hb =
     let top : ℕ = r / 2 ^ 24 in

@@ -1,7 +1,7 @@
--- The table of CRC-32: eight shifts of its register at once (ISO/IEC 13818-1 annex A).
+-- The tables of CRC-32: many shifts of its register at once (ISO/IEC 13818-1 annex A).
 use Rattle.std.specs.Prelude.{ℕ, ◌*◌, ◌^◌}
 use Rattle.division_law.specs.Registers.{register_steps}
 
--- what eight shifts leave of a register that has the byte in its highest bits and else zeros
-unfoldable pub crc32_entry : ℕ → ℕ
-crc32_entry byte = register_steps 31 0x04C1_1DB7 8 (byte * 2 ^ 24)
+-- what n shifts leave of a register that has the byte in its highest bits and else zeros
+unfoldable pub crc32_entry : ℕ → ℕ → ℕ
+crc32_entry n byte = register_steps 31 0x04C1_1DB7 n (byte * 2 ^ 24)

@@ -1,4 +1,4 @@
-//! Check values from outside: catalogues of check sums, RFC 4326, packets seen on air, and long division by hand.
+//! Check values from outside: catalogues of check sums, RFC 4326, a section, and long division by hand.
 
 use super::*;
 
@@ -47,5 +47,20 @@ fn a_unit_in_pieces_ends_at_zero(rt: HostRuntime) {
     for cut in 0..=SNDU.len() {
         let register = crc32(&SNDU[..cut]);
         assert_eq!(rt; crc32_step(register, &SNDU[cut..]), 0, "at {cut}");
+    }
+}
+
+/// The fast body steps by eight bytes and the plain one by one: they agree at each length and from each kind of register.
+#[test]
+fn eight_bytes_a_step_give_what_one_byte_a_step_gives(rt: HostRuntime) {
+    for register in [0, 1, 0x8000_0000, 0x1234_5678, 0xFFFF_FFFF] {
+        for length in 0..=40 {
+            let bytes = &SNDU[..length];
+            assert_eq!(rt;
+                crc32_step(register, bytes),
+                plain::crc32_step(register, bytes),
+                "at {length}"
+            );
+        }
     }
 }

@@ -1,0 +1,194 @@
+-- Eight bytes at once: the register after them is the sum of one entry for each.
+use Rattle.std.proofs.Common.{ℕ, zero, suc, List, [], ◌∷◌, ◌≡◌, ◌+◌, ◌*◌, ◌/◌, ◌%◌, ◌^◌, ◌<◌, length, get_or, refl, ap, ap₂, sym, subst, ◌∙◌, arith, lit<, bit_xor}
+use Rattle.std.specs.Int.Bits.{xor_zero_r, xor_block, xor_shifted}
+use lib.Bits.{xor_assoc}
+use Rattle.std.proofs.lemmas.Nat.{xor_comm}
+use Rattle.wire_spec.specs.Bytes.{AreBytes}
+use Rattle.division_law.specs.Registers.{register_step, register_steps, crc32_byte, crc32_run}
+use Rattle.division_law.proofs.Registers.{steps_none, steps_more, crc32_byte_is}
+use Rattle.division_law.proofs.Linear.{steps_xor}
+use Rattle.crc_unit.specs.Entry.{crc32_entry}
+use Rattle.crc_unit.proofs.Steps.{steps_low}
+use Rattle.crc_unit.proofs.Chunks.{eight_is}
+
+-- shifts and then more shifts
+steps-add : (n m r : ℕ) → register_steps 31 0x04C1_1DB7 (n + m) r ≡ register_steps 31 0x04C1_1DB7 m (register_steps 31 0x04C1_1DB7 n r)
+steps-add zero m r =
+    let e : zero + m ≡ m = omega arith in
+    ap (λ t. register_steps 31 0x04C1_1DB7 t r) e ∙ ap (λ t. register_steps 31 0x04C1_1DB7 m t) (sym (steps_none 31 0x04C1_1DB7 r))
+steps-add (suc n) m r =
+    let e : suc n + m ≡ suc (n + m) = omega arith in
+    ap (λ t. register_steps 31 0x04C1_1DB7 t r) e
+    ∙ steps_more 31 0x04C1_1DB7 (n + m) r
+    ∙ steps-add n m (register_step 31 0x04C1_1DB7 r)
+    ∙ ap (λ t. register_steps 31 0x04C1_1DB7 m t) (sym (steps_more 31 0x04C1_1DB7 n r))
+
+-- the entry of a sum is the sum of the entries
+entry-xor : (n x y : ℕ) → x < 2 ^ 8 → y < 2 ^ 8 → crc32_entry n (bit_xor x y) ≡ bit_xor (crc32_entry n x) (crc32_entry n y)
+unfolding crc32_entry
+entry-xor n x y hx hy =
+    let zx : x * 2 ^ 24 ≡ x * 2 ^ 24 + 0 = omega arith in
+    let zy : y * 2 ^ 24 ≡ y * 2 ^ 24 + 0 = omega arith in
+    let fx : x * 2 ^ 24 < 2 ^ 32 = omega arith in
+    let fy : y * 2 ^ 24 < 2 ^ 32 = omega arith in
+    let none : bit_xor x y * 2 ^ 24 + 0 ≡ bit_xor x y * 2 ^ 24 = omega arith in
+    let moved : bit_xor (x * 2 ^ 24) (y * 2 ^ 24) ≡ bit_xor x y * 2 ^ 24 =
+    ap₂ (λ a b. bit_xor a b) zx zy ∙ xor_block 24 x y 0 0 (lit< tt) (lit< tt) ∙ none in
+    ap (λ t. register_steps 31 0x04C1_1DB7 n t) (sym moved) ∙ steps_xor 31 0x04C1_1DB7 n (x * 2 ^ 24) (y * 2 ^ 24) fx fy (lit< tt)
+
+-- the entries of bytes, each with the shifts for the bytes behind it, added
+abbrev entries : List ℕ → ℕ
+entries [] = 0
+entries (b ∷ rest) = bit_xor (crc32_entry (8 + 8 * length rest) b) (entries rest)
+
+-- one byte, and the shifts for the bytes behind it
+byte_behind : (r b m : ℕ) → r < 2 ^ 32 → b < 2 ^ 8
+    → register_steps 31 0x04C1_1DB7 m (crc32_byte r b) ≡ bit_xor (register_steps 31 0x04C1_1DB7 (8 + m) r) (crc32_entry (8 + m) b)
+unfolding crc32_byte crc32_entry
+byte_behind r b m hr hb =
+    let fb : b * 2 ^ 24 < 2 ^ 32 = omega arith in
+    sym (steps-add 8 m (bit_xor r (b * 2 ^ 24))) ∙ steps_xor 31 0x04C1_1DB7 (8 + m) r (b * 2 ^ 24) hr fb (lit< tt)
+
+-- the register after bytes: its own shifts and the bytes' entries
+run_is : (bytes : List ℕ) (r : ℕ) → r < 2 ^ 32 → AreBytes bytes
+    → crc32_run r bytes ≡ bit_xor (register_steps 31 0x04C1_1DB7 (8 * length bytes) r) (entries bytes)
+run_is [] r small all = sym (xor_zero_r (register_steps 31 0x04C1_1DB7 0 r) ∙ steps_none 31 0x04C1_1DB7 r)
+run_is (b ∷ rest) r small all =
+    let fits : b < 2 ^ 8 = all 0 0 (omega arith) in
+    let next = crc32_byte_is r b small fits in
+    let e : 8 + 8 * length rest ≡ 8 * suc (length rest) = omega arith in
+    run_is rest (crc32_byte r b) (next.1) (λ i d lt. all (suc i) d (omega arith))
+    ∙ ap (λ t. bit_xor t (entries rest)) (byte_behind r b (8 * length rest) small fits)
+    ∙ xor_assoc (register_steps 31 0x04C1_1DB7 (8 + 8 * length rest) r) (crc32_entry (8 + 8 * length rest) b) (entries rest)
+    ∙ ap (λ t. bit_xor (register_steps 31 0x04C1_1DB7 t r) (entries (b ∷ rest))) e
+
+-- shifts that first move a byte to the highest bits
+entry_low : (n m p x : ℕ) → p * 2 ^ m ≡ 2 ^ 24 → x < 2 ^ 8 → register_steps 31 0x04C1_1DB7 (m + n) (x * p) ≡ crc32_entry n x
+unfolding crc32_entry
+entry_low n m p x e fits =
+    let moved : x * p * 2 ^ m ≡ x * 2 ^ 24 = (grind arith) ∙ ap (λ t. x * t) e in
+    let small : x * 2 ^ 24 < 2 ^ 32 = omega arith in
+    steps-add m n (x * p)
+    ∙ ap (λ t. register_steps 31 0x04C1_1DB7 n t) (steps_low 31 0x04C1_1DB7 m (x * p) (subst (λ t. t < 2 ^ 32) (sym moved) small) ∙ moved)
+
+-- 64 shifts of a register are the entries of its four bytes, added
+register_is : (r : ℕ) → r < 2 ^ 32
+    → register_steps 31 0x04C1_1DB7 64 r
+    ≡ bit_xor (crc32_entry 64 (r / 2 ^ 24 % 2 ^ 8)) (bit_xor (crc32_entry 56 (r / 2 ^ 16 % 2 ^ 8)) (bit_xor (crc32_entry 48 (r / 2 ^ 8 % 2 ^ 8)) (crc32_entry 40 (r % 2 ^ 8))))
+register_is r small =
+    let a : ℕ = r / 2 ^ 24 % 2 ^ 8 in
+    let b : ℕ = r / 2 ^ 16 % 2 ^ 8 in
+    let c : ℕ = r / 2 ^ 8 % 2 ^ 8 in
+    let d : ℕ = r % 2 ^ 8 in
+    let fa : a < 2 ^ 8 = omega arith in
+    let fb : b < 2 ^ 8 = omega arith in
+    let fc : c < 2 ^ 8 = omega arith in
+    let fd : d < 2 ^ 8 = omega arith in
+    let low2 : ℕ = c * 2 ^ 8 + d in
+    let low3 : ℕ = b * 2 ^ 16 + low2 in
+    let parts : r ≡ a * 2 ^ 24 + low3 = omega arith in
+    let f2 : low2 < 2 ^ 16 = omega arith in
+    let f3 : low3 < 2 ^ 24 = omega arith in
+    let g2 : low2 < 2 ^ 32 = omega arith in
+    let g3 : low3 < 2 ^ 32 = omega arith in
+    let gd : d < 2 ^ 32 = omega arith in
+    let ga : a * 2 ^ 24 < 2 ^ 32 = omega arith in
+    let gb : b * 2 ^ 16 < 2 ^ 32 = omega arith in
+    let gc : c * 2 ^ 8 < 2 ^ 32 = omega arith in
+    let one : d ≡ d * 1 = omega arith in
+    let none : a * 2 ^ 24 ≡ a * 2 ^ 24 * 1 = omega arith in
+    let last : register_steps 31 0x04C1_1DB7 64 low2 ≡ bit_xor (crc32_entry 48 c) (crc32_entry 40 d) =
+    ap (λ t. register_steps 31 0x04C1_1DB7 64 t) (sym (xor_shifted c 8 d fd))
+    ∙ steps_xor 31 0x04C1_1DB7 64 (c * 2 ^ 8) d gc gd (lit< tt)
+    ∙ ap₂ (λ x y. bit_xor x y) (entry_low 48 16 (2 ^ 8) c refl fc) (ap (λ t. register_steps 31 0x04C1_1DB7 64 t) one ∙ entry_low 40 24 1 d refl fd) in
+    let lower : register_steps 31 0x04C1_1DB7 64 low3 ≡ bit_xor (crc32_entry 56 b) (bit_xor (crc32_entry 48 c) (crc32_entry 40 d)) =
+    ap (λ t. register_steps 31 0x04C1_1DB7 64 t) (sym (xor_shifted b 16 low2 f2))
+    ∙ steps_xor 31 0x04C1_1DB7 64 (b * 2 ^ 16) low2 gb g2 (lit< tt)
+    ∙ ap₂ (λ x y. bit_xor x y) (entry_low 56 8 (2 ^ 16) b refl fb) last in
+    ap (λ t. register_steps 31 0x04C1_1DB7 64 t) (parts ∙ sym (xor_shifted a 24 low3 f3))
+    ∙ steps_xor 31 0x04C1_1DB7 64 (a * 2 ^ 24) low3 ga g3 (lit< tt)
+    ∙ ap₂ (λ x y. bit_xor x y) (entry_low 64 0 (2 ^ 24) a refl fa) lower
+
+-- two sums, added place by place
+swap : (a b x y : ℕ) → bit_xor (bit_xor a b) (bit_xor x y) ≡ bit_xor (bit_xor a x) (bit_xor b y)
+swap a b x y =
+    xor_assoc a b (bit_xor x y)
+    ∙ ap (λ t. bit_xor a t) (sym (xor_assoc b x y) ∙ ap (λ t. bit_xor t y) (xor_comm b x) ∙ xor_assoc x b y)
+    ∙ sym (xor_assoc a x (bit_xor b y))
+
+-- eight bytes by eight entries, the register's four bytes added to the first four
+pub by_entries : (r b0 b1 b2 b3 b4 b5 b6 b7 : ℕ) → r < 2 ^ 32 → AreBytes (b0 ∷ b1 ∷ b2 ∷ b3 ∷ b4 ∷ b5 ∷ b6 ∷ b7 ∷ [])
+    → bit_xor (bit_xor (bit_xor (bit_xor (bit_xor (bit_xor (bit_xor
+    (crc32_entry 64 (bit_xor (r / 2 ^ 24 % 2 ^ 8) b0))
+    (crc32_entry 56 (bit_xor (r / 2 ^ 16 % 2 ^ 8) b1)))
+    (crc32_entry 48 (bit_xor (r / 2 ^ 8 % 2 ^ 8) b2)))
+    (crc32_entry 40 (bit_xor (r % 2 ^ 8) b3)))
+    (crc32_entry 32 b4)) (crc32_entry 24 b5)) (crc32_entry 16 b6)) (crc32_entry 8 b7)
+    ≡ crc32_run r (b0 ∷ b1 ∷ b2 ∷ b3 ∷ b4 ∷ b5 ∷ b6 ∷ b7 ∷ [])
+by_entries r b0 b1 b2 b3 b4 b5 b6 b7 small all =
+    let a0 : ℕ = r / 2 ^ 24 % 2 ^ 8 in
+    let a1 : ℕ = r / 2 ^ 16 % 2 ^ 8 in
+    let a2 : ℕ = r / 2 ^ 8 % 2 ^ 8 in
+    let a3 : ℕ = r % 2 ^ 8 in
+    let x0 : ℕ = crc32_entry 64 (bit_xor a0 b0) in
+    let x1 : ℕ = crc32_entry 56 (bit_xor a1 b1) in
+    let x2 : ℕ = crc32_entry 48 (bit_xor a2 b2) in
+    let x3 : ℕ = crc32_entry 40 (bit_xor a3 b3) in
+    let x4 : ℕ = crc32_entry 32 b4 in
+    let x5 : ℕ = crc32_entry 24 b5 in
+    let x6 : ℕ = crc32_entry 16 b6 in
+    let x7 : ℕ = crc32_entry 8 b7 in
+    let e7 : ℕ = bit_xor x7 0 in
+    let e6 : ℕ = bit_xor x6 e7 in
+    let e5 : ℕ = bit_xor x5 e6 in
+    let e4 : ℕ = bit_xor x4 e5 in
+    let m0 : bit_xor (crc32_entry 64 a0) (crc32_entry 64 b0) ≡ x0 = sym (entry-xor 64 a0 b0 (omega arith) (all 0 0 (lit< tt))) in
+    let m1 : bit_xor (crc32_entry 56 a1) (crc32_entry 56 b1) ≡ x1 = sym (entry-xor 56 a1 b1 (omega arith) (all 1 0 (lit< tt))) in
+    let m2 : bit_xor (crc32_entry 48 a2) (crc32_entry 48 b2) ≡ x2 = sym (entry-xor 48 a2 b2 (omega arith) (all 2 0 (lit< tt))) in
+    let m3 : bit_xor (crc32_entry 40 a3) (crc32_entry 40 b3) ≡ x3 = sym (entry-xor 40 a3 b3 (omega arith) (all 3 0 (lit< tt))) in
+    let y1 : ℕ = bit_xor (crc32_entry 48 a2) (crc32_entry 40 a3) in
+    let y0 : ℕ = bit_xor (crc32_entry 56 a1) y1 in
+    let z2 : ℕ = bit_xor (crc32_entry 40 b3) e4 in
+    let z1 : ℕ = bit_xor (crc32_entry 48 b2) z2 in
+    let z0 : ℕ = bit_xor (crc32_entry 56 b1) z1 in
+    let s3 : bit_xor (crc32_entry 40 a3) z2 ≡ bit_xor x3 e4 = sym (xor_assoc (crc32_entry 40 a3) (crc32_entry 40 b3) e4) ∙ ap (λ t. bit_xor t e4) m3 in
+    let s2 : bit_xor y1 z1 ≡ bit_xor x2 (bit_xor x3 e4) =
+    swap (crc32_entry 48 a2) (crc32_entry 40 a3) (crc32_entry 48 b2) z2 ∙ ap₂ (λ x y. bit_xor x y) m2 s3 in
+    let s1 : bit_xor y0 z0 ≡ bit_xor x1 (bit_xor x2 (bit_xor x3 e4)) = swap (crc32_entry 56 a1) y1 (crc32_entry 56 b1) z1 ∙ ap₂ (λ x y. bit_xor x y) m1 s2 in
+    let s0 : bit_xor (bit_xor (crc32_entry 64 a0) y0) (bit_xor (crc32_entry 64 b0) z0) ≡ bit_xor x0 (bit_xor x1 (bit_xor x2 (bit_xor x3 e4))) =
+    swap (crc32_entry 64 a0) y0 (crc32_entry 64 b0) z0 ∙ ap₂ (λ x y. bit_xor x y) m0 s1 in
+    let c1 : ℕ = bit_xor x0 x1 in
+    let c2 : ℕ = bit_xor c1 x2 in
+    let c3 : ℕ = bit_xor c2 x3 in
+    let c4 : ℕ = bit_xor c3 x4 in
+    let c5 : ℕ = bit_xor c4 x5 in
+    let c6 : ℕ = bit_xor c5 x6 in
+    sym (run_is (b0 ∷ b1 ∷ b2 ∷ b3 ∷ b4 ∷ b5 ∷ b6 ∷ b7 ∷ []) r small all
+    ∙ ap (λ t. bit_xor t (bit_xor (crc32_entry 64 b0) z0)) (register_is r small)
+    ∙ s0
+    ∙ sym (xor_assoc x0 x1 (bit_xor x2 (bit_xor x3 e4)))
+    ∙ sym (xor_assoc c1 x2 (bit_xor x3 e4))
+    ∙ sym (xor_assoc c2 x3 e4)
+    ∙ sym (xor_assoc c3 x4 e5)
+    ∙ sym (xor_assoc c4 x5 e6)
+    ∙ sym (xor_assoc c5 x6 e7)
+    ∙ ap (λ t. bit_xor c6 t) (xor_zero_r x7))
+
+-- the entries of eight bytes, those of the register added to the first four
+abbrev pub sum_of_entries : List ℕ → List ℕ → ℕ
+sum_of_entries own eight =
+    bit_xor (bit_xor (bit_xor (bit_xor (bit_xor (bit_xor (bit_xor
+    (crc32_entry 64 (bit_xor (get_or own 0 0) (get_or eight 0 0)))
+    (crc32_entry 56 (bit_xor (get_or own 1 0) (get_or eight 1 0))))
+    (crc32_entry 48 (bit_xor (get_or own 2 0) (get_or eight 2 0))))
+    (crc32_entry 40 (bit_xor (get_or own 3 0) (get_or eight 3 0))))
+    (crc32_entry 32 (get_or eight 4 0))) (crc32_entry 24 (get_or eight 5 0))) (crc32_entry 16 (get_or eight 6 0))) (crc32_entry 8 (get_or eight 7 0))
+
+-- the register after eight bytes
+pub eight_run : (r : ℕ) (own eight : List ℕ) → r < 2 ^ 32 → own ≡ r / 2 ^ 24 % 2 ^ 8 ∷ r / 2 ^ 16 % 2 ^ 8 ∷ r / 2 ^ 8 % 2 ^ 8 ∷ r % 2 ^ 8 ∷ []
+    → length eight ≡ 8 → AreBytes eight → sum_of_entries own eight ≡ crc32_run r eight
+eight_run r own eight small its_bytes long all =
+    let spelled = eight_is eight long in
+    ap (λ l. sum_of_entries l eight) its_bytes
+    ∙ by_entries r (get_or eight 0 0) (get_or eight 1 0) (get_or eight 2 0) (get_or eight 3 0) (get_or eight 4 0) (get_or eight 5 0) (get_or eight 6 0) (get_or eight 7 0) small (subst (λ l. AreBytes l) spelled all)
+    ∙ ap (λ l. crc32_run r l) (sym spelled)
