@@ -11,30 +11,34 @@ use Rattle.crc_unit.specs.Entry.{crc32_entry}
 use Rattle.crc_unit.proofs.Steps.{steps_low}
 use Rattle.crc_unit.proofs.Chunks.{eight_is}
 
+-- shifts of a register of CRC_32
+abbrev shifts : ℕ → ℕ → ℕ
+shifts n r = register_steps 31 0x04C1_1DB7 n r
+
 -- shifts and then more shifts
-steps-add : (n m r : ℕ) → register_steps 31 0x04C1_1DB7 (n + m) r ≡ register_steps 31 0x04C1_1DB7 m (register_steps 31 0x04C1_1DB7 n r)
+steps-add : (n m r : ℕ) → shifts (n + m) r ≡ shifts m (shifts n r)
 steps-add zero m r =
-    let e : zero + m ≡ m = omega arith in
-    ap (λ t. register_steps 31 0x04C1_1DB7 t r) e ∙ ap (λ t. register_steps 31 0x04C1_1DB7 m t) (sym (steps_none 31 0x04C1_1DB7 r))
+    let count : zero + m ≡ m = omega arith in
+    ap (λ t. shifts t r) count ∙ ap (λ t. shifts m t) (sym (steps_none 31 0x04C1_1DB7 r))
 steps-add (suc n) m r =
-    let e : suc n + m ≡ suc (n + m) = omega arith in
-    ap (λ t. register_steps 31 0x04C1_1DB7 t r) e
+    let count : suc n + m ≡ suc (n + m) = omega arith in
+    ap (λ t. shifts t r) count
     ∙ steps_more 31 0x04C1_1DB7 (n + m) r
     ∙ steps-add n m (register_step 31 0x04C1_1DB7 r)
-    ∙ ap (λ t. register_steps 31 0x04C1_1DB7 m t) (sym (steps_more 31 0x04C1_1DB7 n r))
+    ∙ ap (λ t. shifts m t) (sym (steps_more 31 0x04C1_1DB7 n r))
 
 -- the entry of a sum is the sum of the entries
 entry-xor : (n x y : ℕ) → x < 2 ^ 8 → y < 2 ^ 8 → crc32_entry n (bit_xor x y) ≡ bit_xor (crc32_entry n x) (crc32_entry n y)
 unfolding crc32_entry
-entry-xor n x y hx hy =
-    let zx : x * 2 ^ 24 ≡ x * 2 ^ 24 + 0 = omega arith in
-    let zy : y * 2 ^ 24 ≡ y * 2 ^ 24 + 0 = omega arith in
-    let fx : x * 2 ^ 24 < 2 ^ 32 = omega arith in
-    let fy : y * 2 ^ 24 < 2 ^ 32 = omega arith in
+entry-xor n x y x_fits y_fits =
+    let x_alone : x * 2 ^ 24 ≡ x * 2 ^ 24 + 0 = omega arith in
+    let y_alone : y * 2 ^ 24 ≡ y * 2 ^ 24 + 0 = omega arith in
+    let x_small : x * 2 ^ 24 < 2 ^ 32 = omega arith in
+    let y_small : y * 2 ^ 24 < 2 ^ 32 = omega arith in
     let none : bit_xor x y * 2 ^ 24 + 0 ≡ bit_xor x y * 2 ^ 24 = omega arith in
     let moved : bit_xor (x * 2 ^ 24) (y * 2 ^ 24) ≡ bit_xor x y * 2 ^ 24 =
-    ap₂ (λ a b. bit_xor a b) zx zy ∙ xor_block 24 x y 0 0 (lit< tt) (lit< tt) ∙ none in
-    ap (λ t. register_steps 31 0x04C1_1DB7 n t) (sym moved) ∙ steps_xor 31 0x04C1_1DB7 n (x * 2 ^ 24) (y * 2 ^ 24) fx fy (lit< tt)
+    ap₂ (λ a b. bit_xor a b) x_alone y_alone ∙ xor_block 24 x y 0 0 (lit< tt) (lit< tt) ∙ none in
+    ap (λ t. shifts n t) (sym moved) ∙ steps_xor 31 0x04C1_1DB7 n (x * 2 ^ 24) (y * 2 ^ 24) x_small y_small (lit< tt)
 
 -- the entries of bytes, each with the shifts for the bytes behind it, added
 abbrev entries : List ℕ → ℕ
@@ -43,71 +47,70 @@ entries (b ∷ rest) = bit_xor (crc32_entry (8 + 8 * length rest) b) (entries re
 
 -- one byte, and the shifts for the bytes behind it
 byte_behind : (r b m : ℕ) → r < 2 ^ 32 → b < 2 ^ 8
-    → register_steps 31 0x04C1_1DB7 m (crc32_byte r b) ≡ bit_xor (register_steps 31 0x04C1_1DB7 (8 + m) r) (crc32_entry (8 + m) b)
+    → shifts m (crc32_byte r b) ≡ bit_xor (shifts (8 + m) r) (crc32_entry (8 + m) b)
 unfolding crc32_byte crc32_entry
-byte_behind r b m hr hb =
-    let fb : b * 2 ^ 24 < 2 ^ 32 = omega arith in
-    sym (steps-add 8 m (bit_xor r (b * 2 ^ 24))) ∙ steps_xor 31 0x04C1_1DB7 (8 + m) r (b * 2 ^ 24) hr fb (lit< tt)
+byte_behind r b m small fits =
+    let moved_fits : b * 2 ^ 24 < 2 ^ 32 = omega arith in
+    sym (steps-add 8 m (bit_xor r (b * 2 ^ 24))) ∙ steps_xor 31 0x04C1_1DB7 (8 + m) r (b * 2 ^ 24) small moved_fits (lit< tt)
 
 -- the register after bytes: its own shifts and the bytes' entries
 run_is : (bytes : List ℕ) (r : ℕ) → r < 2 ^ 32 → AreBytes bytes
-    → crc32_run r bytes ≡ bit_xor (register_steps 31 0x04C1_1DB7 (8 * length bytes) r) (entries bytes)
-run_is [] r small all = sym (xor_zero_r (register_steps 31 0x04C1_1DB7 0 r) ∙ steps_none 31 0x04C1_1DB7 r)
+    → crc32_run r bytes ≡ bit_xor (shifts (8 * length bytes) r) (entries bytes)
+run_is [] r small all = sym (xor_zero_r (shifts 0 r) ∙ steps_none 31 0x04C1_1DB7 r)
 run_is (b ∷ rest) r small all =
     let fits : b < 2 ^ 8 = all 0 0 (omega arith) in
     let next = crc32_byte_is r b small fits in
-    let e : 8 + 8 * length rest ≡ 8 * suc (length rest) = omega arith in
-    run_is rest (crc32_byte r b) (next.1) (λ i d lt. all (suc i) d (omega arith))
+    let count : 8 + 8 * length rest ≡ 8 * suc (length rest) = omega arith in
+    run_is rest (crc32_byte r b) (next.1) (λ i d within. all (suc i) d (omega arith))
     ∙ ap (λ t. bit_xor t (entries rest)) (byte_behind r b (8 * length rest) small fits)
-    ∙ xor_assoc (register_steps 31 0x04C1_1DB7 (8 + 8 * length rest) r) (crc32_entry (8 + 8 * length rest) b) (entries rest)
-    ∙ ap (λ t. bit_xor (register_steps 31 0x04C1_1DB7 t r) (entries (b ∷ rest))) e
+    ∙ xor_assoc (shifts (8 + 8 * length rest) r) (crc32_entry (8 + 8 * length rest) b) (entries rest)
+    ∙ ap (λ t. bit_xor (shifts t r) (entries (b ∷ rest))) count
 
 -- shifts that first move a byte to the highest bits
-entry_low : (n m p x : ℕ) → p * 2 ^ m ≡ 2 ^ 24 → x < 2 ^ 8 → register_steps 31 0x04C1_1DB7 (m + n) (x * p) ≡ crc32_entry n x
+entry_low : (n m p x : ℕ) → p * 2 ^ m ≡ 2 ^ 24 → x < 2 ^ 8 → shifts (m + n) (x * p) ≡ crc32_entry n x
 unfolding crc32_entry
-entry_low n m p x e fits =
-    let moved : x * p * 2 ^ m ≡ x * 2 ^ 24 = (grind arith) ∙ ap (λ t. x * t) e in
+entry_low n m p x whole fits =
+    let moved : x * p * 2 ^ m ≡ x * 2 ^ 24 = (grind arith) ∙ ap (λ t. x * t) whole in
     let small : x * 2 ^ 24 < 2 ^ 32 = omega arith in
     steps-add m n (x * p)
-    ∙ ap (λ t. register_steps 31 0x04C1_1DB7 n t) (steps_low 31 0x04C1_1DB7 m (x * p) (subst (λ t. t < 2 ^ 32) (sym moved) small) ∙ moved)
+    ∙ ap (λ t. shifts n t) (steps_low 31 0x04C1_1DB7 m (x * p) (subst (λ t. t < 2 ^ 32) (sym moved) small) ∙ moved)
 
 -- 64 shifts of a register are the entries of its four bytes, added
 register_is : (r : ℕ) → r < 2 ^ 32
-    → register_steps 31 0x04C1_1DB7 64 r
+    → shifts 64 r
     ≡ bit_xor (crc32_entry 64 (r / 2 ^ 24 % 2 ^ 8)) (bit_xor (crc32_entry 56 (r / 2 ^ 16 % 2 ^ 8)) (bit_xor (crc32_entry 48 (r / 2 ^ 8 % 2 ^ 8)) (crc32_entry 40 (r % 2 ^ 8))))
 register_is r small =
-    let a : ℕ = r / 2 ^ 24 % 2 ^ 8 in
-    let b : ℕ = r / 2 ^ 16 % 2 ^ 8 in
-    let c : ℕ = r / 2 ^ 8 % 2 ^ 8 in
-    let d : ℕ = r % 2 ^ 8 in
-    let fa : a < 2 ^ 8 = omega arith in
-    let fb : b < 2 ^ 8 = omega arith in
-    let fc : c < 2 ^ 8 = omega arith in
-    let fd : d < 2 ^ 8 = omega arith in
-    let low2 : ℕ = c * 2 ^ 8 + d in
-    let low3 : ℕ = b * 2 ^ 16 + low2 in
-    let parts : r ≡ a * 2 ^ 24 + low3 = omega arith in
-    let f2 : low2 < 2 ^ 16 = omega arith in
-    let f3 : low3 < 2 ^ 24 = omega arith in
-    let g2 : low2 < 2 ^ 32 = omega arith in
-    let g3 : low3 < 2 ^ 32 = omega arith in
-    let gd : d < 2 ^ 32 = omega arith in
-    let ga : a * 2 ^ 24 < 2 ^ 32 = omega arith in
-    let gb : b * 2 ^ 16 < 2 ^ 32 = omega arith in
-    let gc : c * 2 ^ 8 < 2 ^ 32 = omega arith in
-    let one : d ≡ d * 1 = omega arith in
-    let none : a * 2 ^ 24 ≡ a * 2 ^ 24 * 1 = omega arith in
-    let last : register_steps 31 0x04C1_1DB7 64 low2 ≡ bit_xor (crc32_entry 48 c) (crc32_entry 40 d) =
-    ap (λ t. register_steps 31 0x04C1_1DB7 64 t) (sym (xor_shifted c 8 d fd))
-    ∙ steps_xor 31 0x04C1_1DB7 64 (c * 2 ^ 8) d gc gd (lit< tt)
-    ∙ ap₂ (λ x y. bit_xor x y) (entry_low 48 16 (2 ^ 8) c refl fc) (ap (λ t. register_steps 31 0x04C1_1DB7 64 t) one ∙ entry_low 40 24 1 d refl fd) in
-    let lower : register_steps 31 0x04C1_1DB7 64 low3 ≡ bit_xor (crc32_entry 56 b) (bit_xor (crc32_entry 48 c) (crc32_entry 40 d)) =
-    ap (λ t. register_steps 31 0x04C1_1DB7 64 t) (sym (xor_shifted b 16 low2 f2))
-    ∙ steps_xor 31 0x04C1_1DB7 64 (b * 2 ^ 16) low2 gb g2 (lit< tt)
-    ∙ ap₂ (λ x y. bit_xor x y) (entry_low 56 8 (2 ^ 16) b refl fb) last in
-    ap (λ t. register_steps 31 0x04C1_1DB7 64 t) (parts ∙ sym (xor_shifted a 24 low3 f3))
-    ∙ steps_xor 31 0x04C1_1DB7 64 (a * 2 ^ 24) low3 ga g3 (lit< tt)
-    ∙ ap₂ (λ x y. bit_xor x y) (entry_low 64 0 (2 ^ 24) a refl fa) lower
+    let top : ℕ = r / 2 ^ 24 % 2 ^ 8 in
+    let second : ℕ = r / 2 ^ 16 % 2 ^ 8 in
+    let third : ℕ = r / 2 ^ 8 % 2 ^ 8 in
+    let last : ℕ = r % 2 ^ 8 in
+    let top_fits : top < 2 ^ 8 = omega arith in
+    let second_fits : second < 2 ^ 8 = omega arith in
+    let third_fits : third < 2 ^ 8 = omega arith in
+    let last_fits : last < 2 ^ 8 = omega arith in
+    let two : ℕ = third * 2 ^ 8 + last in
+    let three : ℕ = second * 2 ^ 16 + two in
+    let parts : r ≡ top * 2 ^ 24 + three = omega arith in
+    let two_fit : two < 2 ^ 16 = omega arith in
+    let three_fit : three < 2 ^ 24 = omega arith in
+    let two_small : two < 2 ^ 32 = omega arith in
+    let three_small : three < 2 ^ 32 = omega arith in
+    let last_small : last < 2 ^ 32 = omega arith in
+    let top_small : top * 2 ^ 24 < 2 ^ 32 = omega arith in
+    let second_small : second * 2 ^ 16 < 2 ^ 32 = omega arith in
+    let third_small : third * 2 ^ 8 < 2 ^ 32 = omega arith in
+    let one : last ≡ last * 1 = omega arith in
+    let two_is : shifts 64 two ≡ bit_xor (crc32_entry 48 third) (crc32_entry 40 last) =
+    ap (λ t. shifts 64 t) (sym (xor_shifted third 8 last last_fits))
+    ∙ steps_xor 31 0x04C1_1DB7 64 (third * 2 ^ 8) last third_small last_small (lit< tt)
+    ∙ ap₂ (λ x y. bit_xor x y) (entry_low 48 16 (2 ^ 8) third refl third_fits) (ap (λ t. shifts 64 t) one ∙ entry_low 40 24 1 last refl last_fits) in
+    let three_is : shifts 64 three ≡ bit_xor (crc32_entry 56 second) (bit_xor (crc32_entry 48 third) (crc32_entry 40 last)) =
+    ap (λ t. shifts 64 t) (sym (xor_shifted second 16 two two_fit))
+    ∙ steps_xor 31 0x04C1_1DB7 64 (second * 2 ^ 16) two second_small two_small (lit< tt)
+    ∙ ap₂ (λ x y. bit_xor x y) (entry_low 56 8 (2 ^ 16) second refl second_fits) two_is in
+    ap (λ t. shifts 64 t) (parts ∙ sym (xor_shifted top 24 three three_fit))
+    ∙ steps_xor 31 0x04C1_1DB7 64 (top * 2 ^ 24) three top_small three_small (lit< tt)
+    ∙ ap₂ (λ x y. bit_xor x y) (entry_low 64 0 (2 ^ 24) top refl top_fits) three_is
 
 -- two sums, added place by place
 swap : (a b x y : ℕ) → bit_xor (bit_xor a b) (bit_xor x y) ≡ bit_xor (bit_xor a x) (bit_xor b y)

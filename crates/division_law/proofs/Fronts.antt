@@ -30,17 +30,17 @@ length-added (x ∷ d) (y ∷ l) = ap (λ n. suc n) (length-added d l)
 
 -- a sum onto a sum, the first no longer than the second
 pub added-added : (d s l : List Bool) → length d ≤ length s → added_front d (added_front s l) ≡ added_front (added_front d s) l
-added-added [] s l h = refl
-added-added (x ∷ d) [] l h = absurd (omega arith)
-added-added (x ∷ d) (y ∷ s) [] h = refl
-added-added (x ∷ d) (y ∷ s) (z ∷ l) h = ap₂ (λ (a : Bool) (t : List Bool). a ∷ t) (sum_assoc x y z) (added-added d s l (omega arith))
+added-added [] s l long = refl
+added-added (x ∷ d) [] l long = absurd (omega arith)
+added-added (x ∷ d) (y ∷ s) [] long = refl
+added-added (x ∷ d) (y ∷ s) (z ∷ l) long = ap₂ (λ (a : Bool) (t : List Bool). a ∷ t) (sum_assoc x y z) (added-added d s l (omega arith))
 
 -- of two lines of one length either may be the front
 pub added_comm : (a b : List Bool) → length a ≡ length b → added_front a b ≡ added_front b a
-added_comm [] [] h = refl
-added_comm [] (y ∷ b) h = absurd (omega arith)
-added_comm (x ∷ a) [] h = absurd (omega arith)
-added_comm (x ∷ a) (y ∷ b) h = ap₂ (λ (a : Bool) (t : List Bool). a ∷ t) (sum_comm x y) (added_comm a b (omega arith))
+added_comm [] [] long = refl
+added_comm [] (y ∷ b) long = absurd (omega arith)
+added_comm (x ∷ a) [] long = absurd (omega arith)
+added_comm (x ∷ a) (y ∷ b) long = ap₂ (λ (a : Bool) (t : List Bool). a ∷ t) (sum_comm x y) (added_comm a b (omega arith))
 
 -- a 0 behind the front changes nothing
 pub added_end : (s l : List Bool) → added_front (s ++ false ∷ []) l ≡ added_front s l
@@ -63,20 +63,20 @@ added_behind n (x ∷ s) (y ∷ l) = ap (λ t. bit_sum x y ∷ t) (added_behind 
 
 -- onto as many zeros as the front is long, the sum is the front
 pub onto_zeros : (n : ℕ) (s : List Bool) → length s ≡ n → added_front s (replicate n false) ≡ s
-onto_zeros zero [] h = refl
-onto_zeros zero (x ∷ s) h = absurd (omega arith)
-onto_zeros (suc n) [] h = absurd (omega arith)
-onto_zeros (suc n) (x ∷ s) h = ap₂ (λ (a : Bool) (t : List Bool). a ∷ t) (sum_false x) (onto_zeros n s (omega arith))
+onto_zeros zero [] long = refl
+onto_zeros zero (x ∷ s) long = absurd (omega arith)
+onto_zeros (suc n) [] long = absurd (omega arith)
+onto_zeros (suc n) (x ∷ s) long = ap₂ (λ (a : Bool) (t : List Bool). a ∷ t) (sum_false x) (onto_zeros n s (omega arith))
 
 -- onto a line of zeros the front and then zeros
 pub onto_more_zeros : (n m : ℕ) (s : List Bool) → length s ≡ n → added_front s (replicate n false ++ replicate m false) ≡ s ++ replicate m false
-onto_more_zeros zero m [] h = refl
-onto_more_zeros zero m (x ∷ s) h = absurd (omega arith)
-onto_more_zeros (suc n) m [] h = absurd (omega arith)
-onto_more_zeros (suc n) m (x ∷ s) h = ap₂ (λ (a : Bool) (t : List Bool). a ∷ t) (sum_false x) (onto_more_zeros n m s (omega arith))
+onto_more_zeros zero m [] long = refl
+onto_more_zeros zero m (x ∷ s) long = absurd (omega arith)
+onto_more_zeros (suc n) m [] long = absurd (omega arith)
+onto_more_zeros (suc n) m (x ∷ s) long = ap₂ (λ (a : Bool) (t : List Bool). a ∷ t) (sum_false x) (onto_more_zeros n m s (omega arith))
 
 -- a front of the line moved into what is added
 pub added_moved : (s b rest : List Bool) → length b ≤ length s → added_front s (b ++ rest) ≡ added_front (added_front b s) (replicate (length b) false ++ rest)
-added_moved s [] rest h = refl
-added_moved [] (y ∷ b) rest h = absurd (omega arith)
-added_moved (x ∷ s) (y ∷ b) rest h = ap₂ (λ (a : Bool) (t : List Bool). a ∷ t) (sum_comm x y ∙ sym (sum_false (bit_sum y x))) (added_moved s b rest (omega arith))
+added_moved s [] rest long = refl
+added_moved [] (y ∷ b) rest long = absurd (omega arith)
+added_moved (x ∷ s) (y ∷ b) rest long = ap₂ (λ (a : Bool) (t : List Bool). a ∷ t) (sum_comm x y ∙ sym (sum_false (bit_sum y x))) (added_moved s b rest (omega arith))

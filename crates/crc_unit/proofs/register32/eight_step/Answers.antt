@@ -26,5 +26,5 @@ returns c =
     let e5 : c.entry_of-6.result ≡ crc32_entry 24 (get_or eight 5 0) = c.entry_of-6.ensures ∙ after_24 (get_or eight 5 0) (c.fits-eight 5) in
     let e6 : c.entry_of-7.result ≡ crc32_entry 16 (get_or eight 6 0) = c.entry_of-7.ensures ∙ after_16 (get_or eight 6 0) (c.fits-eight 6) in
     let e7 : c.entry_of-8.result ≡ crc32_entry 8 (get_or eight 7 0) = c.entry_of-8.ensures ∙ after_8 (get_or eight 7 0) (c.fits-eight 7) in
-    ap₂ (λ x y. bit_xor x y) (ap₂ (λ x y. bit_xor x y) (ap₂ (λ x y. bit_xor x y) (ap₂ (λ x y. bit_xor x y) (ap₂ (λ x y. bit_xor x y) (ap₂ (λ x y. bit_xor x y) (ap₂ (λ x y. bit_xor x y) (e0) e1) e2) e3) e4) e5) e6) e7
+    ap₂ (λ x y. bit_xor x y) (ap₂ (λ x y. bit_xor x y) (ap₂ (λ x y. bit_xor x y) (ap₂ (λ x y. bit_xor x y) (ap₂ (λ x y. bit_xor x y) (ap₂ (λ x y. bit_xor x y) (ap₂ (λ x y. bit_xor x y) e0 e1) e2) e3) e4) e5) e6) e7
     ∙ eight_run r own eight small c.to_be_bytes-own.ensures c.told-eight all
