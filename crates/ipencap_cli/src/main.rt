@@ -1,0 +1,70 @@
+//! The program: the real objects of the outside, handed to the engine.
+//!
+//! The words behind the program's name and standard input come in; files of the current folder, a line on standard
+//! error and the exit status go out. Begin with `run` of ipencap_engine.
+#![tactic(auto)]
+
+use ipe_io::{FileRack, FileShelf, OutOfMemory, Sink, StdSink, StdSource};
+use ipencap_engine::{Status, run};
+use std::env;
+use std::process::ExitCode;
+
+fn main(rt: HostRuntime) -> ExitCode {
+    match work(rt) {
+        Ok(status) => ExitCode::from(number_of(status)),
+        Err(OutOfMemory) => {
+            let _ = eprintln!(rt; "ipencap: out of memory");
+            ExitCode::from(number_of(Status::OutOfMemory))
+        }
+    }
+}
+
+/// Runs the engine, and then writes out all that the real objects still hold, whatever the status.
+fn work(rt: HostRuntime) -> Result<Status, OutOfMemory> {
+    let alloc = rt.alloc();
+    let words = words_of(&rt)?;
+    let mut shelf = FileShelf::new(rt);
+    let mut input = StdSource::new(alloc, rt.reader())?;
+    let mut output = StdSink::buffered(alloc, rt.stdout())?;
+    let mut rack = FileRack::new(alloc, rt);
+    let mut complaints = StdSink::new(rt.stderr());
+    let status = run(
+        alloc,
+        &words,
+        &mut shelf,
+        &mut input,
+        &mut output,
+        &mut rack,
+        &mut complaints,
+    );
+    let _ = rack.flush_all();
+    let _ = output.flush();
+    Ok(status)
+}
+
+/// The words behind the program's name. Words that are no text form no command.
+fn words_of(rt: &HostRuntime) -> Result<Vec<String>, OutOfMemory> {
+    let mut words = Vec::new(rt.alloc());
+    if let Ok(args) = env::args(rt) {
+        for word in args.skip(1) {
+            words.push(word)?;
+        }
+    }
+    Ok(words)
+}
+
+/// The exit status.
+fn number_of(status: Status) -> u8 {
+    match status {
+        Status::Done => 0,
+        Status::Usage => 2,
+        Status::Settings => 3,
+        Status::Capture => 4,
+        Status::ShelfFault => 5,
+        Status::SourceFault => 6,
+        Status::SinkFault => 7,
+        Status::RackFault => 8,
+        Status::OutOfMemory => 9,
+        Status::TooLong => 10,
+    }
+}

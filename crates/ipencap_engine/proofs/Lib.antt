@@ -1,0 +1,9 @@
+pub mod Texts
+pub mod Units
+pub mod Packets
+pub mod Records
+pub mod Lines
+pub mod Adding
+pub mod Advance
+pub mod Cuts
+pub mod Commands

@@ -1,0 +1,15 @@
+//! The engine: what the program does, over the objects of the outside that it is handed.
+//!
+//! Receiving: recording -> ts_record -> ts_packet -> ule_unit -> datagrams -> pcap_file -> rack.
+//! Begin with `run`.
+#![tactic(auto)]
+
+mod delivery;
+mod reception;
+mod status;
+mod top;
+mod ule;
+mod words;
+
+pub use status::Status;
+pub use top::run;
