@@ -1,7 +1,7 @@
 -- Reassembly of units from the received packets of one PID (ISO/IEC 13818-1 clause 2.4.4, RFC 4326 section 7).
-use Rattle.std.specs.Prelude.{ℕ, zero, suc, ◌+◌, Bool, false, ◌&&◌, ◌||◌, List, [], ◌∷◌, ◌++◌, take, drop, length, ◌==◌, nat_lt, nat_le, if◌then◌else◌, flat_map}
+use Rattle.std.specs.Prelude.{ℕ, zero, suc, ◌+◌, Bool, true, false, not, ◌&&◌, ◌||◌, List, [], ◌∷◌, ◌++◌, take, drop, length, ◌==◌, nat_lt, nat_le, if◌then◌else◌, flat_map}
 use Rattle.ts_spec.specs.Form.{UnitForm, Span, more, stuffing, whole, bad}
-use Rattle.ts_spec.specs.Packet.{PacketFields, pointer, pointer_fits}
+use Rattle.ts_spec.specs.Packet.{PacketFields, continues, pointer, pointer_fits}
 use Rattle.ts_spec.specs.Recording.{Record}
 use Rattle.ts_spec.specs.Received.{Arrival, packet_of, received_packets}
 
@@ -40,9 +40,32 @@ pub record Given : Type 0 where
 abbrev pub all_of : Given → List ℕ
 all_of given = given.payloads ++ given.rest
 
--- the payload from the start on: for now a unit is read where it lies whole in one packet, whatever is behind
+-- one payload more in front
+abbrev pub with_payload : List ℕ → Given → Given
+with_payload payload given = record { payloads = payload ++ given.payloads; rest = given.rest; is_ended = given.is_ended }
+
+-- ended by a packet that gives nothing
+abbrev pub ended_by : PacketFields → Given
+ended_by packet = record { payloads = []; rest = []; is_ended = not packet.starts || pointer_fits packet }
+
+-- what a continuous packet gives: its payload and what is behind it; with the start indicator its pointer's bytes alone
+abbrev pub given_by : PacketFields → Given → Given
+given_by packet behind =
+    if packet.starts then
+    (if pointer_fits packet
+    then record { payloads = []; rest = take (pointer packet) (drop 1 packet.payload); is_ended = true }
+    else ended_by packet)
+    else with_payload packet.payload behind
+
+abbrev pub given_behind : PacketFields → List Arrival → Given
+given_behind before [] = record { payloads = []; rest = []; is_ended = false }
+given_behind before (arrival ∷ behind) =
+    if continues before (packet_of arrival) then given_by (packet_of arrival) (given_behind (packet_of arrival) behind)
+    else ended_by (packet_of arrival)
+
+-- the payload from the start on, then what the packets behind give
 abbrev pub bytes_from : ℕ → PacketFields → List Arrival → Given
-bytes_from start packet behind = record { payloads = drop start packet.payload; rest = []; is_ended = false }
+bytes_from start packet behind = with_payload (drop start packet.payload) (given_behind packet behind)
 
 -- Outcomes of a start.
 
