@@ -1,0 +1,4 @@
+pub mod UnderWay
+pub mod Records
+pub mod Starts
+pub mod Examples
