@@ -1,0 +1,22 @@
+-- What a joiner's value tells of its parts.
+use Rattle.std.proofs.Common.{◌≡◌, ℕ, List, refl, Option}
+use Rattle.reassembly_law.specs.UnderWay.{Open}
+use Rattle.unit_stream.specs.Joining.{Place, JoinerState, drained, giving, reading}
+use Rattle.unit_stream.specs.States.{opens_in, rest_of, ended_state, state_in}
+use Rattle.unit_stream.specs.declared.joining.UnderWay.{UnderWay}
+use Rattle.unit_stream.specs.declared.joining.Ended.{Ended}
+use Rattle.unit_stream.specs.declared.joining.Ended.TheVariants as how
+use Rattle.unit_stream.specs.declared.joining.State.{State}
+use Rattle.unit_stream.specs.declared.joining.State.TheVariants as now
+
+-- a value with all events given is that of a state with all events given
+pub drained_is : (state : State) (buffer : List ℕ) (units : List Open) → state_in state buffer ≡ drained units
+    → (under_way : Option UnderWay) × (state ≡ now.Drained under_way)
+drained_is (now.Drained under_way) buffer units e = (under_way, refl)
+drained_is (now.Reading position) buffer units e = absurd (cc)
+drained_is (now.Ended way rest) buffer units e = absurd (not_drained way (rest_of rest) e)
+  where
+    not_drained : (way : Ended) (rest : Option Place) → ended_state way rest buffer ≡ drained units → ⊥
+    not_drained (how.Unit unit) rest e2 = cc
+    not_drained how.Delimit rest e2 = cc
+    not_drained how.BadLength rest e2 = cc

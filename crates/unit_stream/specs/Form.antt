@@ -1,0 +1,10 @@
+-- What the code tells of the unit at the front of some bytes.
+use Rattle.ts_spec.specs.Form.{Span as FormSpan, more, stuffing, whole, bad}
+use Rattle.unit_stream.specs.declared.form.Span.{Span}
+use Rattle.unit_stream.specs.declared.form.Span.TheVariants as told
+
+abbrev pub span_told : Span → FormSpan
+span_told told.More = more
+span_told told.Stuffing = stuffing
+span_told (told.Whole size) = whole size
+span_told told.Bad = bad

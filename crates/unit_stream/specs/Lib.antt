@@ -1,0 +1,4 @@
+pub mod Form
+pub mod Joining
+pub mod States
+pub mod Steps

@@ -1,0 +1,15 @@
+//! Units in transport packets: packetization and reassembly (ISO/IEC 13818-1 clause 2.4.4, RFC 4326).
+//!
+//! Sending: section_codec or ule_unit -> [unit_stream] -> ts_packet.
+//! Receiving: ts_packet -> [unit_stream] -> section_codec or ule_unit.
+//! Begin with `Packer::next`, and with `Joiner::feed` and `Joiner::next`.
+#![tactic(auto)]
+
+mod form;
+mod joiner;
+mod joining;
+mod reading;
+
+pub use form::{Span, UnitForm};
+pub use joiner::Joiner;
+pub use reading::JoinEvent;
