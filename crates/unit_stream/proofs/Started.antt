@@ -1,5 +1,5 @@
 -- What the bytes at a place of a payload make of the events from there on.
-use Rattle.std.proofs.Common.{◌≡◌, ◌⊎◌, inl, inr, ℕ, ◌+◌, ◌<◌, ◌≤◌, Bool, true, false, cond, leb, ltb, List, [], ◌∷◌, ◌++◌, length, take, drop, flat_map, refl, ap, sym, ◌∙◌, subst, arith, Option, None, Some}
+use Rattle.std.proofs.Common.{◌≡◌, ◌⊎◌, inl, inr, ℕ, ◌+◌, ◌<◌, ◌≤◌, Bool, true, false, cond, leb, ltb, List, [], ◌∷◌, ◌++◌, length, take, drop, flat_map, refl, ap, sym, ◌∙◌, subst, arith, length-drop, Option, None, Some}
 use Rattle.std.proofs.lemmas.List.{append-nil}
 use Rattle.ts_spec.specs.Form.{UnitForm, Span, more, stuffing, whole, bad, IsLawful}
 use Rattle.ts_spec.specs.Packet.{PacketFields}
@@ -62,6 +62,7 @@ module _ (form : UnitForm) (lawful : IsLawful form) (packet : PacketFields) (pla
     events = ap (flat_map event_there) none;
     under_way = ap (flat_map open_there) none;
     at_end = λ _. ap drained (sym (ap (flat_map open_there) none));
+    falls = λ some. absurd (cc);
   }
 
   -- no unit starts there
@@ -83,6 +84,7 @@ module _ (form : UnitForm) (lawful : IsLawful form) (packet : PacketFields) (pla
             ∙ ap (event_by form place.moment) (outcome_there is ∙ ap (λ (s : Span). told_by s bytes) told);
         under_way = ap (flat_map open_there) one ∙ append-nil (open_there place.at) ∙ open_is true is;
         at_end = λ none. absurd (cc);
+        falls = λ _. omega arith;
       }
 
   -- a unit of which all bytes lie there: reading goes on behind it
@@ -93,6 +95,7 @@ module _ (form : UnitForm) (lawful : IsLawful form) (packet : PacketFields) (pla
           starts_by (whole size) enough told
           ∙ ap (λ (b : Bool). place.at ∷ cond b (starts_from form packet.payload (place.at + size)) []) (leb_true size (length bytes) within) in
       let is : is_told (form.span bytes) (length bytes) ≡ true = ap (λ (s : Span). is_told s (length bytes)) told ∙ leb_true size (length bytes) within in
+      let least : 1 ≤ size = omega (arith, lawful.whole_least bytes size told, lawful.start_least) in
       record {
         events = ap (flat_map event_there) more_starts
             ∙ ap (λ (t : Outcome). event_by form place.moment t ++ flat_map event_there (starts_from form packet.payload (place.at + size)))
@@ -100,6 +103,7 @@ module _ (form : UnitForm) (lawful : IsLawful form) (packet : PacketFields) (pla
         under_way = ap (flat_map open_there) more_starts
             ∙ ap (λ (t : List Open). t ++ flat_map open_there (starts_from form packet.payload (place.at + size))) (open_is true is);
         at_end = λ none. absurd (cc);
+        falls = λ _. omega (arith, least, ap length there, length-drop place.at packet.payload);
       }
 
   -- a unit that goes on in the next packet
@@ -113,6 +117,7 @@ module _ (form : UnitForm) (lawful : IsLawful form) (packet : PacketFields) (pla
         events = ap (flat_map event_there) one ∙ append-nil (event_there place.at) ∙ no_outcome_there untold;
         under_way = opened;
         at_end = λ _. ap drained (sym opened);
+        falls = λ some. absurd (cc);
       }
     where
       by_span : (s : Span) → form.span bytes ≡ s → is_told s (length bytes) ≡ false → starts_from form packet.payload place.at ≡ place.at ∷ []

@@ -1,5 +1,5 @@
 -- A joiner over the packets that it was fed and the events that it gave.
-use Rattle.std.specs.Prelude.{◌≡◌, ◌⊎◌, ℕ, List, [], ◌∷◌, ◌++◌, flat_map, Option, Some, None}
+use Rattle.std.specs.Prelude.{◌≡◌, ◌⊎◌, ℕ, ◌+◌, ◌-◌, ◌<◌, List, [], ◌∷◌, ◌++◌, length, flat_map, Option, Some, None, IsSome}
 use Rattle.ts_spec.specs.Form.{UnitForm}
 use Rattle.ts_spec.specs.Packet.{PacketFields}
 use Rattle.ts_spec.specs.Received.{Arrival}
@@ -80,3 +80,17 @@ packets_with Repeat packets next = packets
 abbrev pub AfterNext : UnitForm → JoinerState → PacketFields → List Arrival → List Event → Option Event → Type 0
 AfterNext form state packet packets given (Some event) = IsGiving form state packet packets (given ++ event ∷ [])
 AfterNext form state packet packets given None = Stands form state packets × (given ≡ events_of form packets)
+
+-- a number that falls with each event of a payload of this size
+abbrev pub steps_left : ℕ → JoinerState → ℕ
+steps_left size (drained under_way) = 0
+steps_left size (reading place) = 1 + (size - place.at)
+steps_left size (giving moment told None) = 1
+steps_left size (giving moment told (Some place)) = 2 + (size - place.at)
+
+-- what an answer makes of a joiner that was fed a packet last
+pub record Answers (form : UnitForm) (old new : JoinerState) (packet : PacketFields) (event : Option Event) : Type 0 where
+  -- whatever packets it was fed and events it gave
+  pub gives : (packets : List Arrival) (given : List Event) → IsGiving form old packet packets given → AfterNext form new packet packets given event
+  -- so that a loop over the events ends
+  pub falls : IsSome event → steps_left (length packet.payload) new < steps_left (length packet.payload) old

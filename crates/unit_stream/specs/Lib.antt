@@ -2,3 +2,4 @@ pub mod Form
 pub mod Joining
 pub mod States
 pub mod Steps
+pub mod Telling

@@ -1,11 +1,11 @@
 -- What one packet makes of a unit under way.
-use Rattle.std.specs.Prelude.{◌≡◌, ℕ, Bool, true, List, [], ◌∷◌, ◌++◌, take, drop, flat_map, Option, None, option_to_list}
+use Rattle.std.specs.Prelude.{◌≡◌, ℕ, ◌<◌, Bool, true, List, [], ◌∷◌, ◌++◌, length, take, drop, flat_map, Option, None, option_to_list, IsSome}
 use Rattle.ts_spec.specs.Form.{UnitForm}
 use Rattle.ts_spec.specs.Packet.{PacketFields, pointer}
 use Rattle.ts_spec.specs.Reassembly.{outcome_of, bytes_from, unit_starts}
 use Rattle.ts_spec.specs.Events.{Event, event_by, misfit_events}
 use Rattle.reassembly_law.specs.UnderWay.{Open, unless_told, resumed, still_open, IsUnderWay}
-use Rattle.unit_stream.specs.Joining.{Place, JoinerState, drained, events_from, open_from, left_events, left_open, rest_events, rest_open}
+use Rattle.unit_stream.specs.Joining.{Place, JoinerState, drained, reading, steps_left, events_from, open_from, left_events, left_open, rest_events, rest_open}
 
 -- the bytes before the first start
 abbrev pub pointed : PacketFields → List ℕ
@@ -40,3 +40,4 @@ pub record Reads (form : UnitForm) (packet : PacketFields) (place : Place) (even
   pub events : events_from form packet place ≡ option_to_list event ++ left_events form packet state
   pub under_way : open_from form packet place ≡ left_open form packet state
   pub at_end : event ≡ None → state ≡ drained (open_from form packet place)
+  pub falls : IsSome event → steps_left (length packet.payload) state < steps_left (length packet.payload) (reading place)

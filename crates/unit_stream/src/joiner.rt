@@ -39,7 +39,7 @@ impl<F: UnitForm, A: Allocator> Joiner<F, A> {
     ghost use Rattle.ts_spec.specs.Events.{Event, events_of};
     ghost use Rattle.ts_packet.specs.Fields.{fields_in};
     ghost use Rattle.unit_stream.specs.contracts.joiner.Joiner.{the_row};
-    ghost use Rattle.unit_stream.specs.Joining.{Stands, IsGiving, IsLinked, packets_with, AfterNext};
+    ghost use Rattle.unit_stream.specs.Joining.{Stands, IsGiving, IsLinked, packets_with, Answers};
     ghost use Rattle.unit_stream.specs.States.{event_in};
 
     /// A joiner that was fed nothing, over a buffer of LONGEST bytes.
@@ -80,9 +80,7 @@ impl<F: UnitForm, A: Allocator> Joiner<F, A> {
     /// A unit that lies whole in the packet is lent out of the packet, another out of the buffer.
     pub fn next<'u>(&'u mut self, packet: &'u Packet<'_>) -> Option<JoinEvent<'u>>
         ensures* rests { sem 𝓛 (Rests (the_row F.row A.row F.UnitForm A.Allocator) self.entry
-            (λ joiner. (packets : List Arrival) → (given : List Event)
-                → IsGiving F.form self.old (fields_in packet.now) packets given
-                → AfterNext F.form joiner (fields_in packet.now) packets given (option_map event_in result))) }
+            (λ joiner. Answers F.form self.old joiner (fields_in packet.now) (option_map event_in result))) }
     {
         match self.state {
             State::Drained(_) => None,

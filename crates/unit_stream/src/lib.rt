@@ -5,6 +5,8 @@
 //! Begin with `Packer::next`, and with `Joiner::feed` and `Joiner::next`.
 #![tactic(auto)]
 
+#[cfg(test)]
+mod caller;
 mod form;
 mod joiner;
 mod joining;
