@@ -1,4 +1,4 @@
--- What a packet with the start indicator, or one that is not continuous, makes of a unit under way.
+-- What a continuous packet with the start indicator makes of a unit under way.
 use Rattle.std.proofs.Common.{◌≡◌, ◌⊎◌, inl, inr, ℕ, ◌+◌, ◌-◌, ◌<◌, ◌≤◌, Bool, true, false, cond, not, ◌&&◌, ◌||◌, leb, eqb, min, List, [], ◌∷◌, ◌++◌, length, take, drop, flat_map, refl, ap, sym, ◌∙◌, subst, arith, length-append, Option, None, Some}
 use Rattle.std.proofs.lemmas.List.{append-nil, take-append-le, take-append-drop, take_all, length-take, length-take-le, take-take}
 use Rattle.ts_spec.specs.Form.{UnitForm, Span, more, stuffing, whole, bad, IsLawful}
@@ -21,11 +21,6 @@ given_pointed : (bytes : List ℕ) (packet : PacketFields) → packet.starts ≡
 given_pointed bytes packet starts fits =
     ap (λ (b : Bool). with_payload bytes (cond b (cond (pointer_fits packet) (record { payloads = []; rest = pointed packet; is_ended = true }) (ended_by packet)) (with_payload packet.payload nothing_given))) starts
     ∙ ap (λ (b : Bool). with_payload bytes (cond b (record { payloads = []; rest = pointed packet; is_ended = true }) (ended_by packet))) fits
-
--- nothing stays under way behind a start indicator
-still_none : (form : UnitForm) (is_continuous : Bool) (unit : Open) (packet : PacketFields) → packet.starts ≡ true → still_open form is_continuous packet unit ≡ []
-still_none form true unit packet starts = ap (λ (s : Bool). cond {A = List Open} (not s && true) (unless_told form unit.moment (unit.bytes ++ packet.payload)) []) starts
-still_none form false unit packet starts = refl
 
 module _ (form : UnitForm) (lawful : IsLawful form) where
   -- a unit under way is longer than the bytes that came
@@ -121,61 +116,3 @@ module _ (form : UnitForm) (lawful : IsLawful form) where
         closes_by 0 delimit (sym (ap (event_by form unit.moment) (closed_outcome unit.bytes (pointed packet) more (span_all s joined held told ∙ e))))
     closes_untold s joined held told (inr e) =
         closes_by 0 delimit (sym (ap (event_by form unit.moment) (closed_outcome unit.bytes (pointed packet) stuffing (span_all s joined held told ∙ e))))
-
-  -- A unit under way that the packet does not go on.
-
-  -- what the bytes leave open is lost where a packet ended the list
-  lost_outcome : (bytes : List ℕ) (is_ended : Bool) → is_told (form.span bytes) (length bytes) ≡ false
-      → outcome_of form (record { payloads = bytes ++ []; rest = []; is_ended = is_ended }) ≡ cond is_ended delimit no_outcome
-  lost_outcome bytes is_ended untold =
-      ap (λ (s : Span). outcome_by s (record { payloads = bytes ++ []; rest = []; is_ended = is_ended })) (ap form.span (append-nil (bytes ++ []) ∙ append-nil bytes))
-      ∙ by_span (form.span bytes) untold
-    where
-      sizes_are : length (bytes ++ []) ≡ length bytes
-      sizes_are = ap length (append-nil bytes)
-
-      all_sizes : length ((bytes ++ []) ++ []) ≡ length bytes
-      all_sizes = ap length (append-nil (bytes ++ [])) ∙ sizes_are
-
-      by_span : (s : Span) → is_told s (length bytes) ≡ false → outcome_by s (record { payloads = bytes ++ []; rest = []; is_ended = is_ended }) ≡ cond is_ended delimit no_outcome
-      by_span more e = refl
-      by_span stuffing e = refl
-      by_span bad e = absurd (cc)
-      by_span (whole n) e =
-          let less : length bytes < n = false_leb n (length bytes) e in
-          ap (λ (b : Bool). cond (b || eqb n (length ((bytes ++ []) ++ []))) (candidate (take n ((bytes ++ []) ++ []))) (cond is_ended delimit no_outcome))
-          (leb_false n (length (bytes ++ [])) (omega (arith, sizes_are)))
-          ∙ ap (λ (b : Bool). cond b (candidate (take n ((bytes ++ []) ++ []))) (cond is_ended delimit no_outcome))
-          (eqb_false n (length ((bytes ++ []) ++ [])) (λ same. omega (arith, all_sizes, same)))
-
-  resumed_lost : (is_continuous : Bool) (unit : Open) (packet : PacketFields) (is_ended : Bool) → IsUnderWay form unit.bytes
-      → given_next is_continuous packet ≡ ended_by packet → (not packet.starts || pointer_fits packet) ≡ is_ended
-      → resumed form is_continuous packet unit ≡ event_by form unit.moment (cond is_ended delimit no_outcome)
-  resumed_lost is_continuous unit packet is_ended good given ended =
-      ap (λ (g : Given). event_by form unit.moment (outcome_of form (with_payload unit.bytes g))) given
-      ∙ ap (λ (b : Bool). event_by form unit.moment (outcome_of form (record { payloads = unit.bytes ++ []; rest = []; is_ended = b }))) ended
-      ∙ ap (event_by form unit.moment) (lost_outcome unit.bytes is_ended good.untold)
-
-  -- one that is not continuous, without the start indicator
-  pub lost_without_start : (unit : Open) (packet : PacketFields) → packet.starts ≡ false → IsUnderWay form unit.bytes
-      → resumed form false packet unit ≡ delimit_event ∷ []
-  lost_without_start unit packet plain good =
-      resumed_lost false unit packet true good refl (ap (λ (s : Bool). not s || pointer_fits packet) plain)
-
-  -- one that is not continuous, with it
-  pub lost_at_start : (unit : Open) (packet : PacketFields) → packet.starts ≡ true → pointer_fits packet ≡ true → IsUnderWay form unit.bytes
-      → resumed form false packet unit ≡ delimit_event ∷ []
-  lost_at_start unit packet starts fits good =
-      resumed_lost false unit packet true good refl (ap (λ (s : Bool). not s || pointer_fits packet) starts ∙ fits)
-
-  -- one whose pointer does not fit
-  pub lost_at_misfit : (is_continuous : Bool) (unit : Open) (packet : PacketFields) → packet.starts ≡ true → pointer_fits packet ≡ false → IsUnderWay form unit.bytes
-      → resumed form is_continuous packet unit ≡ []
-  lost_at_misfit is_continuous unit packet starts misfits good =
-      resumed_lost is_continuous unit packet false good (given is_continuous) (ap (λ (s : Bool). not s || pointer_fits packet) starts ∙ misfits)
-    where
-      given : (c : Bool) → given_next c packet ≡ ended_by packet
-      given false = refl
-      given true =
-          ap (λ (b : Bool). cond b (cond (pointer_fits packet) (record { payloads = []; rest = pointed packet; is_ended = true }) (ended_by packet)) (with_payload packet.payload nothing_given)) starts
-          ∙ ap (λ (b : Bool). cond b (record { payloads = []; rest = pointed packet; is_ended = true }) (ended_by packet)) misfits

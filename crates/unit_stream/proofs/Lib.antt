@@ -4,3 +4,4 @@ pub mod Closed
 pub mod Started
 pub mod Fed
 pub mod Views
+pub mod Answered
