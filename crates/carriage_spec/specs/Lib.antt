@@ -1,1 +1,3 @@
 pub mod Delivered
+pub mod Channel
+pub mod Carried

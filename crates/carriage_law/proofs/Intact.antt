@@ -1,0 +1,218 @@
+-- A unit that arrived intact is accepted.
+use Rattle.std.proofs.Common.{◌≡◌, ◌⊎◌, inl, inr, ℕ, ◌+◌, ◌-◌, ◌<◌, ◌≤◌, ◌%◌, Bool, true, false, not, eqb, ◌&&◌, Option, None, Some, List, ◌∷◌, length, refl, ap, sym, ◌∙◌, subst, arith}
+use Rattle.std.specs.Prelude.{unwrap_or}
+use Rattle.std.proofs.lemmas.Bool.{cases_lt, cases_order}
+use Rattle.std.proofs.lemmas.List.{get_or-map, length-map}
+use Rattle.ts_spec.specs.Form.{UnitForm}
+use Rattle.ts_spec.specs.Packet.{PacketFields, fields_of, continues}
+use Rattle.ts_spec.specs.Recording.{Record, RecordingForm}
+use Rattle.ts_spec.specs.Received.{record_at, Arrival, arrival_at, no_arrival, packet_of, is_of, arrivals, received_after, received_packets}
+use Rattle.ts_spec.specs.Reassembly.{PlacedUnit, accepted_in, accepted_units}
+use Rattle.ts_spec.specs.Packetized.{no_packet, packet_at, unit_at, edge, IsIn}
+use Rattle.carriage_spec.specs.Channel.{Channel}
+use Rattle.carriage_spec.specs.Carried.{packets_sent, HoldsPart, IsKept, ArrivedIntact, IsAccepted, IsCarried}
+use Rattle.carriage_law.proofs.Member.{Member, member_at, member_behind, contains_member, member_contains}
+use Rattle.carriage_law.proofs.Positions.{size, edge_rises, edge-all, place_in, unit_long, unit_within}
+use Rattle.carriage_law.proofs.Candidates.{Agrees}
+use Rattle.carriage_law.proofs.Accept.{accepted_behind, unit_accepted}
+use Rattle.carriage_law.proofs.Arrivals.{above_member, arrivals_above, later_place, ArrivesFrom, arrival_record, record_arrives}
+use Rattle.carriage_law.proofs.Received.{received_arrived}
+use Rattle.carriage_law.proofs.Channel.{moment_kept}
+use Rattle.carriage_law.proofs.Row.{OnlyThese, row, Differs, Found, find}
+
+-- a counter is not its own next one
+next_counter : (a b : ℕ) → eqb b ((a + 1) % 16) ≡ true → a ≡ b → ⊥
+next_counter a b test same = absurd (by_number (grind arith))
+  where
+    by_number : b ≡ (a + 1) % 16 → ⊥
+    by_number next = omega (arith, same)
+
+-- the first part of a test that holds
+first_holds : (x y : Bool) → (x && y) ≡ true → x ≡ true
+first_holds true y test = refl
+first_holds false y test = absurd (cc)
+
+-- a packet does not continue itself
+pub continues_other : (before packet : PacketFields) → continues before packet ≡ true → before ≡ packet → ⊥
+continues_other before packet test same =
+    next_counter before.counter packet.counter (first_holds (eqb packet.counter ((before.counter + 1) % 16)) (not packet.broken) test)
+    (ap (λ (t : PacketFields). t.counter) same)
+
+-- a moment that is there
+unwrapped : (moment : Option ℕ) → ((time : ℕ) × (moment ≡ Some time)) → moment ≡ Some (unwrap_or moment 0)
+unwrapped None some = absurd (cc (some.1))
+unwrapped (Some time) some = refl
+
+module _ (recording : RecordingForm) (sent recorded : List Record) (channel : Channel recording sent recorded) (form : UnitForm) (pid : ℕ)
+    (units : List (List ℕ)) (begin : ℕ → ℕ) (carried : IsCarried form pid sent units begin) (n : ℕ) (known : n < length units) (intact : ArrivedIntact channel pid units begin n) where
+  abbrev packets : List PacketFields
+  packets = packets_sent pid sent
+
+  count : length packets ≡ length (arrivals pid sent)
+  count = length-map (arrivals pid sent) packet_of
+
+  -- Its packets.
+
+  not_empty : 1 ≤ size units n
+  not_empty = omega (arith, unit_long form units packets begin carried.lawful carried.packetized n known, carried.lawful.start_least)
+
+  end_within : begin n + size units n ≤ edge packets (length packets)
+  end_within = omega (arith, unit_within form units packets begin carried.lawful carried.packetized n known, edge-all packets)
+
+  -- the packet with its first byte
+  first_in : (m : ℕ) × (m < length packets) × IsIn packets m (begin n)
+  first_in = place_in packets (begin n) (length packets) (omega arith) (omega (arith, end_within, not_empty))
+
+  -- the packet with its last byte
+  last_in : (m : ℕ) × (m < length packets) × IsIn packets m (begin n + size units n - 1)
+  last_in = place_in packets (begin n + size units n - 1) (length packets) (omega arith) (omega (arith, end_within, not_empty))
+
+  -- Facts on the unit from its first packet to its last.
+  module _ (first last : ℕ) (begins : IsIn packets first (begin n)) (ends : IsIn packets last (begin n + size units n - 1)) where
+    in_order : first ≤ last
+    in_order = by_order (cases_lt last first)
+      where
+        by_order : (last < first) ⊎ (first ≤ last) → first ≤ last
+        by_order (inr order) = order
+        by_order (inl back) = absurd (omega (arith, edge_rises packets (last + 1) first (omega arith), begins.from, ends.below, not_empty))
+
+    -- the packets between them hold parts of it
+    holds : (i : ℕ) → first ≤ i → i ≤ last → HoldsPart units packets begin n i
+    holds i from to = record {
+      within = omega (arith, ends.within);
+      begun = omega (arith, begins.below, edge_rises packets (first + 1) (i + 1) (omega arith));
+      not_over = omega (arith, ends.from, not_empty, edge_rises packets i last to);
+    }
+
+    -- and no others
+    only_holds : (i : ℕ) → HoldsPart units packets begin n i → (first ≤ i) × (i ≤ last)
+    only_holds i part = (by_first (cases_lt i first), by_last (cases_lt last i))
+      where
+        by_first : (i < first) ⊎ (first ≤ i) → first ≤ i
+        by_first (inr from) = from
+        by_first (inl before) = absurd (omega (arith, part.begun, begins.from, edge_rises packets (i + 1) first (omega arith)))
+
+        by_last : (last < i) ⊎ (i ≤ last) → i ≤ last
+        by_last (inr to) = to
+        by_last (inl behind) = absurd (omega (arith, part.not_over, ends.below, edge_rises packets (last + 1) i (omega arith)))
+
+    kept : (i : ℕ) → first ≤ i → i ≤ last → IsKept channel pid i (intact.at i)
+    kept i from to = intact.kept i (holds i from to)
+
+    known_packet : (i : ℕ) → i ≤ last → i < length (arrivals pid sent)
+    known_packet i to = omega (arith, ends.within, count)
+
+    sent_arrival : (i : ℕ) → i ≤ last → ArrivesFrom pid sent (arrival_at (arrivals pid sent) i)
+    sent_arrival i to = arrival_record pid sent (arrival_at (arrivals pid sent) i) (member_at (arrivals pid sent) i no_arrival (known_packet i to))
+
+    -- the arrival of packet i in the recording
+    abbrev arrived : ℕ → Arrival
+    arrived i = record { place = intact.at i; moment = unwrap_or (record_at recorded (intact.at i)).moment 0; bytes = (arrival_at (arrivals pid sent) i).bytes }
+
+    bytes_at : (i : ℕ) → first ≤ i → i ≤ last → (record_at recorded (intact.at i)).bytes ≡ (arrived i).bytes
+    bytes_at i from to =
+        let it : IsKept channel pid i (intact.at i) = kept i from to in
+        let sent_it : ArrivesFrom pid sent (arrival_at (arrivals pid sent) i) = sent_arrival i to in
+        it.same ∙ ap (λ (t : ℕ). (record_at sent t).bytes) it.place ∙ sent_it.bytes
+
+    moment_at : (i : ℕ) → first ≤ i → i ≤ last → (record_at recorded (intact.at i)).moment ≡ Some (arrived i).moment
+    moment_at i from to =
+        let it : IsKept channel pid i (intact.at i) = kept i from to in
+        let sent_it : ArrivesFrom pid sent (arrival_at (arrivals pid sent) i) = sent_arrival i to in
+        unwrapped (record_at recorded (intact.at i)).moment
+        (moment_kept recording sent recorded channel.place channel.first channel.stamps (intact.at i) (arrival_at (arrivals pid sent) i).moment it.within it.no_copy
+        (ap (λ (t : ℕ). (record_at sent t).moment) it.place ∙ sent_it.moment))
+
+    -- it arrives
+    arrives : (i : ℕ) → first ≤ i → i ≤ last → Member (arrivals pid recorded) (arrived i)
+    arrives i from to =
+        let it : IsKept channel pid i (intact.at i) = kept i from to in
+        let sent_it : ArrivesFrom pid sent (arrival_at (arrivals pid sent) i) = sent_arrival i to in
+        record_arrives pid (intact.at i) recorded (arrived i).moment (arrived i).bytes it.within (moment_at i from to) (bytes_at i from to) sent_it.of_pid
+
+    -- it is packet i
+    packet_is : (i : ℕ) → first ≤ i → i ≤ last → packet_of (arrived i) ≡ packet_at packets i
+    packet_is i from to = sym (get_or-map packet_of (arrivals pid sent) i no_arrival no_packet (known_packet i to))
+
+    -- they arrive in their order
+    rise : (i k : ℕ) → first ≤ i → i < k → k ≤ last → (arrived i).place < (arrived k).place
+    rise i k from less to = by_order (cases_order (intact.at i) (intact.at k))
+      where
+        one : IsKept channel pid i (intact.at i)
+        one = kept i from (omega arith)
+
+        other : IsKept channel pid k (intact.at k)
+        other = kept k (omega arith) to
+
+        apart : channel.place (intact.at i) < channel.place (intact.at k)
+        apart = omega (arith, one.place, other.place, later_place pid sent i k less (known_packet k to))
+
+        by_order : (intact.at i ≡ intact.at k) ⊎ ((intact.at i < intact.at k) ⊎ (intact.at k < intact.at i)) → intact.at i < intact.at k
+        by_order (inl same) = absurd (omega (arith, apart, ap channel.place same))
+        by_order (inr (inl before)) = before
+        by_order (inr (inr behind)) = absurd (omega (arith, apart, channel.in_order (intact.at k) (intact.at i) behind one.within other.no_copy one.no_copy))
+
+    -- none equals the next
+    differs_next : (i : ℕ) → first ≤ i → i + 1 ≤ last → (arrived i).bytes ≡ (arrived (i + 1)).bytes → ⊥
+    differs_next i from to same =
+        continues_other (packet_at packets i) (packet_at packets (i + 1)) (carried.packetized.continuous i (omega (arith, ends.within)))
+        (sym (packet_is i from (omega arith)) ∙ ap fields_of same ∙ packet_is (i + 1) (omega arith) to)
+
+    -- the first of them differs from the packet received last before it
+    differs_first : Differs packets arrived first last rise packet_is ends.within differs_next (received_packets pid recorded)
+    differs_first before there less last_of_them same =
+        intact.differs first before begins (record {
+          received = contains_member (received_packets pid recorded) before there;
+          before = less;
+          last = λ other contained below. last_of_them other (member_contains (received_packets pid recorded) other contained) below;
+        }) (same ∙ sym (bytes_at first (omega arith) in_order))
+
+    -- so it is received
+    found : Found packets arrived first last rise packet_is ends.within differs_next None (arrivals pid recorded)
+    found =
+        find packets arrived first last rise packet_is ends.within differs_next (received_packets pid recorded) differs_first None (arrivals pid recorded) 0
+        (arrivals_above pid 0 recorded) in_order arrives (λ x there. there) (λ x there. there)
+
+    -- and then the others alone
+    only : OnlyThese packets arrived first last rise packet_is ends.within differs_next (received_after (Some (arrived first).bytes) found.rest)
+    only x there below =
+        let received : Member (received_packets pid recorded) x =
+        subst (λ (t : List Arrival). Member t x) (sym found.split) (member_behind found.front (arrived first ∷ received_after (Some (arrived first).bytes) found.rest) x (inr there)) in
+        let above : (arrived first).place < x.place =
+        omega (arith, above_member ((arrived first).place + 1) found.rest x found.above (received_arrived (Some (arrived first).bytes) found.rest x there)) in
+        let part : (i : ℕ) × HoldsPart units packets begin n i × (x.place ≡ intact.at i) =
+        intact.alone first last x (holds first (omega arith) in_order) (holds last in_order (omega arith)) (contains_member (received_packets pid recorded) x received) above below in
+        let within : (first ≤ part.0) × (part.0 ≤ last) = only_holds part.0 part.1 in
+        (part.0, within.0, within.1, part.2)
+
+    agrees : Agrees packets (last - first) first (received_after (Some (arrived first).bytes) found.rest)
+    agrees = row packets arrived first last rise packet_is ends.within differs_next found.rest (last - first) first (omega arith) (omega (arith, in_order)) found.above found.here only
+
+    -- the unit with its record, place and moment
+    abbrev placed : PlacedUnit
+    placed = record { place = (arrived first).place; start = 1 + (begin n - edge packets first); moment = (arrived first).moment; unit = unit_at units n }
+
+    placed_accepted : Member (accepted_units form pid recorded) placed
+    placed_accepted =
+        let end_last : last + 1 ≡ first + 1 + (last - first) = omega (arith, in_order) in
+        subst (λ (t : List Arrival). Member (accepted_in form t) placed) (sym found.split)
+        (accepted_behind form found.front (arrived first ∷ received_after (Some (arrived first).bytes) found.rest) placed
+        (unit_accepted form units packets begin carried.lawful carried.packetized n first (begin n - edge packets first) (last - first) (arrived first)
+        (received_after (Some (arrived first).bytes) found.rest) known begins (omega (arith, begins.from)) (packet_is first (omega arith) in_order) agrees
+        (omega (arith, ends.below, ap (edge packets) end_last))))
+
+    accepted_there : IsAccepted channel form pid units begin n
+    accepted_there = record {
+      accepted = placed;
+      contained = contains_member (accepted_units form pid recorded) placed placed_accepted;
+      sent_unit = record {
+        packet = first;
+        start = record { unit = known; packet = begins; start_is = omega (arith, begins.from) };
+        record_is = sym (kept first (omega arith) in_order).place;
+        bytes = refl;
+      };
+    }
+
+  -- a unit that arrived intact is accepted
+  pub intact_accepted : IsAccepted channel form pid units begin n
+  intact_accepted = accepted_there first_in.0 last_in.0 first_in.2 last_in.2

@@ -1,0 +1,13 @@
+pub mod Member
+pub mod Positions
+pub mod Starts
+pub mod Candidates
+pub mod Accept
+pub mod Arrivals
+pub mod Received
+pub mod Order
+pub mod Channel
+pub mod Subsequences
+pub mod Numbers
+pub mod Row
+pub mod Intact
