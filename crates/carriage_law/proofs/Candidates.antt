@@ -40,11 +40,11 @@ fits_more payload bytes given (inl part) = inl (part.0, append_assoc payload byt
 fits_more payload bytes given (inr all) = inr (ap (λ (t : List ℕ). payload ++ t) all ∙ sym (append_assoc payload given.payloads given.rest))
 
 -- what a packet with the start indicator gives
-abbrev pointed_given : PacketFields → Given
+abbrev pub pointed_given : PacketFields → Given
 pointed_given packet = record { payloads = []; rest = take (pointer packet) (drop 1 packet.payload); is_ended = true }
 
 -- a packet without the start indicator gives its payload and what is behind it
-given_whole : (packet : PacketFields) (behind : Given) → packet.starts ≡ false → given_by packet behind ≡ with_payload packet.payload behind
+pub given_whole : (packet : PacketFields) (behind : Given) → packet.starts ≡ false → given_by packet behind ≡ with_payload packet.payload behind
 given_whole packet behind starts =
     ap (λ (b : Bool). cond b (cond (pointer_fits packet) (pointed_given packet) (ended_by packet)) (with_payload packet.payload behind)) starts
 

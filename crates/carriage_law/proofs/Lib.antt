@@ -11,3 +11,9 @@ pub mod Subsequences
 pub mod Numbers
 pub mod Row
 pub mod Intact
+pub mod Units
+pub mod Sndu
+pub mod Words
+pub mod Ends
+pub mod Isolation
+pub mod Datagrams

@@ -1,19 +1,18 @@
--- The numbers of the accepted units.
+-- The numbers of units, and that they follow the order in which units are accepted.
 use Rattle.std.proofs.Common.{◌≡◌, ◌⊎◌, inl, inr, ℕ, ◌+◌, ◌<◌, ◌≤◌, List, [], ◌∷◌, length, map, refl, ap, sym, ◌∙◌, subst, arith}
 use Rattle.std.proofs.lemmas.Bool.{cases_lt, cases_order}
 use Rattle.std.proofs.lemmas.List.{length-map}
 use Rattle.ts_spec.specs.Form.{UnitForm}
 use Rattle.ts_spec.specs.Recording.{Record, RecordingForm}
-use Rattle.ts_spec.specs.Received.{arrival_at, packet_of, arrivals, received_packets}
-use Rattle.ts_spec.specs.Reassembly.{PlacedUnit, accepted_units}
+use Rattle.ts_spec.specs.Received.{arrival_at, packet_of, arrivals}
+use Rattle.ts_spec.specs.Reassembly.{PlacedUnit}
 use Rattle.ts_spec.specs.Packetized.{unit_at, edge, IsIn}
 use Rattle.carriage_spec.specs.Channel.{Channel}
-use Rattle.carriage_spec.specs.Carried.{packets_sent, IsStartOf, IsSentUnit, NoUndetectedError, IsCarried, IsRising}
-use Rattle.carriage_law.proofs.Member.{Member, contains_member}
+use Rattle.carriage_spec.specs.Carried.{packets_sent, IsSentUnit, IsCarried, IsRising}
+use Rattle.carriage_law.proofs.Member.{Member}
 use Rattle.carriage_law.proofs.Positions.{edge_rises, begin_rises, begins_later}
 use Rattle.carriage_law.proofs.Arrivals.{later_place}
-use Rattle.carriage_law.proofs.Order.{Before, Sorted, accepted_sorted}
-use Rattle.carriage_law.proofs.Channel.{received_rise}
+use Rattle.carriage_law.proofs.Order.{Before, Sorted}
 
 -- Numbers of the items of a list.
 
@@ -76,7 +75,7 @@ module _ (recording : RecordingForm) (sent recorded : List Record) (channel : Ch
       by_order (inr (inr more)) = absurd (omega (arith, packets_rise k i more within_i, same))
 
   -- of units accepted one behind the other the second has the higher number
-  later_number : (x y : PlacedUnit) (m n : ℕ) → Before channel.place x y → IsSentUnit channel pid units begin m x → IsSentUnit channel pid units begin n y → m < n
+  pub later_number : (x y : PlacedUnit) (m n : ℕ) → Before channel.place x y → IsSentUnit channel pid units begin m x → IsSentUnit channel pid units begin n y → m < n
   later_number x y m n before x_is y_is = by_order (cases_lt m n)
     where
       x_in : IsIn (packets_sent pid sent) x_is.packet (begin m)
@@ -108,7 +107,7 @@ module _ (recording : RecordingForm) (sent recorded : List Record) (channel : Ch
       by_order (inr order) = absurd (not_back order before)
 
   -- an accepted unit has one number
-  one_number : (x : PlacedUnit) (m n : ℕ) → IsSentUnit channel pid units begin m x → IsSentUnit channel pid units begin n x → m ≡ n
+  pub one_number : (x : PlacedUnit) (m n : ℕ) → IsSentUnit channel pid units begin m x → IsSentUnit channel pid units begin n x → m ≡ n
   one_number x m n is also = by_order (cases_order m n)
     where
       is_in : IsIn (packets_sent pid sent) is.packet (begin m)
@@ -130,16 +129,3 @@ module _ (recording : RecordingForm) (sent recorded : List Record) (channel : Ch
       by_order (inl same) = same
       by_order (inr (inl less)) = absurd (omega (arith, places, apart m n less also.start.unit))
       by_order (inr (inr more)) = absurd (omega (arith, places, apart n m more is.start.unit))
-
-  module _ (no_error : NoUndetectedError channel form pid units begin) where
-    -- each accepted unit has the number of a sent one
-    abbrev pub accepted_numbered : AreNumbered (λ x n. IsSentUnit channel pid units begin n x) (accepted_units form pid recorded)
-    accepted_numbered x there = no_error.each x (contains_member (accepted_units form pid recorded) x there)
-
-    abbrev pub accepted_numbers : List ℕ
-    accepted_numbers = numbers_of (λ x n. IsSentUnit channel pid units begin n x) (accepted_units form pid recorded) accepted_numbered
-
-    pub accepted_numbers_rise : IsRising 0 accepted_numbers
-    accepted_numbers_rise =
-        numbers_rise (λ x n. IsSentUnit channel pid units begin n x) channel.place later_number (accepted_units form pid recorded) accepted_numbered
-        (accepted_sorted form carried.lawful channel.place (received_packets pid recorded) (received_rise recording sent recorded channel pid)) 0 (λ x n there number. omega arith)

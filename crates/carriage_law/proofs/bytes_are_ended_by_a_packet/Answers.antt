@@ -1,0 +1,5 @@
+use Rattle.carriage_law.proofs.Ends.{ended}
+use Rattle.carriage_law.proofs.bytes_are_ended_by_a_packet.Goals as goal
+
+pub returns : goal.returns
+returns c = λ start packet behind. ended packet behind

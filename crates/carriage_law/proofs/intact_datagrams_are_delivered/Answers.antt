@@ -1,0 +1,5 @@
+use Rattle.carriage_law.proofs.Datagrams.{intact_are_delivered}
+use Rattle.carriage_law.proofs.intact_datagrams_are_delivered.Goals as goal
+
+pub returns : goal.returns
+returns c = intact_are_delivered

@@ -1,0 +1,5 @@
+use Rattle.carriage_law.proofs.Intact.{intact_accepted}
+use Rattle.carriage_law.proofs.intact_units_are_accepted.Goals as goal
+
+pub returns : goal.returns
+returns c = intact_accepted
