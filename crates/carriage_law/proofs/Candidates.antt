@@ -4,7 +4,7 @@ use Rattle.std.proofs.lemmas.List.{drop-drop, drop_at, drop-take, take-append-le
 use Rattle.std.proofs.Math.Seq.{take-append-add}
 use Rattle.std.proofs.lemmas.Bool.{cases_lt}
 use Rattle.ts_spec.specs.Form.{UnitForm, Span, whole, IsLawful}
-use Rattle.ts_spec.specs.Packet.{PacketFields, unit_bytes, pointer, pointer_fits, continues}
+use Rattle.ts_spec.specs.Packet.{PacketFields, pointer, pointer_fits, continues}
 use Rattle.ts_spec.specs.Received.{Arrival, packet_of}
 use Rattle.ts_spec.specs.Reassembly.{Given, all_of, with_payload, ended_by, given_by, given_behind, candidate, is_complete, incomplete, outcome_by, outcome_of}
 use Rattle.ts_spec.specs.Packetized.{packet_at, unit_at, joined, edge, IsIn, IsFirstIn, Packetizes}

@@ -3,7 +3,7 @@ use Rattle.std.proofs.Common.{◌≡◌, ◌⊎◌, inl, inr, ℕ, ◌%◌, ◌^
 use Rattle.std.specs.Prelude.{option_map}
 use Rattle.std.proofs.lemmas.Bool.{cases_lt}
 use Rattle.ts_spec.specs.Recording.{Record, RecordingForm, plain, stamped, m2ts}
-use Rattle.ts_spec.specs.Received.{record_at, Arrival, is_of, arrivals, received_packets}
+use Rattle.ts_spec.specs.Received.{record_at, Arrival, arrivals, received_packets}
 use Rattle.carriage_spec.specs.Channel.{Channel, HasStamps}
 use Rattle.carriage_law.proofs.Member.{Member, contains_member}
 use Rattle.carriage_law.proofs.Arrivals.{arrivals_above, ArrivesFrom, arrival_record, record_arrives}

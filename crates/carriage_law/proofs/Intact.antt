@@ -6,7 +6,7 @@ use Rattle.std.proofs.lemmas.List.{get_or-map, length-map}
 use Rattle.ts_spec.specs.Form.{UnitForm}
 use Rattle.ts_spec.specs.Packet.{PacketFields, fields_of, continues}
 use Rattle.ts_spec.specs.Recording.{Record, RecordingForm}
-use Rattle.ts_spec.specs.Received.{record_at, Arrival, arrival_at, no_arrival, packet_of, is_of, arrivals, received_after, received_packets}
+use Rattle.ts_spec.specs.Received.{record_at, Arrival, arrival_at, no_arrival, packet_of, arrivals, received_after, received_packets}
 use Rattle.ts_spec.specs.Reassembly.{PlacedUnit, accepted_in, accepted_units}
 use Rattle.ts_spec.specs.Packetized.{no_packet, packet_at, unit_at, edge, IsIn}
 use Rattle.carriage_spec.specs.Channel.{Channel}

@@ -17,3 +17,7 @@ pub mod Words
 pub mod Ends
 pub mod Isolation
 pub mod Datagrams
+pub mod Stamps
+pub mod Late
+pub mod Lossless
+pub mod Moments

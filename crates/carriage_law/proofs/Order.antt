@@ -78,14 +78,14 @@ sorted_append place (x ∷ xs) ys sorted_xs sorted_ys before = (
     by_part y (inl front) = sorted_xs.0 y front
     by_part y (inr behind) = before x y (inl refl) behind
 
--- what one start gives stands at that start
-at_start : (form : UnitForm) (a : Arrival) (start : ℕ) (told : Outcome) (x : PlacedUnit) → Member (accepted_by form a start told) x → (x.place ≡ a.place) × (x.start ≡ start)
+-- what one start gives stands at that start, at the moment of its packet
+at_start : (form : UnitForm) (a : Arrival) (start : ℕ) (told : Outcome) (x : PlacedUnit) → Member (accepted_by form a start told) x → (x.place ≡ a.place) × (x.start ≡ start) × (x.moment ≡ a.moment)
 at_start form a start (candidate unit) x there = by_check (form.check unit) there
   where
     by_check : (b : Bool) → Member (cond {A = List PlacedUnit} b (record { place = a.place; start = start; moment = a.moment; unit = unit } ∷ []) []) x
-        → (x.place ≡ a.place) × (x.start ≡ start)
+        → (x.place ≡ a.place) × (x.start ≡ start) × (x.moment ≡ a.moment)
     by_check false given = absurd given
-    by_check true (inl same) = (sym (ap (λ (t : PlacedUnit). t.place) same), sym (ap (λ (t : PlacedUnit). t.start) same))
+    by_check true (inl same) = (sym (ap (λ (t : PlacedUnit). t.place) same), sym (ap (λ (t : PlacedUnit). t.start) same), sym (ap (λ (t : PlacedUnit). t.moment) same))
     by_check true (inr never) = absurd never
 at_start form a start bad_length x there = absurd there
 at_start form a start delimit x there = absurd there
@@ -104,19 +104,19 @@ sorted_start form place a start no_outcome = tt
 
 -- what the starts of one packet give stands at that packet, and not before the first of them
 in_packet : (form : UnitForm) (a : Arrival) (behind : List Arrival) (k : ℕ) (starts : List ℕ) (x : PlacedUnit) → IsRising k starts
-    → Member (flat_map (accepted_at form a behind) starts) x → (x.place ≡ a.place) × (k ≤ x.start)
+    → Member (flat_map (accepted_at form a behind) starts) x → (x.place ≡ a.place) × (k ≤ x.start) × (x.moment ≡ a.moment)
 in_packet form a behind k [] x rising there = absurd there
 in_packet form a behind k (s ∷ starts) x rising there =
     by_part (in_packet form a behind (s + 1) starts x rising.1) (member_parted (accepted_at form a behind s) (flat_map (accepted_at form a behind) starts) x there)
   where
-    by_part : (Member (flat_map (accepted_at form a behind) starts) x → (x.place ≡ a.place) × (s + 1 ≤ x.start))
-        → Member (accepted_at form a behind s) x ⊎ Member (flat_map (accepted_at form a behind) starts) x → (x.place ≡ a.place) × (k ≤ x.start)
+    by_part : (Member (flat_map (accepted_at form a behind) starts) x → (x.place ≡ a.place) × (s + 1 ≤ x.start) × (x.moment ≡ a.moment))
+        → Member (accepted_at form a behind s) x ⊎ Member (flat_map (accepted_at form a behind) starts) x → (x.place ≡ a.place) × (k ≤ x.start) × (x.moment ≡ a.moment)
     by_part later (inl here) =
-        let stands : (x.place ≡ a.place) × (x.start ≡ s) = at_start form a s (outcome_of form (bytes_from s (packet_of a) behind)) x here in
-        (stands.0, omega (arith, stands.1, rising.0))
+        let stands : (x.place ≡ a.place) × (x.start ≡ s) × (x.moment ≡ a.moment) = at_start form a s (outcome_of form (bytes_from s (packet_of a) behind)) x here in
+        (stands.0, omega (arith, stands.1, rising.0), stands.2)
     by_part later (inr rest) =
-        let stands : (x.place ≡ a.place) × (s + 1 ≤ x.start) = later rest in
-        (stands.0, omega (arith, stands.1, rising.0))
+        let stands : (x.place ≡ a.place) × (s + 1 ≤ x.start) × (x.moment ≡ a.moment) = later rest in
+        (stands.0, omega (arith, stands.1, rising.0), stands.2)
 
 -- what the starts of one packet give is sorted
 sorted_packet : (form : UnitForm) (place : ℕ → ℕ) (a : Arrival) (behind : List Arrival) (k : ℕ) (starts : List ℕ) → IsRising k starts
@@ -127,22 +127,24 @@ sorted_packet form place a behind k (s ∷ starts) rising =
     (sorted_start form place a s (outcome_of form (bytes_from s (packet_of a) behind)))
     (sorted_packet form place a behind (s + 1) starts rising.1)
     (λ x y there_x there_y.
-    let one : (x.place ≡ a.place) × (x.start ≡ s) = at_start form a s (outcome_of form (bytes_from s (packet_of a) behind)) x there_x in
-    let other : (y.place ≡ a.place) × (s + 1 ≤ y.start) = in_packet form a behind (s + 1) starts y rising.1 there_y in
+    let one : (x.place ≡ a.place) × (x.start ≡ s) × (x.moment ≡ a.moment) = at_start form a s (outcome_of form (bytes_from s (packet_of a) behind)) x there_x in
+    let other : (y.place ≡ a.place) × (s + 1 ≤ y.start) × (y.moment ≡ a.moment) = in_packet form a behind (s + 1) starts y rising.1 there_y in
     inr (one.0 ∙ sym other.0, omega (arith, one.1, other.1)))
 
--- an accepted unit stands at a received packet
-pub at_received : (form : UnitForm) → IsLawful form → (xs : List Arrival) (x : PlacedUnit) → Member (accepted_in form xs) x → (a : Arrival) × Member xs a × (x.place ≡ a.place)
+-- an accepted unit stands at a received packet, and has its moment
+pub at_received : (form : UnitForm) → IsLawful form → (xs : List Arrival) (x : PlacedUnit) → Member (accepted_in form xs) x → (a : Arrival) × Member xs a × (x.place ≡ a.place) × (x.moment ≡ a.moment)
 at_received form lawful [] x there = absurd there
 at_received form lawful (a ∷ xs) x there =
     by_part (at_received form lawful xs x) (member_parted (flat_map (accepted_at form a xs) (unit_starts form (packet_of a))) (accepted_in form xs) x there)
   where
-    by_part : (Member (accepted_in form xs) x → (b : Arrival) × Member xs b × (x.place ≡ b.place))
-        → Member (flat_map (accepted_at form a xs) (unit_starts form (packet_of a))) x ⊎ Member (accepted_in form xs) x → (b : Arrival) × Member (a ∷ xs) b × (x.place ≡ b.place)
-    by_part later (inl here) = (a, inl refl, (in_packet form a xs 0 (unit_starts form (packet_of a)) x (unit_starts_rise form lawful (packet_of a)) here).0)
+    by_part : (Member (accepted_in form xs) x → (b : Arrival) × Member xs b × (x.place ≡ b.place) × (x.moment ≡ b.moment))
+        → Member (flat_map (accepted_at form a xs) (unit_starts form (packet_of a))) x ⊎ Member (accepted_in form xs) x → (b : Arrival) × Member (a ∷ xs) b × (x.place ≡ b.place) × (x.moment ≡ b.moment)
+    by_part later (inl here) =
+        let stands : (x.place ≡ a.place) × (0 ≤ x.start) × (x.moment ≡ a.moment) = in_packet form a xs 0 (unit_starts form (packet_of a)) x (unit_starts_rise form lawful (packet_of a)) here in
+        (a, inl refl, stands.0, stands.2)
     by_part later (inr behind) =
-        let found : (b : Arrival) × Member xs b × (x.place ≡ b.place) = later behind in
-        (found.0, inr found.1, found.2)
+        let found : (b : Arrival) × Member xs b × (x.place ≡ b.place) × (x.moment ≡ b.moment) = later behind in
+        (found.0, inr found.1, found.2, found.3)
 
 -- the accepted units of packets in order are in order
 pub accepted_sorted : (form : UnitForm) → IsLawful form → (place : ℕ → ℕ) (xs : List Arrival) → InOrder place xs → Sorted place (accepted_in form xs)
@@ -152,6 +154,6 @@ accepted_sorted form lawful place (a ∷ xs) in_order =
     (sorted_packet form place a xs 0 (unit_starts form (packet_of a)) (unit_starts_rise form lawful (packet_of a)))
     (accepted_sorted form lawful place xs in_order.1)
     (λ x y there_x there_y.
-    let one : (x.place ≡ a.place) × (0 ≤ x.start) = in_packet form a xs 0 (unit_starts form (packet_of a)) x (unit_starts_rise form lawful (packet_of a)) there_x in
-    let other : (b : Arrival) × Member xs b × (y.place ≡ b.place) = at_received form lawful xs y there_y in
+    let one : (x.place ≡ a.place) × (0 ≤ x.start) × (x.moment ≡ a.moment) = in_packet form a xs 0 (unit_starts form (packet_of a)) x (unit_starts_rise form lawful (packet_of a)) there_x in
+    let other : (b : Arrival) × Member xs b × (y.place ≡ b.place) × (y.moment ≡ b.moment) = at_received form lawful xs y there_y in
     inl (subst (λ (t : ℕ). place t < place y.place) (sym one.0) (subst (λ (t : ℕ). place a.place < place t) (sym other.2) (in_order.0 other.0 other.1))))

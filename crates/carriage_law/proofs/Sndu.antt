@@ -1,5 +1,5 @@
 -- SNDUs are a lawful kind of unit: bytes 0 and 1 tell their length.
-use Rattle.std.proofs.Common.{◌≡◌, ◌⊎◌, inl, inr, ℕ, zero, suc, ◌+◌, ◌*◌, ◌%◌, ◌^◌, ◌<◌, ◌≤◌, Bool, true, false, cond, eqb, ltb, ◌&&◌, List, [], ◌∷◌, ◌++◌, length, take, refl, ap, sym, ◌∙◌, subst, arith}
+use Rattle.std.proofs.Common.{◌≡◌, ◌⊎◌, inl, inr, ℕ, zero, suc, ◌+◌, ◌<◌, ◌≤◌, Bool, true, false, cond, ltb, List, [], ◌∷◌, ◌++◌, length, take, refl, ap, sym, ◌∙◌, arith}
 use Rattle.ts_spec.specs.Form.{Span, more, stuffing, whole, bad, IsLawful}
 use Rattle.ts_spec.specs.Sndu.{length_field, least_length, is_end_indicator, sndu_span, sndu_form}
 

@@ -4,7 +4,7 @@ use Rattle.std.proofs.lemmas.List.{drop-drop, take-append-le, take-append-drop}
 use Rattle.std.proofs.Math.Seq.{take-append-add}
 use Rattle.std.proofs.lemmas.Bool.{cases_lt}
 use Rattle.ts_spec.specs.Form.{UnitForm, Span, more, stuffing, whole, bad, IsLawful}
-use Rattle.ts_spec.specs.Packet.{PacketFields, unit_bytes, pointer, pointer_fits}
+use Rattle.ts_spec.specs.Packet.{PacketFields, pointer, pointer_fits}
 use Rattle.ts_spec.specs.Reassembly.{starts_behind, starts_within, unit_starts}
 use Rattle.ts_spec.specs.Packetized.{packet_at, unit_at, joined, edge, IsIn, IsFirstIn, Packetizes}
 use Rattle.carriage_law.proofs.Member.{Member}

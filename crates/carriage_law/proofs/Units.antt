@@ -1,7 +1,6 @@
 -- What arrives of units, by their numbers.
-use Rattle.std.proofs.Common.{◌≡◌, ℕ, ◌<◌, ◌∷◌, List, [], length, map, flat_map, ap, sym, ◌∙◌, subst, arith}
+use Rattle.std.proofs.Common.{◌≡◌, ℕ, ◌<◌, List, [], length, map, sym, subst, arith}
 use Rattle.std.specs.Prelude.{Contains}
-use Rattle.std.proofs.lemmas.List.Folds.{flat_map-map}
 use Rattle.wire_spec.specs.Lists.{IsSubsequence}
 use Rattle.ts_spec.specs.Form.{UnitForm}
 use Rattle.ts_spec.specs.Recording.{Record, RecordingForm}
@@ -11,7 +10,7 @@ use Rattle.ts_spec.specs.Packetized.{unit_at}
 use Rattle.carriage_spec.specs.Channel.{Channel}
 use Rattle.carriage_spec.specs.Carried.{IsSentUnit, NoUndetectedError, ArrivedIntact, IsAccepted, IsCarried, IsRising, IncludesIntact}
 use Rattle.carriage_law.proofs.Member.{Member, contains_member, member_contains}
-use Rattle.carriage_law.proofs.Subsequences.{subsequence_flat, subsequence_map, rising_subsequence, items_subsequence}
+use Rattle.carriage_law.proofs.Subsequences.{subsequence_map, rising_subsequence, items_subsequence}
 use Rattle.carriage_law.proofs.Order.{accepted_sorted}
 use Rattle.carriage_law.proofs.Channel.{received_rise}
 use Rattle.carriage_law.proofs.Numbers.{numbers_of, numbers_rise, units_of, number_known, number_there, later_number, one_number}

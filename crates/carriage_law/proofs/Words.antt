@@ -1,12 +1,9 @@
 -- Definitions of ts_spec in other words.
-use Rattle.std.proofs.Common.{◌≡◌, ◌⊎◌, inl, inr, ℕ, zero, suc, ◌+◌, ◌<◌, ◌≤◌, Bool, true, false, cond, not, leb, eqb, ◌&&◌, ◌||◌, Option, None, Some, List, [], ◌∷◌, ◌++◌, length, map, take, drop, refl, ap, sym, ◌∙◌, subst, arith, length-append}
+use Rattle.std.proofs.Common.{◌≡◌, ◌⊎◌, inl, inr, ℕ, ◌≤◌, Bool, true, false, cond, leb, eqb, ◌||◌, Option, None, Some, List, [], ◌∷◌, ◌++◌, length, take, drop, refl, ap, sym, ◌∙◌, subst, arith, length-append}
 use Rattle.std.proofs.lemmas.List.{take-append-drop, take_all}
-use Rattle.std.proofs.lemmas.Slice.Eq.{bytes_eq-Decides}
 use Rattle.ts_spec.specs.Form.{UnitForm, IsLawful, Span, more, stuffing, whole, bad}
-use Rattle.ts_spec.specs.Packet.{PacketFields, continues, pointer_fits}
-use Rattle.ts_spec.specs.Received.{Arrival, packet_of, repeats, received_after}
-use Rattle.ts_spec.specs.Reassembly.{Given, all_of, with_payload, ended_by, given_by, given_behind, bytes_from, Outcome, candidate, bad_length, delimit, no_outcome, is_complete, incomplete, outcome_by, outcome_of}
-use Rattle.ts_spec.specs.Packetized.{packet_at}
+use Rattle.ts_spec.specs.Received.{Arrival, repeats, received_after}
+use Rattle.ts_spec.specs.Reassembly.{Given, all_of, Outcome, candidate, bad_length, delimit, no_outcome, is_complete, incomplete, outcome_by, outcome_of}
 use Rattle.carriage_law.specs.Words.{differing_from_last, IsUnitInFront, IsBadInFront, TellsNothing, TellsByFronts}
 use Rattle.carriage_law.proofs.Starts.{leb_true}
 use Rattle.carriage_law.proofs.Received.{repeated_same}

@@ -1,7 +1,8 @@
 -- Definitions of ts_spec once more, in other words: laws say that both mean the same.
-use Rattle.std.specs.Prelude.{◌≡◌, ◌⊎◌, ◌↔◌, ℕ, ◌+◌, ◌<◌, ◌≤◌, true, false, List, [], ◌∷◌, take, length, map, Option, Some, if◌then◌else◌}
+use Rattle.std.specs.Prelude.{◌≡◌, ◌⊎◌, ◌↔◌, ℕ, ◌+◌, ◌%◌, ◌^◌, ◌<◌, ◌≤◌, true, false, List, [], ◌∷◌, take, length, map, Option, Some, if◌then◌else◌}
 use Rattle.ts_spec.specs.Form.{UnitForm, whole, bad}
 use Rattle.ts_spec.specs.Packet.{PacketFields, continues, pointer_fits}
+use Rattle.ts_spec.specs.Recording.{RecordingForm, plain, stamped, m2ts}
 use Rattle.ts_spec.specs.Received.{Arrival, packet_of, repeats}
 use Rattle.ts_spec.specs.Reassembly.{Given, all_of, candidate, bad_length, delimit, no_outcome, outcome_of, PlacedUnit}
 use Rattle.ts_spec.specs.Packetized.{packet_at}
@@ -68,3 +69,11 @@ timed_packet a = (a.moment, a.bytes)
 -- a unit with its place in the payload and its moment
 abbrev pub timed_unit : PlacedUnit → ℕ × ℕ × List ℕ
 timed_unit x = (x.start, x.moment, x.unit)
+
+-- Moments.
+
+-- how far moments of a recording can stand apart from those of what was sent: m2ts moments are counted from the first stamp
+abbrev pub IsShift : RecordingForm → ℕ → Type 0
+IsShift plain shift = shift ≡ 0
+IsShift stamped shift = shift ≡ 0
+IsShift m2ts shift = shift % 2 ^ 30 ≡ 0

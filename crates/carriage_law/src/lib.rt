@@ -5,20 +5,20 @@
 //! Begin with `accepted_units_are_numbered` and `delivered_datagrams_are_numbered`.
 #![tactic(auto)]
 
-ghost use Rattle.std.specs.Prelude.{◌≡◌, ◌↔◌, ℕ, ◌+◌, ◌<◌, List, length, map, flat_map, Contains, true, None};
+ghost use Rattle.std.specs.Prelude.{◌≡◌, ◌↔◌, ℕ, ◌+◌, ◌<◌, List, length, drop, map, flat_map, Contains, true, None};
 ghost use Rattle.wire_spec.specs.Lists.{IsSubsequence};
 ghost use Rattle.ts_spec.specs.Form.{UnitForm, IsLawful};
 ghost use Rattle.ts_spec.specs.Packet.{PacketFields};
 ghost use Rattle.ts_spec.specs.Recording.{Record, RecordingForm, records_of};
-ghost use Rattle.ts_spec.specs.Received.{Arrival, arrivals, received_packets};
+ghost use Rattle.ts_spec.specs.Received.{Arrival, arrival_at, arrivals, received_packets};
 ghost use Rattle.ts_spec.specs.Reassembly.{Given, bytes_from, accepted_units, PlacedUnit};
 ghost use Rattle.ts_spec.specs.Events.{events_of};
 ghost use Rattle.ts_spec.specs.Packetized.{unit_at, Packetizes};
 ghost use Rattle.ts_spec.specs.Sndu.{sndu_form};
 ghost use Rattle.carriage_spec.specs.Channel.{Channel};
-ghost use Rattle.carriage_spec.specs.Carried.{packets_sent, IsCarried, NoUndetectedError, ArrivedIntact, IsAccepted, IsRising, IncludesIntact};
+ghost use Rattle.carriage_spec.specs.Carried.{packets_sent, IsCarried, IsSentUnit, NoUndetectedError, ArrivedIntact, IsAccepted, IsRising, IncludesIntact};
 ghost use Rattle.carriage_spec.specs.Delivered.{carried_by_sndu, delivered_by_ule};
-ghost use Rattle.carriage_law.specs.Words.{differing_from_last, TellsByFronts, packets_from, IsEndedBy, timed_packet, timed_unit};
+ghost use Rattle.carriage_law.specs.Words.{differing_from_last, TellsByFronts, packets_from, IsEndedBy, timed_packet, timed_unit, IsShift};
 
 // UNITS
 
@@ -92,6 +92,20 @@ pub fn intact_datagrams_are_delivered()
         → IsSubsequence (flat_map (λ n. carried_by_sndu (unit_at units n)) intact) (delivered_by_ule pid recorded) }
 {}
 
+// MOMENTS
+
+/// Accepted units have the moments that their records have in what was sent: in m2ts recordings all but for one constant.
+///
+/// The constant is a multiple of 2^30, since moments are counted on from the stamp of the first record that was recorded.
+pub fn accepted_units_have_their_moments()
+    ensures { (recording : RecordingForm) (sent : List Record) (pieces : List (List ℕ)) (channel : Channel recording sent (records_of recording pieces))
+        → (form : UnitForm) (pid : ℕ) (units : List (List ℕ)) (begin : ℕ → ℕ) → IsCarried form pid sent units begin
+        → (shift : ℕ) × IsShift recording shift
+        × ((accepted : PlacedUnit) → Contains (accepted_units form pid (records_of recording pieces)) accepted
+            → (n : ℕ) (is : IsSentUnit channel pid units begin n accepted)
+            → accepted.moment + shift ≡ (arrival_at (arrivals pid sent) is.packet).moment) }
+{}
+
 // ISOLATION
 
 /// What is received on a PID depends on the readable packets of the PID alone.
@@ -123,4 +137,20 @@ pub fn outcomes_are_told_by_a_front()
 pub fn bytes_are_ended_by_a_packet()
     ensures { (start : ℕ) (packet : PacketFields) (behind : List Arrival)
         → ((bytes_from start packet behind).is_ended ≡ true) ↔ ((k : ℕ) × IsEndedBy (packets_from packet behind) k) }
+{}
+
+// CHANNELS THERE ARE
+
+/// A recording came through a channel that changes nothing, and of a stream so recorded each unit is accepted.
+pub fn a_stream_without_loss_is_accepted()
+    ensures { (recording : RecordingForm) (pieces : List (List ℕ)) (form : UnitForm) (pid : ℕ) (units : List (List ℕ)) (begin : ℕ → ℕ)
+        → IsCarried form pid (records_of recording pieces) units begin
+        → (channel : Channel recording (records_of recording pieces) (records_of recording pieces))
+        × ((n : ℕ) → n < length units → IsAccepted channel form pid units begin n) }
+{}
+
+/// A recording that lacks its first records came through a channel, whatever moments it then has.
+pub fn a_recording_may_begin_late()
+    ensures { (recording : RecordingForm) (pieces : List (List ℕ)) (n : ℕ)
+        → Channel recording (records_of recording pieces) (records_of recording (drop n pieces)) }
 {}
