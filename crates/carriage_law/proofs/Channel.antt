@@ -77,8 +77,11 @@ module _ (recording : RecordingForm) (sent recorded : List Record) (channel : Ch
       no_copy less kept =
           let there : Member (arrivals pid recorded) (record { place = channel.first x.place; moment = kept.0; bytes = x.bytes }) =
           record_arrives pid (channel.first x.place) recorded kept.0 x.bytes first_within kept.1 (sym (channel.same x.place x_is.within) ∙ x_is.bytes) x_is.of_pid in
-          omega (arith, no_copy_of_arrival channel.first None 0 (arrivals pid recorded) channel_alone (arrivals_above pid 0 recorded)
-          (record { place = channel.first x.place; moment = kept.0; bytes = x.bytes }) x there received less)
+          omega (
+            arith,
+            no_copy_of_arrival channel.first None 0 (arrivals pid recorded) channel_alone (arrivals_above pid 0 recorded)
+                (record { place = channel.first x.place; moment = kept.0; bytes = x.bytes }) x there received less,
+          )
 
       by_order : (channel.first x.place < x.place) ⊎ (x.place ≤ channel.first x.place) → channel.first x.place ≡ x.place
       by_order (inr up_to) = omega (arith, channel.behind x.place x_is.within)

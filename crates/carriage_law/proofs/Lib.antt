@@ -21,3 +21,4 @@ pub mod Stamps
 pub mod Late
 pub mod Lossless
 pub mod Moments
+pub mod Small

@@ -18,6 +18,7 @@ ghost use Rattle.ts_spec.specs.Sndu.{sndu_form};
 ghost use Rattle.carriage_spec.specs.Channel.{Channel};
 ghost use Rattle.carriage_spec.specs.Carried.{packets_sent, IsCarried, IsSentUnit, NoUndetectedError, ArrivedIntact, IsAccepted, IsRising, IncludesIntact};
 ghost use Rattle.carriage_spec.specs.Delivered.{carried_by_sndu, delivered_by_ule};
+ghost use Rattle.carriage_law.specs.Examples.{SmallLoss};
 ghost use Rattle.carriage_law.specs.Words.{differing_from_last, TellsByFronts, packets_from, IsEndedBy, timed_packet, timed_unit, IsShift};
 
 // UNITS
@@ -102,8 +103,8 @@ pub fn accepted_units_have_their_moments()
         → (form : UnitForm) (pid : ℕ) (units : List (List ℕ)) (begin : ℕ → ℕ) → IsCarried form pid sent units begin
         → (shift : ℕ) × IsShift recording shift
         × ((accepted : PlacedUnit) → Contains (accepted_units form pid (records_of recording pieces)) accepted
-            → (n : ℕ) (is : IsSentUnit channel pid units begin n accepted)
-            → accepted.moment + shift ≡ (arrival_at (arrivals pid sent) is.packet).moment) }
+        → (n : ℕ) (is : IsSentUnit channel pid units begin n accepted)
+        → accepted.moment + shift ≡ (arrival_at (arrivals pid sent) is.packet).moment) }
 {}
 
 // ISOLATION
@@ -153,4 +154,9 @@ pub fn a_stream_without_loss_is_accepted()
 pub fn a_recording_may_begin_late()
     ensures { (recording : RecordingForm) (pieces : List (List ℕ)) (n : ℕ)
         → Channel recording (records_of recording pieces) (records_of recording (drop n pieces)) }
+{}
+
+/// In a small recording that lost records, has a copy of one and a damaged one, all premises hold: what is left is delivered.
+pub fn a_small_recording_gives_what_is_left()
+    ensures { SmallLoss }
 {}

@@ -1,0 +1,5 @@
+use Rattle.carriage_law.proofs.Small.{small_loss}
+use Rattle.carriage_law.proofs.a_small_recording_gives_what_is_left.Goals as goal
+
+pub returns : goal.returns
+returns c = small_loss
