@@ -102,6 +102,7 @@ first_record pid j r records a (Some time) is there = by_test (is_of pid r.bytes
     }
     by_test true test (inr never) = absurd never
 
+-- what stands among the arrivals is a record
 arrival_from : (pid j : ℕ) (records : List Record) (a : Arrival) → Member (arrivals_from pid j records) a → IsRecord pid j records a
 arrival_from pid j [] a there = absurd there
 arrival_from pid j (r ∷ records) a there =
@@ -140,6 +141,7 @@ arrives_one pid j bytes time (Some moment) is read =
     subst (λ (b : Bool). Member (cond {A = List Arrival} b (record { place = j; moment = moment; bytes = bytes } ∷ []) []) (record { place = j; moment = time; bytes = bytes })) (sym read)
     (inl (ap (λ (t : ℕ). record { place = j; moment = t; bytes = bytes }) same))
 
+-- so it is with the records behind others
 record_from : (pid j i : ℕ) (records : List Record) (time : ℕ) → i < length records → (record_at records i).moment ≡ Some time → is_of pid (record_at records i).bytes ≡ true
     → Member (arrivals_from pid j records) (record { place = j + i; moment = time; bytes = (record_at records i).bytes })
 record_from pid j i [] time within is read = absurd (omega arith)

@@ -20,12 +20,15 @@ carried_by_number units n = carried_by_sndu (unit_at units n)
 
 module _ (recording : RecordingForm) (sent recorded : List Record) (channel : Channel recording sent recorded) (pid : ℕ)
     (units : List (List ℕ)) (begin : ℕ → ℕ) (packetized : Packetizes sndu_form units (packets_sent pid sent) begin) (no_error : NoUndetectedError channel sndu_form pid units begin) where
+  -- SNDUs are a lawful kind of unit
   abbrev carried : IsCarried sndu_form pid sent units begin
   carried = record { lawful = sndu_lawful; packetized = packetized }
 
+  -- the numbers of the accepted SNDUs
   abbrev pub delivered_numbers : List ℕ
   delivered_numbers = accepted_numbers recording sent recorded channel sndu_form pid units begin carried no_error
 
+  -- each SNDU that arrived intact is among them
   pub delivered_include_intact : IncludesIntact channel pid units begin delivered_numbers
   delivered_include_intact = includes_intact recording sent recorded channel sndu_form pid units begin carried no_error
 

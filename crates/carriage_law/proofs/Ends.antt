@@ -40,6 +40,7 @@ fits_when : (starts fits : Bool) → (not starts || fits) ≡ true → starts �
 fits_when true fits test is = test
 fits_when false fits test is = absurd (cc)
 
+-- and where that holds it does not
 when_fits : (starts fits : Bool) → (starts ≡ true → fits ≡ true) → (not starts || fits) ≡ true
 when_fits true fits fitting = fitting refl
 when_fits false fits fitting = refl
@@ -56,9 +57,11 @@ on_or_end before packet = by_tests (cases_Bool (continues before packet)) (cases
 
 -- One packet more in front.
 
+-- the packets behind the one in front
 packet_at-next : (packet : PacketFields) (packets : List PacketFields) (k : ℕ) → packet_at (packet ∷ packets) (k + 1) ≡ packet_at packets k
 packet_at-next packet packets k = let next : k + 1 ≡ suc k = omega arith in ap (packet_at (packet ∷ packets)) next
 
+-- a packet that goes on goes on
 goes_on_later : (packet : PacketFields) (packets : List PacketFields) (k : ℕ) → GoesOn packets k → GoesOn (packet ∷ packets) (suc k)
 goes_on_later packet packets k on =
     let next : suc k + 1 ≡ suc (k + 1) = omega arith in record {
@@ -66,6 +69,7 @@ goes_on_later packet packets k on =
       starts = ap (λ (t : ℕ). (packet_at (packet ∷ packets) t).starts) next ∙ on.starts;
     }
 
+-- also without the packet in front
 goes_on_before : (packet : PacketFields) (packets : List PacketFields) (k : ℕ) → GoesOn (packet ∷ packets) (suc k) → GoesOn packets k
 goes_on_before packet packets k on =
     let next : suc (k + 1) ≡ suc k + 1 = omega arith in record {
@@ -73,6 +77,7 @@ goes_on_before packet packets k on =
       starts = ap (λ (t : ℕ). (packet_at (packet ∷ packets) t).starts) next ∙ on.starts;
     }
 
+-- the end stays, where the first packet goes on
 ended_by_later : (packet : PacketFields) (packets : List PacketFields) (k : ℕ) → GoesOn (packet ∷ packets) 0 → IsEndedBy packets k → IsEndedBy (packet ∷ packets) (suc k)
 ended_by_later packet packets k on end = record {
   within = omega (arith, end.within);
@@ -87,6 +92,7 @@ ended_by_later packet packets k on end = record {
     before zero less = on
     before (suc i) less = goes_on_later packet packets i (end.before i (omega arith))
 
+-- also without the packet in front
 ended_by_before : (packet : PacketFields) (packets : List PacketFields) (k : ℕ) → IsEndedBy (packet ∷ packets) (suc k) → IsEndedBy packets k
 ended_by_before packet packets k end = record {
   within = omega (arith, end.within);
@@ -103,16 +109,19 @@ ended_by_before packet packets k end = record {
 abbrev HasEnd : PacketFields → List Arrival → Type 0
 HasEnd packet behind = (k : ℕ) × IsEndedBy (packets_from packet behind) k
 
+-- the first packet behind goes on
 first_goes_on : (packet next : PacketFields) (packets : List PacketFields) → continues packet next ≡ true → next.starts ≡ false → GoesOn (packet ∷ next ∷ packets) 0
 first_goes_on packet next packets continuous starts = record {
   continuous = ap (continues packet) (packet_at-next packet (next ∷ packets) 0) ∙ continuous;
   starts = ap (λ (t : PacketFields). t.starts) (packet_at-next packet (next ∷ packets) 0) ∙ starts;
 }
 
+-- or it ends the bytes
 first_ends : (packet next : PacketFields) (packets : List PacketFields) → (continues packet next ≡ false) ⊎ (next.starts ≡ true) → GoesOn (packet ∷ next ∷ packets) 0 → ⊥
 first_ends packet next packets (inl gap) on = absurd (cc (sym gap ∙ on.continuous))
 first_ends packet next packets (inr starts) on = absurd (cc (sym starts ∙ on.starts))
 
+-- the packet that ended them
 end_told : (packet : PacketFields) (behind : List Arrival) → (given_behind packet behind).is_ended ≡ true → HasEnd packet behind
 end_told packet [] is = absurd (cc)
 end_told packet (a ∷ behind) is = by_next (on_or_end packet (packet_of a)) (end_told (packet_of a) behind)
@@ -132,6 +141,7 @@ end_told packet (a ∷ behind) is = by_next (on_or_end packet (packet_of a)) (en
       },
     )
 
+-- a packet that ends them
 told_end : (packet : PacketFields) (behind : List Arrival) (k : ℕ) → IsEndedBy (packets_from packet behind) k → (given_behind packet behind).is_ended ≡ true
 told_end packet [] k end = absurd (omega (arith, end.within))
 told_end packet (a ∷ behind) zero end = by_next (on_or_end packet (packet_of a))
@@ -151,5 +161,6 @@ told_end packet (a ∷ behind) (suc k) end = by_next (on_or_end packet (packet_o
         ∙ later (ended_by_before packet (packets_from (packet_of a) behind) k end)
     by_next (inr ends) later = absurd (first_ends packet (packet_of a) (map packet_of behind) ends (end.before 0 (omega arith)))
 
+-- the bytes are ended exactly where there is such a packet
 pub ended : (packet : PacketFields) (behind : List Arrival) → ((given_behind packet behind).is_ended ≡ true) ↔ ((k : ℕ) × IsEndedBy (packets_from packet behind) k)
 ended packet behind = (end_told packet behind, λ end. told_end packet behind end.0 end.1)

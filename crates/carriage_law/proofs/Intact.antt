@@ -45,17 +45,21 @@ unwrapped (Some time) some = refl
 
 module _ (recording : RecordingForm) (sent recorded : List Record) (channel : Channel recording sent recorded) (form : UnitForm) (pid : ℕ)
     (units : List (List ℕ)) (begin : ℕ → ℕ) (carried : IsCarried form pid sent units begin) (n : ℕ) (known : n < length units) (intact : ArrivedIntact channel pid units begin n) where
+  -- the packets that were sent
   abbrev packets : List PacketFields
   packets = packets_sent pid sent
 
+  -- as many as arrived when they were sent
   count : length packets ≡ length (arrivals pid sent)
   count = length-map (arrivals pid sent) packet_of
 
   -- Its packets.
 
+  -- a unit has a byte
   not_empty : 1 ≤ size units n
   not_empty = omega (arith, unit_long form units packets begin carried.lawful carried.packetized n known, carried.lawful.start_least)
 
+  -- and ends within the packets
   end_within : begin n + size units n ≤ edge packets (length packets)
   end_within = omega (arith, unit_within form units packets begin carried.lawful carried.packetized n known, edge-all packets)
 
@@ -69,6 +73,7 @@ module _ (recording : RecordingForm) (sent recorded : List Record) (channel : Ch
 
   -- Facts on the unit from its first packet to its last.
   module _ (first last : ℕ) (begins : IsIn packets first (begin n)) (ends : IsIn packets last (begin n + size units n - 1)) where
+    -- the last packet is not before the first
     in_order : first ≤ last
     in_order = by_order (cases_lt last first)
       where
@@ -96,12 +101,15 @@ module _ (recording : RecordingForm) (sent recorded : List Record) (channel : Ch
         by_last (inr to) = to
         by_last (inl behind) = absurd (omega (arith, part.not_over, ends.below, edge_rises packets (last + 1) i (omega arith)))
 
+    -- their records are kept
     kept : (i : ℕ) → first ≤ i → i ≤ last → IsKept channel pid i (intact.at i)
     kept i from to = intact.kept i (holds i from to)
 
+    -- they are among those that were sent
     known_packet : (i : ℕ) → i ≤ last → i < length (arrivals pid sent)
     known_packet i to = omega (arith, ends.within, count)
 
+    -- they arrived when they were sent
     sent_arrival : (i : ℕ) → i ≤ last → ArrivesFrom pid sent (arrival_at (arrivals pid sent) i)
     sent_arrival i to = arrival_record pid sent (arrival_at (arrivals pid sent) i) (member_at (arrivals pid sent) i no_arrival (known_packet i to))
 
@@ -109,12 +117,14 @@ module _ (recording : RecordingForm) (sent recorded : List Record) (channel : Ch
     abbrev arrived : ℕ → Arrival
     arrived i = record { place = intact.at i; moment = unwrap_or (record_at recorded (intact.at i)).moment 0; bytes = (arrival_at (arrivals pid sent) i).bytes }
 
+    -- it has the bytes that are recorded
     bytes_at : (i : ℕ) → first ≤ i → i ≤ last → (record_at recorded (intact.at i)).bytes ≡ (arrived i).bytes
     bytes_at i from to =
         let it : IsKept channel pid i (intact.at i) = kept i from to in
         let sent_it : ArrivesFrom pid sent (arrival_at (arrivals pid sent) i) = sent_arrival i to in
         it.same ∙ ap (λ (t : ℕ). (record_at sent t).bytes) it.place ∙ sent_it.bytes
 
+    -- and the moment
     moment_at : (i : ℕ) → first ≤ i → i ≤ last → (record_at recorded (intact.at i)).moment ≡ Some (arrived i).moment
     moment_at i from to =
         let it : IsKept channel pid i (intact.at i) = kept i from to in
@@ -185,6 +195,7 @@ module _ (recording : RecordingForm) (sent recorded : List Record) (channel : Ch
         let within : (first ≤ part.0) × (part.0 ≤ last) = only_holds part.0 part.1 in
         (part.0, within.0, within.1, part.2)
 
+    -- so all of them are received one behind another
     agrees : Agrees packets (last - first) first (received_after (Some (arrived first).bytes) found.rest)
     agrees = row packets arrived first last rise packet_is ends.within differs_next found.rest (last - first) first (omega arith) (omega (arith, in_order)) found.above found.here only
 
@@ -192,6 +203,7 @@ module _ (recording : RecordingForm) (sent recorded : List Record) (channel : Ch
     abbrev placed : PlacedUnit
     placed = record { place = (arrived first).place; start = 1 + (begin n - edge packets first); moment = (arrived first).moment; unit = unit_at units n }
 
+    -- it is accepted
     placed_accepted : Member (accepted_units form pid recorded) placed
     placed_accepted =
         let end_last : last + 1 ≡ first + 1 + (last - first) = omega (arith, in_order) in
@@ -201,6 +213,7 @@ module _ (recording : RecordingForm) (sent recorded : List Record) (channel : Ch
         (received_after (Some (arrived first).bytes) found.rest) known begins (omega (arith, begins.from)) (packet_is first (omega arith) in_order) agrees
         (omega (arith, ends.below, ap (edge packets) end_last))))
 
+    -- the unit is accepted from its own record and place
     accepted_there : IsAccepted channel form pid units begin n
     accepted_there = record {
       accepted = placed;

@@ -21,6 +21,7 @@ moved a = at_zero (timed_packet a)
 
 -- Received packets.
 
+-- a duplicate is one wherever it stands
 unless_repeated-moved : (before : Option (List ℕ)) (a : Arrival) → unless_repeated before (moved a) ≡ map moved (unless_repeated before a)
 unless_repeated-moved before a = by_test (repeats before a.bytes)
   where
@@ -28,6 +29,7 @@ unless_repeated-moved before a = by_test (repeats before a.bytes)
     by_test true = refl
     by_test false = refl
 
+-- the same packets are received
 received_after-moved : (before : Option (List ℕ)) (xs : List Arrival) → received_after before (map moved xs) ≡ map moved (received_after before xs)
 received_after-moved before [] = refl
 received_after-moved before (a ∷ xs) =
@@ -37,6 +39,7 @@ received_after-moved before (a ∷ xs) =
 
 -- Accepted units.
 
+-- the same bytes stand behind a start
 given_behind-moved : (before : PacketFields) (behind : List Arrival) → given_behind before (map moved behind) ≡ given_behind before behind
 given_behind-moved before [] = refl
 given_behind-moved before (a ∷ behind) =
@@ -77,6 +80,7 @@ starts-moved form a behind (s ∷ starts) =
     ∙ ap₂ (λ x y. x ++ y) (accepted_at-moved form a behind s) (starts-moved form a behind starts)
     ∙ sym (map-append timed_unit (accepted_at form a behind s) (flat_map (accepted_at form a behind) starts))
 
+-- the same units are accepted
 accepted_in-moved : (form : UnitForm) (xs : List Arrival) → map timed_unit (accepted_in form (map moved xs)) ≡ map timed_unit (accepted_in form xs)
 accepted_in-moved form [] = refl
 accepted_in-moved form (a ∷ xs) =
@@ -86,12 +90,14 @@ accepted_in-moved form (a ∷ xs) =
 
 -- Events.
 
+-- the same events are told of the starts of a packet
 event_starts-moved : (form : UnitForm) (a : Arrival) (behind : List Arrival) (starts : List ℕ)
     → flat_map (event_at form (moved a) (map moved behind)) starts ≡ flat_map (event_at form a behind) starts
 event_starts-moved form a behind [] = refl
 event_starts-moved form a behind (s ∷ starts) =
     ap₂ (λ x y. x ++ y) (ap (event_by form a.moment) (outcome-moved form a behind s)) (event_starts-moved form a behind starts)
 
+-- and of all packets
 events_of-moved : (form : UnitForm) (xs : List Arrival) → events_of form (map moved xs) ≡ events_of form xs
 events_of-moved form [] = refl
 events_of-moved form (a ∷ xs) =

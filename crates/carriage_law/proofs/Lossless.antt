@@ -53,18 +53,23 @@ all_received before (a ∷ xs) first differs =
 
 module _ (recording : RecordingForm) (pieces : List (List ℕ)) (form : UnitForm) (pid : ℕ) (units : List (List ℕ)) (begin : ℕ → ℕ)
     (carried : IsCarried form pid (records_of recording pieces) units begin) (n : ℕ) (known : n < length units) where
+  -- what was sent
   abbrev sent : List Record
   sent = records_of recording pieces
 
+  -- its arrivals
   abbrev sent_at : ℕ → Arrival
   sent_at m = arrival_at (arrivals pid sent) m
 
+  -- as many packets as arrivals
   count : length (packets_sent pid sent) ≡ length (arrivals pid sent)
   count = length-map (arrivals pid sent) packet_of
 
+  -- an arrival is its packet
   packet_is : (i : ℕ) → i < length (arrivals pid sent) → packet_of (sent_at i) ≡ packet_at (packets_sent pid sent) i
   packet_is i within = sym (get_or-map packet_of (arrivals pid sent) i no_arrival no_packet within)
 
+  -- and has the bytes of its record
   bytes_at : (m : ℕ) → m < length (arrivals pid sent) → (record_at sent (sent_at m).place).bytes ≡ (sent_at m).bytes
   bytes_at m within = (arrival_record pid sent (sent_at m) (member_at (arrivals pid sent) m no_arrival within)).bytes
 
@@ -141,6 +146,7 @@ module _ (recording : RecordingForm) (pieces : List (List ℕ)) (form : UnitForm
           under : found.0 < k
           under = later_arrival pid sent found.0 k found.1 (omega (arith, part_k.within, count)) (omega (arith, below, place))
 
+  -- each unit arrived intact
   intact : ArrivedIntact (unchanged recording pieces) pid units begin n
   intact = record {
     at = λ m. (sent_at m).place;

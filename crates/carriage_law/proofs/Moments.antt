@@ -23,9 +23,11 @@ AreShifted shift sent recorded place first =
     (j recorded_moment sent_moment : ℕ) → j < length recorded → first j ≡ j → (record_at recorded j).moment ≡ Some recorded_moment
     → (record_at sent (place j)).moment ≡ Some sent_moment → recorded_moment + shift ≡ sent_moment
 
+-- moments that are there
 some_same : (a b : ℕ) → Some a ≡ Some b → a ≡ b
 some_same a b same = cc
 
+-- such a shift there is
 moments_shifted : (recording : RecordingForm) (sent : List Record) (pieces : List (List ℕ)) (place first : ℕ → ℕ) → HasStamps recording sent (records_of recording pieces) place first
     → (shift : ℕ) × IsShift recording shift × AreShifted shift sent (records_of recording pieces) place first
 moments_shifted plain sent pieces place first stamps =
@@ -48,6 +50,7 @@ moments_shifted m2ts sent pieces place first stamps = by_shift (times_shifted pi
 
 module _ (recording : RecordingForm) (sent : List Record) (pieces : List (List ℕ)) (channel : Channel recording sent (records_of recording pieces)) (form : UnitForm) (pid : ℕ)
     (units : List (List ℕ)) (begin : ℕ → ℕ) (carried : IsCarried form pid sent units begin) where
+  -- what was recorded
   abbrev recorded : List Record
   recorded = records_of recording pieces
 

@@ -21,6 +21,7 @@ module _ (IsNumber : PlacedUnit → ℕ → Type 0) where
   abbrev pub AreNumbered : List PlacedUnit → Type 0
   AreNumbered xs = (x : PlacedUnit) → Member xs x → (n : ℕ) × IsNumber x n
 
+  -- their numbers, in order
   abbrev pub numbers_of : (xs : List PlacedUnit) → AreNumbered xs → List ℕ
   numbers_of [] all = []
   numbers_of (x ∷ xs) all = (all x (inl refl)).0 ∷ numbers_of xs (λ y there. all y (inr there))

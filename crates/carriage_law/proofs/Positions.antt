@@ -21,6 +21,7 @@ size units n = length (unit_at units n)
 
 -- Edges of packets.
 
+-- the first packet's bytes come first
 pub edge-zero : (packets : List PacketFields) → edge packets 0 ≡ 0
 unfolding edge
 edge-zero packets = refl

@@ -63,6 +63,7 @@ stuffing_told [] is = absurd (cc)
 stuffing_told (a ∷ []) is = absurd (cc)
 stuffing_told (a ∷ b ∷ bytes) is = (omega arith, span-two a b [] ∙ sym (span-two a b bytes) ∙ is)
 
+-- all laws of a kind of unit
 pub sndu_lawful : IsLawful sndu_form
 sndu_lawful = record {
   start_least = omega arith;

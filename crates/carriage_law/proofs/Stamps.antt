@@ -1,5 +1,5 @@
 -- Moments of m2ts recordings: they are counted on from the stamp of the first record.
-use Rattle.std.proofs.Common.{◌≡◌, ℕ, zero, suc, ◌+◌, ◌-◌, ◌%◌, ◌^◌, ◌<◌, ◌≤◌, Option, None, Some, List, [], ◌∷◌, length, get_or, drop, refl, ap, sym, ◌∙◌, subst, arith}
+use Rattle.std.proofs.Common.{◌≡◌, ℕ, zero, suc, ◌+◌, ◌-◌, ◌%◌, ◌^◌, ◌<◌, ◌≤◌, Option, None, Some, List, [], ◌∷◌, length, get_or, refl, ap, sym, ◌∙◌, subst, arith}
 use Rattle.std.specs.Prelude.{option_map}
 use Rattle.ts_spec.specs.Recording.{Record, m2ts_stamp, moment_behind, m2ts_records}
 use Rattle.ts_spec.specs.Received.{record_at}
@@ -22,6 +22,7 @@ remainder-moment : (before : Option ℕ) (stamp : ℕ) → stamp < 2 ^ 30 → mo
 remainder-moment None stamp small = omega arith
 remainder-moment (Some before) stamp small = omega arith
 
+-- stamps have 30 bits
 stamp_small : (piece : List ℕ) → m2ts_stamp piece < 2 ^ 30
 stamp_small piece = omega arith
 
@@ -31,20 +32,18 @@ moment_near before stamp = (omega arith, omega arith)
 
 -- All records.
 
+-- each piece gives a record
 pub length-m2ts : (before : Option ℕ) (pieces : List (List ℕ)) → length (m2ts_records before pieces) ≡ length pieces
 length-m2ts before [] = refl
 length-m2ts before (piece ∷ pieces) = ap suc (length-m2ts (Some (moment_behind before (m2ts_stamp piece))) pieces)
 
+-- with its moment
 pub moment-m2ts : (before : Option ℕ) (pieces : List (List ℕ)) (j : ℕ) → j < length pieces → (record_at (m2ts_records before pieces) j).moment ≡ Some (moment_at before pieces j)
 moment-m2ts before [] j within = absurd (omega arith)
 moment-m2ts before (piece ∷ pieces) zero within = refl
 moment-m2ts before (piece ∷ pieces) (suc j) within = moment-m2ts (Some (moment_behind before (m2ts_stamp piece))) pieces j (omega arith)
 
-pub bytes-m2ts : (before : Option ℕ) (pieces : List (List ℕ)) (j : ℕ) → j < length pieces → (record_at (m2ts_records before pieces) j).bytes ≡ drop 4 (piece_at pieces j)
-bytes-m2ts before [] j within = absurd (omega arith)
-bytes-m2ts before (piece ∷ pieces) zero within = refl
-bytes-m2ts before (piece ∷ pieces) (suc j) within = bytes-m2ts (Some (moment_behind before (m2ts_stamp piece))) pieces j (omega arith)
-
+-- each moment has its piece's stamp as remainder
 pub stamp-moment : (before : Option ℕ) (pieces : List (List ℕ)) (j : ℕ) → j < length pieces → moment_at before pieces j % 2 ^ 30 ≡ m2ts_stamp (piece_at pieces j)
 stamp-moment before [] j within = absurd (omega arith)
 stamp-moment before (piece ∷ pieces) zero within = remainder-moment before (m2ts_stamp piece) (stamp_small piece)
@@ -74,10 +73,12 @@ time_before first time (suc j) = time j
 abbrev AreNear : ℕ → (ℕ → ℕ) → ℕ → Type 0
 AreNear first time count = (j : ℕ) → j < count → (time_before first time j ≤ time j) × (time j < time_before first time j + 2 ^ 30)
 
+-- also without the first of them
 near_later : (first : ℕ) (time : ℕ → ℕ) (count : ℕ) → AreNear first time (suc count) → AreNear (time 0) (λ j. time (suc j)) count
 near_later first time count near zero within = near 1 (omega arith)
 near_later first time count near (suc j) within = near (suc (suc j)) (omega arith)
 
+-- the records behind one whose moment stands apart by a whole number of rounds
 shift_behind : (before first shift : ℕ) (pieces : List (List ℕ)) (time : ℕ → ℕ) → shift % 2 ^ 30 ≡ 0 → before + shift ≡ first → AreNear first time (length pieces)
     → ((j : ℕ) → j < length pieces → moment_at (Some before) pieces j % 2 ^ 30 ≡ time j % 2 ^ 30)
     → (j : ℕ) → j < length pieces → moment_at (Some before) pieces j + shift ≡ time j
@@ -96,6 +97,7 @@ shift_behind before first shift (piece ∷ pieces) time whole same near remainde
     by_place zero less later = here
     by_place (suc i) less later = later i (omega arith)
 
+-- the records from the first on: its moment is its stamp
 shift_all : (pieces : List (List ℕ)) (time : ℕ → ℕ) → ((j : ℕ) → suc j < length pieces → (time j ≤ time (suc j)) × (time (suc j) < time j + 2 ^ 30))
     → ((j : ℕ) → j < length pieces → moment_at None pieces j % 2 ^ 30 ≡ time j % 2 ^ 30)
     → (shift : ℕ) × (shift % 2 ^ 30 ≡ 0) × ((j : ℕ) → j < length pieces → moment_at None pieces j + shift ≡ time j)

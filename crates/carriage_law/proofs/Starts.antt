@@ -10,6 +10,7 @@ use Rattle.ts_spec.specs.Packetized.{packet_at, unit_at, joined, edge, IsIn, IsF
 use Rattle.carriage_law.proofs.Member.{Member}
 use Rattle.carriage_law.proofs.Positions.{body, joined_behind, size, edge-next, drop-inside, unit_long, begin_rises, begins_later, next_at_once}
 
+-- a test of an order that holds
 pub leb_true : (a b : ℕ) → a ≤ b → leb a b ≡ true
 leb_true a b order = grind arith
 

@@ -37,6 +37,7 @@ subsequence_map f (x ∷ xs) (y ∷ ys) (inr left_out) = inr (subsequence_map f 
 
 -- Numbers that rise.
 
+-- no number is below the least
 pub rising_member : (k : ℕ) (numbers : List ℕ) (n : ℕ) → IsRising k numbers → Member numbers n → k ≤ n
 rising_member k [] n rising there = absurd there
 rising_member k (m ∷ numbers) n rising (inl same) = omega (arith, rising.0, same)

@@ -18,6 +18,7 @@ use Rattle.carriage_law.proofs.Intact.{intact_accepted}
 
 module _ (recording : RecordingForm) (sent recorded : List Record) (channel : Channel recording sent recorded) (form : UnitForm) (pid : ℕ)
     (units : List (List ℕ)) (begin : ℕ → ℕ) (carried : IsCarried form pid sent units begin) (no_error : NoUndetectedError channel form pid units begin) where
+  -- the number of a sent unit
   abbrev IsNumber : PlacedUnit → ℕ → Type 0
   IsNumber x n = IsSentUnit channel pid units begin n x
 
@@ -25,6 +26,7 @@ module _ (recording : RecordingForm) (sent recorded : List Record) (channel : Ch
   abbrev numbered : (x : PlacedUnit) → Member (accepted_units form pid recorded) x → (n : ℕ) × IsNumber x n
   numbered x there = no_error.each x (contains_member (accepted_units form pid recorded) x there)
 
+  -- the numbers of the accepted units, in order
   abbrev pub accepted_numbers : List ℕ
   accepted_numbers = numbers_of IsNumber (accepted_units form pid recorded) numbered
 

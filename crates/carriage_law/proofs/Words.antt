@@ -90,6 +90,7 @@ module _ (form : UnitForm) (lawful : IsLawful form) (given : Given) where
   IsTold told =
       (IsBadInFront form given × (told ≡ bad_length)) ⊎ (((unit : List ℕ) × IsUnitInFront form given unit × (told ≡ candidate unit)) ⊎ (told ≡ incomplete given))
 
+  -- it is one of the three
   outcome_told : IsTold (outcome_of form given)
   outcome_told = by_span (form.span (all_of given)) refl
     where
@@ -172,6 +173,7 @@ module _ (form : UnitForm) (lawful : IsLawful form) (given : Given) where
           subst (IsUnitInFront form given) same whole_one.1
       by_case (inr (inr same)) = by_end_packet given.is_ended (sym is ∙ same)
 
+  -- so each outcome is told
   pub tells_by_fronts : TellsByFronts form given
   tells_by_fronts = record {
     bad_when = (bad_told, told_bad);

@@ -1,7 +1,7 @@
 -- A small m2ts recording of a ULE stream, and what a channel left of it: records dropped, repeated and damaged.
-use Rattle.std.specs.Prelude.{◌≡◌, ℕ, ◌+◌, ◌*◌, List, [], ◌∷◌, ◌++◌, replicate, slice_index}
+use Rattle.std.specs.Prelude.{◌≡◌, ℕ, ◌+◌, ◌*◌, List, [], ◌∷◌, ◌++◌, replicate}
 use Rattle.ts_spec.specs.Packet.{null_packet}
-use Rattle.ts_spec.specs.Packetized.{Packetizes}
+use Rattle.ts_spec.specs.Packetized.{unit_at, Packetizes}
 use Rattle.ts_spec.specs.Recording.{Record, m2ts, records_of}
 use Rattle.ts_spec.specs.Sndu.{sndu_form}
 use Rattle.carriage_spec.specs.Channel.{Channel}
@@ -17,6 +17,7 @@ small_datagram id =
 abbrev pub small_sndu : ℕ → List ℕ → List ℕ
 small_sndu id crc = 0x80 ∷ 24 ∷ 0x08 ∷ 0 ∷ small_datagram id ++ crc
 
+-- four of them with their CRC-32
 abbrev pub small_units : List (List ℕ)
 small_units =
     small_sndu 1 (0xB9 ∷ 0xA1 ∷ 0x09 ∷ 0x38 ∷ [])
@@ -33,31 +34,28 @@ small_begin n = 28 * n
 abbrev pub small_packet : ℕ → List ℕ → List ℕ
 small_packet counter unit = 0x47 ∷ 0x41 ∷ 0 ∷ (0x30 + counter) ∷ 154 ∷ 0 ∷ replicate 153 0xFF ++ 0 ∷ unit
 
--- a record with this stamp
-abbrev pub small_piece : List ℕ → List ℕ → List ℕ
-small_piece stamp packet = stamp ++ packet
-
--- the stamps come to their end behind the first record
+-- a null packet stands among them; stamps begin anew behind the first record
 abbrev pub small_sent : List Record
 small_sent = records_of m2ts (
-    small_piece (0x3F ∷ 0xFF ∷ 0xFF ∷ 0xF0 ∷ []) (small_packet 5 (small_sndu 1 (0xB9 ∷ 0xA1 ∷ 0x09 ∷ 0x38 ∷ [])))
-    ∷ small_piece (0 ∷ 0 ∷ 0 ∷ 4 ∷ []) (small_packet 6 (small_sndu 2 (0xDA ∷ 0x70 ∷ 0x37 ∷ 0x19 ∷ [])))
-    ∷ small_piece (0 ∷ 0 ∷ 0 ∷ 8 ∷ []) null_packet
-    ∷ small_piece (0 ∷ 0 ∷ 0 ∷ 12 ∷ []) (small_packet 7 (small_sndu 3 (0x07 ∷ 0x7F ∷ 0xD6 ∷ 0x6B ∷ [])))
-    ∷ small_piece (0 ∷ 0 ∷ 0 ∷ 16 ∷ []) (small_packet 8 (small_sndu 4 (0x1D ∷ 0xD2 ∷ 0x4B ∷ 0x5B ∷ [])))
+    (0x3F ∷ 0xFF ∷ 0xFF ∷ 0xF0 ∷ small_packet 5 (unit_at small_units 0))
+    ∷ (0 ∷ 0 ∷ 0 ∷ 4 ∷ small_packet 6 (unit_at small_units 1))
+    ∷ (0 ∷ 0 ∷ 0 ∷ 8 ∷ null_packet)
+    ∷ (0 ∷ 0 ∷ 0 ∷ 12 ∷ small_packet 7 (unit_at small_units 2))
+    ∷ (0 ∷ 0 ∷ 0 ∷ 16 ∷ small_packet 8 (unit_at small_units 3))
     ∷ [])
 
--- the first record is dropped, the second repeated behind a null packet, the fourth damaged: its Identification is 9
+-- the first record is dropped, the second repeated behind the null packet with a stamp of its own,
+-- and the fourth damaged: its Identification is 9
 abbrev pub small_recorded : List Record
 small_recorded = records_of m2ts (
-    small_piece (0 ∷ 0 ∷ 0 ∷ 4 ∷ []) (small_packet 6 (small_sndu 2 (0xDA ∷ 0x70 ∷ 0x37 ∷ 0x19 ∷ [])))
-    ∷ small_piece (0 ∷ 0 ∷ 0 ∷ 8 ∷ []) null_packet
-    ∷ small_piece (0 ∷ 0 ∷ 0 ∷ 10 ∷ []) (small_packet 6 (small_sndu 2 (0xDA ∷ 0x70 ∷ 0x37 ∷ 0x19 ∷ [])))
-    ∷ small_piece (0 ∷ 0 ∷ 0 ∷ 12 ∷ []) (small_packet 7 (small_sndu 9 (0x07 ∷ 0x7F ∷ 0xD6 ∷ 0x6B ∷ [])))
-    ∷ small_piece (0 ∷ 0 ∷ 0 ∷ 16 ∷ []) (small_packet 8 (small_sndu 4 (0x1D ∷ 0xD2 ∷ 0x4B ∷ 0x5B ∷ [])))
+    (0 ∷ 0 ∷ 0 ∷ 4 ∷ small_packet 6 (unit_at small_units 1))
+    ∷ (0 ∷ 0 ∷ 0 ∷ 8 ∷ null_packet)
+    ∷ (0 ∷ 0 ∷ 0 ∷ 10 ∷ small_packet 6 (unit_at small_units 1))
+    ∷ (0 ∷ 0 ∷ 0 ∷ 12 ∷ small_packet 7 (small_sndu 9 (0x07 ∷ 0x7F ∷ 0xD6 ∷ 0x6B ∷ [])))
+    ∷ (0 ∷ 0 ∷ 0 ∷ 16 ∷ small_packet 8 (unit_at small_units 3))
     ∷ [])
 
--- all premises of the laws together, where something is lost: the second and the fourth unit arrived intact, and are delivered
+-- all premises of the laws hold together where something is lost; the second and the fourth unit arrived intact
 pub record SmallLoss : Type 0 where
   pub channel : Channel m2ts small_sent small_recorded
   pub packetized : Packetizes sndu_form small_units (packets_sent 256 small_sent) small_begin
