@@ -1,1 +1,6 @@
 pub mod Capture
+pub mod Captured
+pub mod Reading
+pub mod Told
+pub mod Known
+pub mod Reader

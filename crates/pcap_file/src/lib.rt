@@ -1,9 +1,15 @@
-//! Captures in the pcap format (draft-ietf-opsawg-pcap sections 4 and 5): heads written.
+//! Captures in the pcap format (draft-ietf-opsawg-pcap sections 4 and 5), read record by record, and heads written.
 //!
-//! Receiving: datagrams -> [pcap_file] -> NAME.pcap.
-//! Begin with `write_head` and `record_head`.
+//! Sending: capture -> [pcap_file] -> datagrams. Receiving: datagrams -> [pcap_file] -> NAME.pcap.
+//! Begin with `CaptureReader::open` and `datagram_of`, `write_head` and `record_head`.
 #![tactic(auto)]
 
+mod captured;
+mod faults;
+mod file_head;
 mod heads;
+mod numbers;
 
+pub use captured::{LinkType, datagram_of};
+pub use faults::{CaptureFault, NextFault, OpenFault};
 pub use heads::{record_head, write_head};

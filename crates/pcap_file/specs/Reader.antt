@@ -1,0 +1,55 @@
+-- A reader of a capture: what it knows, and what it stands for.
+use Rattle.std.specs.Prelude.{◌≡◌, ℕ, ◌+◌, ◌≤◌, Bool, false, List, length, Option, Some, None, Result, Ok, Err, IsErrOf, ⊤}
+use Rattle.wire_spec.specs.Causes.{Rose}
+use Rattle.pcap_file.specs.Reading.{is_least_first, link_at}
+use Rattle.pcap_file.specs.Told.{IsCapture, bytes_in}
+use Rattle.pcap_file.specs.Known.{ReaderState}
+use Rattle.pcap_file.specs.declared.faults.CaptureFault.{CaptureFault}
+use Rattle.pcap_file.specs.declared.faults.OpenFault.{OpenFault}
+use Rattle.pcap_file.specs.declared.faults.NextFault.{NextFault}
+use Rattle.pcap_file.specs.declared.faults.CaptureFault.TheVariants as fault
+use Rattle.pcap_file.specs.declared.faults.OpenFault.TheVariants as open_fault
+use Rattle.pcap_file.specs.declared.faults.NextFault.TheVariants as next_fault
+
+-- the reader took these bytes, which are a capture of these records
+pub record HasRead (reader : ReaderState) (front : List ℕ) (records : List (List ℕ)) : Type 0 where
+  pub capture : IsCapture front records
+  pub order : reader.least_first ≡ is_least_first front
+  pub link : Some reader.link ≡ link_at front
+  pub count : reader.records ≡ length records
+  pub size : reader.bytes ≡ bytes_in records
+
+-- the reader, one more record read
+abbrev pub with_record : ReaderState → List ℕ → ReaderState
+with_record reader bytes =
+    record reader { records = reader.records + 1; bytes = reader.bytes + length bytes }
+
+-- the reader, closed
+abbrev pub closed : ReaderState → ReaderState
+closed reader = record reader { is_open = false }
+
+-- what holds of the capture's fault, where that is the error
+abbrev pub OnOpenFault : OpenFault → (CaptureFault → Type 0) → Type 0
+OnOpenFault (open_fault.Capture f) P = P f
+OnOpenFault open_fault.Failed P = ⊤
+OnOpenFault open_fault.OutOfMemory P = ⊤
+
+abbrev pub OnNextFault : NextFault → (CaptureFault → Type 0) → Type 0
+OnNextFault (next_fault.Capture f) P = P f
+OnNextFault next_fault.Failed P = ⊤
+
+-- the faults that come only where the input has ended
+abbrev pub OnCut : CaptureFault → Type 0 → Type 0
+OnCut fault.Empty P = P
+OnCut fault.CutHead P = P
+OnCut fault.CutRecord P = P
+OnCut _ P = ⊤
+
+-- Failed is answered only where the source's counter rose, which never falls
+pub record HasOpenCause {T : Type 0} (before now : ℕ) (result : Result T OpenFault) : Type 0 where
+  pub later : before ≤ now
+  pub failed : IsErrOf result open_fault.Failed → Rose before now
+
+pub record HasNextCause {T : Type 0} (before now : ℕ) (result : Result T NextFault) : Type 0 where
+  pub later : before ≤ now
+  pub failed : IsErrOf result next_fault.Failed → Rose before now
