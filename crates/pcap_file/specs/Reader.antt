@@ -1,7 +1,8 @@
 -- A reader of a capture: what it knows, and what it stands for.
-use Rattle.std.specs.Prelude.{◌≡◌, ℕ, ◌+◌, ◌≤◌, Bool, false, List, length, Option, Some, None, Result, Ok, Err, IsErrOf, ⊤}
+use Rattle.std.specs.Prelude.{◌≡◌, ℕ, ◌+◌, ◌<◌, ◌≤◌, Bool, true, false, List, ◌++◌, length, Option, Some, None, Result, Ok, Err, IsErrOf, ⊤}
+use Rattle.std.specs.Io.KnownBytes.{Consumes}
 use Rattle.wire_spec.specs.Causes.{Rose}
-use Rattle.pcap_file.specs.Reading.{is_least_first, link_at}
+use Rattle.pcap_file.specs.Reading.{is_least_first, link_at, captured_length, longest_record, most_records, most_bytes}
 use Rattle.pcap_file.specs.Told.{IsCapture, bytes_in}
 use Rattle.pcap_file.specs.Known.{ReaderState}
 use Rattle.pcap_file.specs.declared.faults.CaptureFault.{CaptureFault}
@@ -38,12 +39,17 @@ abbrev pub OnNextFault : NextFault → (CaptureFault → Type 0) → Type 0
 OnNextFault (next_fault.Capture f) P = P f
 OnNextFault next_fault.Failed P = ⊤
 
--- the faults that come only where the input has ended
-abbrev pub OnCut : CaptureFault → Type 0 → Type 0
-OnCut fault.Empty P = P
-OnCut fault.CutHead P = P
-OnCut fault.CutRecord P = P
-OnCut _ P = ⊤
+-- a fault that comes only where the input has ended
+abbrev pub is_cut : CaptureFault → Bool
+is_cut fault.Empty = true
+is_cut fault.CutHead = true
+is_cut fault.CutRecord = true
+is_cut fault.Magic = false
+is_cut fault.Version = false
+is_cut fault.Link = false
+is_cut fault.RecordTooLong = false
+is_cut fault.TooMany = false
+is_cut fault.TooLong = false
 
 -- Failed is answered only where the source's counter rose, which never falls
 pub record HasOpenCause {T : Type 0} (before now : ℕ) (result : Result T OpenFault) : Type 0 where
@@ -53,3 +59,13 @@ pub record HasOpenCause {T : Type 0} (before now : ℕ) (result : Result T OpenF
 pub record HasNextCause {T : Type 0} (before now : ℕ) (result : Result T NextFault) : Type 0 where
   pub later : before ≤ now
   pub failed : IsErrOf result next_fault.Failed → Rose before now
+
+-- a read took one more record from the source, within the limits: these are its bytes
+pub record TakesRecord (least_first : Bool) (records bytes : ℕ) (old new : Option (List ℕ)) (taken : List ℕ) : Type 0 where
+  pub head : List ℕ
+  pub head_size : length head ≡ 16
+  pub size : length taken ≡ captured_length least_first head
+  pub read : Consumes old new (head ++ taken)
+  pub few : records < most_records
+  pub short : length taken ≤ longest_record
+  pub small : bytes + length taken ≤ most_bytes

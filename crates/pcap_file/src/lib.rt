@@ -9,6 +9,7 @@ mod faults;
 mod file_head;
 mod heads;
 mod numbers;
+mod records;
 
 pub use captured::{LinkType, datagram_of};
 pub use faults::{CaptureFault, NextFault, OpenFault};
