@@ -1,1 +1,6 @@
 pub mod RecordFaults
+pub mod FileHeads
+pub mod Captures
+pub mod Longest
+pub mod States
+pub mod ToldByReader

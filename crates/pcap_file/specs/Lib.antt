@@ -4,3 +4,4 @@ pub mod Reading
 pub mod Told
 pub mod Known
 pub mod Reader
+pub mod After

@@ -1,5 +1,6 @@
 -- A reader of a capture: what it knows, and what it stands for.
 use Rattle.std.specs.Prelude.{◌≡◌, ℕ, ◌+◌, ◌<◌, ◌≤◌, Bool, true, false, List, ◌++◌, length, Option, Some, None, Result, Ok, Err, IsErrOf, ⊤}
+use Rattle.std.specs.Borrow.{Bor}
 use Rattle.std.specs.Io.KnownBytes.{Consumes}
 use Rattle.wire_spec.specs.Causes.{Rose}
 use Rattle.pcap_file.specs.Reading.{is_least_first, link_at, captured_length, longest_record, most_records, most_bytes}
@@ -20,14 +21,15 @@ pub record HasRead (reader : ReaderState) (front : List ℕ) (records : List (Li
   pub count : reader.records ≡ length records
   pub size : reader.bytes ≡ bytes_in records
 
--- the reader, one more record read
+-- the reader with one more record read
 abbrev pub with_record : ReaderState → List ℕ → ReaderState
-with_record reader bytes =
-    record reader { records = reader.records + 1; bytes = reader.bytes + length bytes }
+with_record reader bytes = record reader { records = reader.records + 1; bytes = reader.bytes + length bytes }
 
--- the reader, closed
-abbrev pub closed : ReaderState → ReaderState
-closed reader = record reader { is_open = false }
+-- the reader after an answer: an Err closes it
+abbrev pub state_after : ReaderState → Result (Option (Bor (List ℕ))) NextFault → ReaderState
+state_after reader (Ok None) = reader
+state_after reader (Ok (Some bytes)) = with_record reader bytes.now
+state_after reader (Err e) = record reader { is_open = false }
 
 -- what holds of the capture's fault, where that is the error
 abbrev pub OnOpenFault : OpenFault → (CaptureFault → Type 0) → Type 0

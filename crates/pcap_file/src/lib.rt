@@ -9,8 +9,10 @@ mod faults;
 mod file_head;
 mod heads;
 mod numbers;
+mod reader;
 mod records;
 
 pub use captured::{LinkType, datagram_of};
 pub use faults::{CaptureFault, NextFault, OpenFault};
+pub use reader::CaptureReader;
 pub use heads::{record_head, write_head};

@@ -1,0 +1,36 @@
+-- What a source's bytes tell, by what a reader finds in those that are left.
+use Rattle.std.proofs.Common.{◌≡◌, ℕ, ◌+◌, Bool, List, [], ◌++◌, length, Option, Some, None, refl, ap, sym, ◌∙◌, IfSome}
+use Rattle.std.specs.Io.KnownBytes.{Consumes, IsAtEnd}
+use Rattle.std.proofs.KnownBytes.{Consumes-whole}
+use Rattle.pcap_file.specs.Reading.{is_least_first, record_fault}
+use Rattle.pcap_file.specs.Told.{Tells, bytes_in}
+use Rattle.pcap_file.specs.Known.{ReaderState}
+use Rattle.pcap_file.specs.Reader.{HasRead, OnNextFault}
+use Rattle.pcap_file.specs.declared.faults.CaptureFault.{CaptureFault}
+use Rattle.pcap_file.specs.declared.faults.NextFault.{NextFault}
+use Rattle.pcap_file.specs.declared.faults.NextFault.TheVariants as next_fault
+use Rattle.pcap_file.proofs.Longest.{Tells-end}
+
+-- nothing is left: no fault
+pub told_end : (reader : ReaderState) (front : List ℕ) (records : List (List ℕ)) (a b : Option (List ℕ)) → HasRead reader front records
+    → Consumes a b [] → IsAtEnd b → IfSome a (λ rest. Tells (front ++ rest) records None)
+told_end reader front records a b so_far took end =
+    Consumes-whole a b [] (λ (rest : List ℕ). Tells (front ++ rest) records None) took end (Tells-end front [] records None so_far.capture refl (λ _. refl))
+
+-- no record begins there: its fault
+told_fault : (front : List ℕ) (records : List (List ℕ)) (reader : ReaderState) (f : CaptureFault) (a : Option (List ℕ)) → HasRead reader front records
+    → IfSome a (λ rest. record_fault reader.least_first reader.records reader.bytes rest ≡ Some f) → IfSome a (λ rest. Tells (front ++ rest) records (Some f))
+told_fault front records reader f None so_far found = tt
+told_fault front records reader f (Some rest) so_far found =
+    Tells-end front rest records (Some f) so_far.capture
+      (ap (λ (o : Bool). record_fault o (length records) (bytes_in records) rest) (sym so_far.order)
+        ∙ ap (λ n. record_fault reader.least_first n (bytes_in records) rest) (sym so_far.count)
+        ∙ ap (λ n. record_fault reader.least_first reader.records n rest) (sym so_far.size)
+        ∙ found)
+      (λ e. cc)
+
+pub told_refusal : (reader : ReaderState) (front : List ℕ) (records : List (List ℕ)) (e : NextFault) (a : Option (List ℕ)) → HasRead reader front records
+    → OnNextFault e (λ f. IfSome a (λ rest. record_fault reader.least_first reader.records reader.bytes rest ≡ Some f))
+    → OnNextFault e (λ f. IfSome a (λ rest. Tells (front ++ rest) records (Some f)))
+told_refusal reader front records (next_fault.Capture f) a so_far found = told_fault front records reader f a so_far found
+told_refusal reader front records next_fault.Failed a so_far found = tt

@@ -1,0 +1,142 @@
+//! A capture's bytes -> its records, one after another, lent out of the reader.
+ghost use Rattle.std.specs.Prelude.{◌≡◌, ℕ, ◌+◌, ◌<◌, ◌≤◌, true, List, [], ◌∷◌, ◌++◌, length, None, Some, IfOk, IfErr, IfSome, IfNone, vec_len};
+ghost use Rattle.std.specs.Io.KnownBytes.{Consumes};
+ghost use Rattle.std.specs.Borrow.{sem};
+ghost use Rattle.pcap_file.specs.Reading.{head_fault, is_least_first, link_at};
+ghost use Rattle.pcap_file.specs.Told.{Tells};
+ghost use Rattle.pcap_file.specs.Reader.{HasNextCause, HasOpenCause, HasRead, OnNextFault, OnOpenFault, is_cut, state_after, with_record};
+
+use crate::captured::LinkType;
+use crate::faults::{CaptureFault, NextFault, OpenFault};
+use crate::file_head::{self, FileHead};
+use crate::records::{self, LONGEST_RECORD};
+use ipe_io::{Failed, Source, fill};
+use std::alloc::{AllocError as OutOfMemory, Global};
+use std::marker::Model;
+
+/// A reader of one capture, which holds the record that it read last.
+#[derive(Drop)]
+pub struct CaptureReader {
+    buffer: Vec<u8>,
+    least_first: bool,
+    link: LinkType,
+    records: u32,
+    bytes: u32,
+    is_open: bool,
+}
+
+impl Model for CaptureReader {
+    ghost use Rattle.std.specs.Prelude.{◌≡◌, ◌≤◌, vec_len};
+    ghost use Rattle.pcap_file.specs.Known.{ReaderState};
+    ghost use Rattle.pcap_file.specs.Reading.{longest_record, most_records, most_bytes};
+
+    ghost Value = { ReaderState };
+
+    ghost view = { λ r. record { least_first = r.least_first; link = r.link; records = r.records; bytes = r.bytes; is_open = r.is_open } };
+
+    ghost invariant = { λ r. (vec_len r.buffer ≡ longest_record) × (r.records ≤ most_records) × (r.bytes ≤ most_bytes) };
+}
+
+impl CaptureReader {
+    ghost use Rattle.pcap_file.specs.After.{EndsAs};
+
+    /// Reads the head of a capture, 24 bytes, and takes memory for its longest record.
+    pub fn open<S: Source>(alloc: Global, source: &mut S) -> Result<CaptureReader, OpenFault>
+        ensures read { IfOk result (λ reader. (head : List ℕ) × Consumes (S.left source.old) (S.left source.new) head × HasRead reader head []) }
+        ensures opened { IfOk result (λ reader. reader.is_open ≡ true) }
+        ensures refused { IfErr result (λ e. OnOpenFault e (λ fault. IfSome (S.left source.old) (λ bytes. Tells bytes [] (Some fault)))) }
+        ensures cut { IfErr result (λ e. OnOpenFault e (λ fault. is_cut fault ≡ true → S.ended source.new ≡ true)) }
+        ensures cause { HasOpenCause (S.faults source.old) (S.faults source.new) result }
+    {
+        let head = match read_head(source) {
+            Ok(head) => head,
+            Err(fault) => return Err(fault),
+        };
+        let buffer = match zeros(alloc, LONGEST_RECORD) {
+            Ok(buffer) => buffer,
+            Err(_) => return Err(OpenFault::OutOfMemory),
+        };
+        Ok(CaptureReader {
+            buffer,
+            least_first: head.least_first,
+            link: head.link,
+            records: 0,
+            bytes: 0,
+            is_open: true,
+        })
+    }
+
+    /// Lends the bytes of the next record; None at the end of the input. After an Err the reader is closed.
+    pub fn next<S: Source>(&mut self, source: &mut S) -> Result<Option<&[u8]>, NextFault>
+        requires { self.old.is_open ≡ true }
+        ensures read { (front : List ℕ) (records : List (List ℕ)) → HasRead self.old front records → IfOk result (λ o. IfSome o (λ r. (head : List ℕ) × Consumes (S.left source.old) (S.left source.new) (head ++ r.now) × HasRead (with_record self.old r.now) (front ++ (head ++ r.now)) (records ++ r.now ∷ []))) }
+        ensures end { (front : List ℕ) (records : List (List ℕ)) → HasRead self.old front records → IfOk result (λ o. IfNone o (Consumes (S.left source.old) (S.left source.new) [] × IfSome (S.left source.old) (λ rest. Tells (front ++ rest) records None))) }
+        ensures refused { (front : List ℕ) (records : List (List ℕ)) → HasRead self.old front records → IfErr result (λ e. OnNextFault e (λ fault. IfSome (S.left source.old) (λ rest. Tells (front ++ rest) records (Some fault)))) }
+        ensures ended { IfOk result (λ o. IfNone o (S.ended source.new ≡ true)) }
+        ensures cut { IfErr result (λ e. OnNextFault e (λ fault. is_cut fault ≡ true → S.ended source.new ≡ true)) }
+        ensures cause { HasNextCause (S.faults source.old) (S.faults source.new) result }
+        ensures* after { sem 𝓛 (EndsAs self.entry (λ now. now ≡ state_after self.old result)) }
+    {
+        let least_first = self.least_first;
+        let before = self.records;
+        let bytes = self.bytes;
+        match records::read_record(source, &mut self.buffer, least_first, before, bytes) {
+            Ok(Some(length)) => {
+                self.records = before + 1;
+                self.bytes = bytes + length as u32;
+                Ok(Some(&self.buffer[..length]))
+            }
+            Ok(None) => Ok(None),
+            Err(fault) => {
+                self.is_open = false;
+                Err(fault)
+            }
+        }
+    }
+
+    /// Whether a record may be asked for: until the first Err.
+    pub fn is_open(&self) -> bool
+        ensures read { result ≡ self.now.is_open }
+    {
+        self.is_open
+    }
+
+    /// What the records begin with.
+    pub fn link(&self) -> LinkType
+        ensures read { result ≡ self.now.link }
+    {
+        self.link
+    }
+
+    /// How many records were read.
+    pub fn records(&self) -> u32
+        ensures read { result ≡ self.now.records }
+    {
+        self.records
+    }
+}
+
+/// Reads the head of a capture.
+fn read_head<S: Source>(source: &mut S) -> Result<FileHead, OpenFault>
+    ensures read { IfOk result (λ found. (head : List ℕ) × Consumes (S.left source.old) (S.left source.new) head × (head_fault head ≡ None) × (length head ≡ 24) × (found.least_first ≡ is_least_first head) × (Some found.link ≡ link_at head)) }
+    ensures refused { IfErr result (λ e. OnOpenFault e (λ fault. IfSome (S.left source.old) (λ bytes. head_fault bytes ≡ Some fault))) }
+    ensures cut { IfErr result (λ e. OnOpenFault e (λ fault. is_cut fault ≡ true → S.ended source.new ≡ true)) }
+    ensures cause { HasOpenCause (S.faults source.old) (S.faults source.new) result }
+{
+    let mut head = [0u8; file_head::HEAD];
+    let count = match fill(source, &mut head) {
+        Ok(count) => count,
+        Err(Failed) => return Err(OpenFault::Failed),
+    };
+    match file_head::read_head(&head[..count]) {
+        Ok(found) => Ok(found),
+        Err(fault) => Err(OpenFault::Capture(fault)),
+    }
+}
+
+/// As many zeros.
+fn zeros(alloc: Global, count: usize) -> Result<Vec<u8>, OutOfMemory>
+    ensures { IfOk result (λ v. vec_len v ≡ count) }
+{
+    vec![in alloc; 0u8; count]
+}
