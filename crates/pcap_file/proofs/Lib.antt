@@ -4,3 +4,4 @@ pub mod Captures
 pub mod Longest
 pub mod States
 pub mod ToldByReader
+pub mod OneTold

@@ -32,7 +32,7 @@ record_fault-record least_first records bytes piece rest r few short small =
     none_by (length (piece ++ rest)) records (captured_length least_first (piece ++ rest)) bytes (omega (arith, r.size)) few (omega (arith, r.size)) (omega (arith, r.size))
 
 -- two records at the front of one list have one length
-same_length : (least_first : Bool) (p q x y : List ℕ) → IsRecord least_first p → IsRecord least_first q → p ++ x ≡ q ++ y → length p ≡ length q
+pub same_length : (least_first : Bool) (p q x y : List ℕ) → IsRecord least_first p → IsRecord least_first q → p ++ x ≡ q ++ y → length p ≡ length q
 same_length least_first p q x y r s e =
     let told : captured_length least_first p ≡ captured_length least_first q =
         sym (captured_length-append least_first p x r.head) ∙ (ap (λ z. captured_length least_first z) e ∙ captured_length-append least_first q y s.head) in
