@@ -1,0 +1,56 @@
+-- Chains of extension headers (RFC 4326 section 5): each optional header ends with the next Type.
+use Rattle.std.specs.Prelude.{◌≡◌, ℕ, zero, suc, ◌+◌, ◌-◌, ◌*◌, ◌/◌, ◌^◌, ◌<◌, ◌≤◌, Bool, true, ◌&&◌, List, [], ◌∷◌, ◌++◌, length, nat_lt, nat_le, if◌then◌else◌, All}
+use Rattle.std.specs.Int.{w16, to_be_bytes}
+
+-- the Type of an optional header: H-LEN, its upper byte, is 1 to 5
+abbrev pub is_optional : ℕ → Bool
+is_optional type_field = nat_le 0x0100 type_field && nat_lt type_field 0x0600
+
+-- the bytes of an optional header behind its Type: H-LEN words of 16 bits, the last of which is the next Type
+abbrev pub header_size : ℕ → ℕ
+header_size type_field = 2 * (type_field / 256)
+
+-- an optional header: its Type, and its bytes before the next Type
+pub record Header : Type 0 where
+  pub type_field : ℕ
+  pub contents : List ℕ
+
+pub record IsOptional (header : Header) : Type 0 where
+  pub optional : is_optional header.type_field ≡ true
+  pub size : length header.contents + 2 ≡ header_size header.type_field
+
+-- the first Type of these headers, where a last Type stands behind them
+abbrev pub first_type_of : List Header → ℕ → ℕ
+first_type_of [] last_type = last_type
+first_type_of (header ∷ headers) last_type = header.type_field
+
+-- the bytes behind the first Type, where these bytes stand behind the last
+abbrev pub chain_bytes : List Header → ℕ → List ℕ → List ℕ
+chain_bytes [] last_type behind = behind
+chain_bytes (header ∷ headers) last_type behind =
+    header.contents ++ to_be_bytes w16 (first_type_of headers last_type) ++ chain_bytes headers last_type behind
+
+-- a first Type and bytes are optional headers, a last Type, and the bytes behind that
+pub record Leads (first_type : ℕ) (bytes : List ℕ) (last_type : ℕ) (behind : List ℕ) : Type 0 where
+  pub headers : List Header
+  pub optional : All IsOptional headers
+  pub first : first_type ≡ first_type_of headers last_type
+  pub spelled : bytes ≡ chain_bytes headers last_type behind
+  pub sixteen_bits : last_type < 2 ^ 16
+
+-- the end of a chain: a Type that is no optional header's, with the bytes behind it, or an optional header that is cut
+pub data ChainEnd : Type 0 where
+  ended : ℕ → List ℕ → ChainEnd
+  cut : ChainEnd
+
+-- the end, seen from within an optional header with so many words before the next Type
+abbrev pub end_behind : ℕ → List ℕ → ChainEnd
+end_behind words [] = cut
+end_behind words (x ∷ []) = cut
+end_behind zero (x ∷ y ∷ bytes) =
+    if is_optional (x * 256 + y) then end_behind ((x * 256 + y) / 256 - 1) bytes else ended (x * 256 + y) bytes
+end_behind (suc words) (x ∷ y ∷ bytes) = end_behind words bytes
+
+-- the end of the chain from a Type on
+abbrev pub chain_end : ℕ → List ℕ → ChainEnd
+chain_end first_type bytes = if is_optional first_type then end_behind (first_type / 256 - 1) bytes else ended first_type bytes
