@@ -5,5 +5,7 @@
 #![tactic(auto)]
 
 mod chain;
+mod payload;
 
 pub use chain::{ExtFault, Payload, walk};
+pub use payload::{PayloadFault, bridged, datagram};

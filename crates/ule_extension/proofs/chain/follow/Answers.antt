@@ -9,7 +9,7 @@ returns-then-bytes-at c =
     let optional : is_optional c.loop-size.last_type ≡ true = sym c.skips.ensures.optional ∙ c.loop-size-test.true in
     record {
       end = skipped_none (chain_end c.args.first_type c.args.bytes.now) c.loop-size.last_type c.loop-size.at c.args.bytes.now optional
-        (omega arith) c.loop-size.invariant.same_end;
+          (omega arith) c.loop-size.invariant.same_end;
     }
 
 pub loop-size-preserved : goal.loop-size-preserved
@@ -20,5 +20,5 @@ loop-size-preserved c =
     record {
       within = omega arith;
       same_end = skipped (chain_end c.args.first_type c.args.bytes.now) c.loop-size.last_type c.loop-size.at size c.from.result c.from-in-loop-size.result
-        c.args.bytes.now optional size_is (omega arith) c.loop-size.invariant.same_end c.from.ensures c.from-in-loop-size.ensures;
+          c.args.bytes.now optional size_is (omega arith) c.loop-size.invariant.same_end c.from.ensures c.from-in-loop-size.ensures;
     }
