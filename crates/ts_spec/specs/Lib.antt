@@ -6,3 +6,4 @@ pub mod Reassembly
 pub mod Events
 pub mod Packetized
 pub mod Sndu
+pub mod Chain

@@ -4,7 +4,7 @@ use Rattle.std.specs.Prelude.{slice_index, ◌&&◌, nat_le, nat_lt, if◌then�
 use Rattle.std.proofs.lemmas.Bool.{leb-true}
 use Rattle.std.proofs.lemmas.List.{length-drop, get_or-drop, drop-drop}
 use Rattle.wire_spec.specs.Bytes.{u16_at}
-use Rattle.ule_extension.specs.Chain.{is_optional, header_size, ChainEnd, ended, cut, end_behind, chain_end}
+use Rattle.ts_spec.specs.Chain.{is_optional, header_size, ChainEnd, ended, cut, end_behind, chain_end}
 
 -- the end is that of the chain from the next Type on
 end_behind_more : (words : ℕ) (bytes : List ℕ) → 2 * words + 2 ≤ length bytes

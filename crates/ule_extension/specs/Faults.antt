@@ -4,7 +4,7 @@ use Rattle.wire_spec.specs.Datagram.{version, ether_type_ipv4, ether_type_ipv6}
 use Rattle.ip_datagram.specs.Refusal.{refusal}
 use Rattle.ip_datagram.specs.declared.header.IpFault.{IpFault}
 use Rattle.ip_datagram.specs.declared.header.IpFault.TheVariants as ip
-use Rattle.ule_extension.specs.Chain.{ChainEnd, ended, cut}
+use Rattle.ts_spec.specs.Chain.{ChainEnd, ended, cut}
 use Rattle.ule_extension.specs.declared.chain.ExtFault.{ExtFault}
 use Rattle.ule_extension.specs.declared.chain.ExtFault.TheVariants as ext
 use Rattle.ule_extension.specs.declared.payload.PayloadFault.{PayloadFault}

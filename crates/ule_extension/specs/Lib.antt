@@ -1,3 +1,1 @@
-pub mod Chain
 pub mod Faults
-pub mod Payloads

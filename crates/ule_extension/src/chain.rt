@@ -4,7 +4,7 @@
 
 ghost use Rattle.std.specs.Prelude.{◌≡◌, length, drop, IfOk, MatchOption};
 ghost use Rattle.std.specs.Result.{result_err};
-ghost use Rattle.ule_extension.specs.Chain.{chain_end, ended, cut, is_optional};
+ghost use Rattle.ts_spec.specs.Chain.{chain_end, ended, cut, is_optional};
 ghost use Rattle.ule_extension.specs.Faults.{ext_refusal, mandatory_fault};
 
 /// What stands behind a chain of optional headers.

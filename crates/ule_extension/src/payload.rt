@@ -4,9 +4,9 @@
 
 ghost use Rattle.std.specs.Prelude.{◌≡◌, Some, None, MatchOption, MatchResult};
 ghost use Rattle.std.specs.Result.{result_err};
-ghost use Rattle.ule_extension.specs.Chain.{chain_end};
+ghost use Rattle.ts_spec.specs.Chain.{chain_end};
 ghost use Rattle.ule_extension.specs.Faults.{ip_refusal, payload_refusal};
-ghost use Rattle.ule_extension.specs.Payloads.{datagram_at, frame_at};
+ghost use Rattle.ts_spec.specs.Chain.{datagram_at, frame_at};
 ghost use Rattle.wire_spec.specs.Datagram.{datagram_of_type};
 
 use crate::chain::{BRIDGED, ExtFault, follow, walk};

@@ -1,6 +1,6 @@
 -- The loop skips one optional header in each turn.
 use Rattle.std.proofs.Common.{◌≡◌, ℕ, ◌+◌, ◌*◌, ◌≤◌, true, ◌∙◌, sym, arith}
-use Rattle.ule_extension.specs.Chain.{chain_end, header_size, is_optional}
+use Rattle.ts_spec.specs.Chain.{chain_end, header_size, is_optional}
 use Rattle.ule_extension.proofs.Steps.{skipped, skipped_none}
 use Rattle.ule_extension.proofs.chain.follow.Goals as goal
 

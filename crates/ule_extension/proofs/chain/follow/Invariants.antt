@@ -1,5 +1,5 @@
 use Rattle.std.proofs.Common.{◌≡◌, ◌-◌, ◌≤◌, length, drop}
-use Rattle.ule_extension.specs.Chain.{chain_end}
+use Rattle.ts_spec.specs.Chain.{chain_end}
 use Rattle.ule_extension.proofs.chain.follow.Given as goal
 
 -- what is left of the chain has the whole chain's end

@@ -1,6 +1,8 @@
 -- Chains of extension headers (RFC 4326 section 5): each optional header ends with the next Type.
-use Rattle.std.specs.Prelude.{◌≡◌, ℕ, zero, suc, ◌+◌, ◌-◌, ◌*◌, ◌/◌, ◌^◌, ◌<◌, ◌≤◌, Bool, true, ◌&&◌, List, [], ◌∷◌, ◌++◌, length, nat_lt, nat_le, if◌then◌else◌, All}
+-- At the end stand a datagram, or a bridged Ethernet frame (sections 4.7 and 5.2).
+use Rattle.std.specs.Prelude.{◌≡◌, ℕ, zero, suc, ◌+◌, ◌-◌, ◌*◌, ◌/◌, ◌^◌, ◌<◌, ◌≤◌, Bool, true, ◌&&◌, List, [], ◌∷◌, ◌++◌, length, nat_lt, nat_le, if◌then◌else◌, All, Option, Some, None, ◌==◌}
 use Rattle.std.specs.Int.{w16, to_be_bytes}
+use Rattle.wire_spec.specs.Datagram.{datagram_of_type}
 
 -- the Type of an optional header: H-LEN, its upper byte, is 1 to 5
 abbrev pub is_optional : ℕ → Bool
@@ -54,3 +56,13 @@ end_behind (suc words) (x ∷ y ∷ bytes) = end_behind words bytes
 -- the end of the chain from a Type on
 abbrev pub chain_end : ℕ → List ℕ → ChainEnd
 chain_end first_type bytes = if is_optional first_type then end_behind (first_type / 256 - 1) bytes else ended first_type bytes
+
+-- the datagram that the EtherType at the end announces, where it stands there
+abbrev pub datagram_at : ChainEnd → Option (List ℕ)
+datagram_at cut = None
+datagram_at (ended last_type behind) = datagram_of_type last_type behind
+
+-- all bytes behind Type 1, where they hold an Ethernet header of 14 bytes
+abbrev pub frame_at : ChainEnd → Option (List ℕ)
+frame_at cut = None
+frame_at (ended last_type behind) = if (last_type == 1) && nat_le 14 (length behind) then Some behind else None
