@@ -1,6 +1,6 @@
 -- Chains of extension headers (RFC 4326 section 5): each optional header ends with the next Type.
 -- At the end stand a datagram, or a bridged Ethernet frame (sections 4.7 and 5.2).
-use Rattle.std.specs.Prelude.{◌≡◌, ℕ, zero, suc, ◌+◌, ◌-◌, ◌*◌, ◌/◌, ◌^◌, ◌<◌, ◌≤◌, Bool, true, ◌&&◌, List, [], ◌∷◌, ◌++◌, length, nat_lt, nat_le, if◌then◌else◌, All, Option, Some, None, ◌==◌}
+use Rattle.std.specs.Prelude.{◌≡◌, ℕ, zero, suc, ◌+◌, ◌-◌, ◌*◌, ◌/◌, ◌^◌, ◌<◌, Bool, true, false, ◌&&◌, List, [], ◌∷◌, ◌++◌, length, nat_lt, nat_le, if◌then◌else◌, All, Option, Some, None, ◌==◌}
 use Rattle.std.specs.Int.{w16, to_be_bytes}
 use Rattle.wire_spec.specs.Datagram.{datagram_of_type}
 
@@ -45,7 +45,20 @@ pub data ChainEnd : Type 0 where
   ended : ℕ → List ℕ → ChainEnd
   cut : ChainEnd
 
--- the end, seen from within an optional header with so many words before the next Type
+-- optional headers, and then the Type of one that the bytes do not hold
+pub record IsCut (first_type : ℕ) (bytes : List ℕ) : Type 0 where
+  pub last_type : ℕ
+  pub behind : List ℕ
+  pub leads : Leads first_type bytes last_type behind
+  pub optional : is_optional last_type ≡ true
+  pub few : length behind < header_size last_type
+
+-- this is the end of the chain
+abbrev pub IsEnd : ℕ → List ℕ → ChainEnd → Type 0
+IsEnd first_type bytes (ended last_type behind) = Leads first_type bytes last_type behind × (is_optional last_type ≡ false)
+IsEnd first_type bytes cut = IsCut first_type bytes
+
+-- the end as a function: from within an optional header with so many words of 16 bits before the next Type
 abbrev pub end_behind : ℕ → List ℕ → ChainEnd
 end_behind words [] = cut
 end_behind words (x ∷ []) = cut
@@ -53,7 +66,7 @@ end_behind zero (x ∷ y ∷ bytes) =
     if is_optional (x * 256 + y) then end_behind ((x * 256 + y) / 256 - 1) bytes else ended (x * 256 + y) bytes
 end_behind (suc words) (x ∷ y ∷ bytes) = end_behind words bytes
 
--- the end of the chain from a Type on
+-- and from a Type on
 abbrev pub chain_end : ℕ → List ℕ → ChainEnd
 chain_end first_type bytes = if is_optional first_type then end_behind (first_type / 256 - 1) bytes else ended first_type bytes
 

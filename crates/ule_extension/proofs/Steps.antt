@@ -34,7 +34,7 @@ least_of : (b c : Bool) → (b && c) ≡ true → b ≡ true
 least_of true c h = refl
 least_of false c h = h
 
-least_words : (type_field : ℕ) → is_optional type_field ≡ true → 1 ≤ type_field / 256
+pub least_words : (type_field : ℕ) → is_optional type_field ≡ true → 1 ≤ type_field / 256
 least_words type_field optional =
     let least : 0x0100 ≤ type_field = leb-true 0x0100 type_field (least_of (nat_le 0x0100 type_field) (nat_lt type_field 0x0600) optional) in
     omega arith

@@ -1,5 +1,5 @@
 -- Why a chain leads to no EtherType, and why no datagram stands behind it.
-use Rattle.std.specs.Prelude.{ℕ, List, ◌||◌, ◌==◌, nat_le, if◌then◌else◌, Option, Some, None}
+use Rattle.std.specs.Prelude.{ℕ, List, ◌==◌, nat_le, if◌then◌else◌, Option, Some, None}
 use Rattle.wire_spec.specs.Datagram.{version, ether_type_ipv4, ether_type_ipv6}
 use Rattle.ip_datagram.specs.Refusal.{refusal}
 use Rattle.ip_datagram.specs.declared.header.IpFault.{IpFault}

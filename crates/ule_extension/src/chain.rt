@@ -2,7 +2,7 @@
 //!
 //! A first Type and the bytes behind it come in; the EtherType at the end and the bytes behind it go out.
 
-ghost use Rattle.std.specs.Prelude.{◌≡◌, length, drop, IfOk, MatchOption};
+ghost use Rattle.std.specs.Prelude.{◌≡◌, ◌≤◌, length, drop, IfOk, IfSome, MatchOption};
 ghost use Rattle.std.specs.Result.{result_err};
 ghost use Rattle.ts_spec.specs.Chain.{chain_end, ended, cut, is_optional};
 ghost use Rattle.ule_extension.specs.Faults.{ext_refusal, mandatory_fault};
@@ -58,6 +58,7 @@ fn skips(type_field: u16) -> bool
 /// Skips the optional headers. None: the bytes do not hold the whole of one.
 pub(crate) fn follow(first_type: u16, bytes: &[u8]) -> Option<ChainEnd<'_>>
     ensures end { MatchOption result (chain_end first_type bytes.now ≡ cut) (λ e. chain_end first_type bytes.now ≡ ended e.last_type e.bytes.now) }
+    ensures within { IfSome result (λ e. length e.bytes.now ≤ length bytes.now) }
 {
     let mut last_type = first_type;
     let mut at = 0;
@@ -92,6 +93,7 @@ fn mandatory(last_type: u16) -> ExtFault
 pub fn walk(first_type: u16, bytes: &[u8]) -> Result<Payload<'_>, ExtFault>
     ensures read { IfOk result (λ p. chain_end first_type bytes.now ≡ ended p.ether_type p.bytes.now) }
     ensures refused { ext_refusal (chain_end first_type bytes.now) ≡ result_err result }
+    ensures within { IfOk result (λ p. length p.bytes.now ≤ length bytes.now) }
 {
     match follow(first_type, bytes) {
         None => Err(ExtFault::Cut),

@@ -5,7 +5,12 @@
 #![tactic(auto)]
 
 mod chain;
+mod laws;
 mod payload;
 
 pub use chain::{ExtFault, Payload, walk};
+pub use laws::a_chain_has_one_end;
 pub use payload::{PayloadFault, bridged, datagram};
+
+#[cfg(test)]
+mod tests;

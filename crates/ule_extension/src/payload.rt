@@ -2,7 +2,7 @@
 //!
 //! A first Type and the bytes behind it come in; the datagram or the frame goes out, lent.
 
-ghost use Rattle.std.specs.Prelude.{◌≡◌, Some, None, MatchOption, MatchResult};
+ghost use Rattle.std.specs.Prelude.{◌≡◌, ◌≤◌, Some, None, length, IfOk, MatchOption, MatchResult};
 ghost use Rattle.std.specs.Result.{result_err};
 ghost use Rattle.ts_spec.specs.Chain.{chain_end};
 ghost use Rattle.ule_extension.specs.Faults.{ip_refusal, payload_refusal};
@@ -38,6 +38,7 @@ const LEAST_FRAME: usize = 14;
 pub fn datagram(first_type: u16, bytes: &[u8]) -> Result<&[u8], PayloadFault>
     ensures read { MatchResult result (λ d. datagram_at (chain_end first_type bytes.now) ≡ Some d.now) (λ _. datagram_at (chain_end first_type bytes.now) ≡ None) }
     ensures refused { payload_refusal (chain_end first_type bytes.now) ≡ result_err result }
+    ensures within { IfOk result (λ d. length d.now ≤ length bytes.now) }
 {
     match walk(first_type, bytes) {
         Err(fault) => Err(PayloadFault::Extension(fault)),
@@ -49,6 +50,7 @@ pub fn datagram(first_type: u16, bytes: &[u8]) -> Result<&[u8], PayloadFault>
 fn datagram_of(ether_type: u16, bytes: &[u8]) -> Result<&[u8], PayloadFault>
     ensures read { MatchResult result (λ d. datagram_of_type ether_type bytes.now ≡ Some d.now) (λ _. datagram_of_type ether_type bytes.now ≡ None) }
     ensures refused { ip_refusal ether_type bytes.now ≡ result_err result }
+    ensures within { IfOk result (λ d. length d.now ≤ length bytes.now) }
 {
     let version = match ether_type {
         ETHER_TYPE_IPV4 => 4,

@@ -1,4 +1,3 @@
 pub mod CheckSum
 pub mod Puts
-pub mod Spans
 pub mod Written

@@ -2,11 +2,12 @@
 //!
 //! The front of some bytes comes in, and how long the SNDU there is goes out.
 
-ghost use Rattle.std.specs.Prelude.{◌≡◌, ◌≤◌, length, IfSome};
+ghost use Rattle.std.specs.Prelude.{◌≡◌};
 ghost use Rattle.ts_spec.specs.Sndu.{sndu_span, has_right_crc};
-ghost use Rattle.ule_unit.specs.Views.{span_told, whole_within};
+ghost use Rattle.unit_stream.specs.Form.{span_told};
 
 use crc_unit::crc32;
+use unit_stream::{Span, UnitForm};
 
 /// Bytes before the NPA address or the PDU: D and Length, then Type (RFC 4326 section 4).
 pub(crate) const HEAD: usize = 4;
@@ -28,19 +29,6 @@ const LENGTH_VALUES: usize = 0x8000;
 
 /// Each of the two bytes of an End Indicator (RFC 4326 section 4.3).
 const END_INDICATOR: u8 = 0xFF;
-
-/// What some bytes tell of the SNDU at their front.
-#[derive(Clone, Copy)]
-pub(crate) enum Span {
-    /// Fewer than 2 bytes.
-    More,
-    /// An End Indicator.
-    Stuffing,
-    /// An SNDU of so many bytes.
-    Whole(usize),
-    /// Length has no room for the address and the CRC-32.
-    Bad,
-}
 
 /// What `prefix` tells of the SNDU at its front (RFC 4326 sections 4.1 to 4.3).
 pub(crate) fn span_of(prefix: &[u8]) -> Span
@@ -67,7 +55,7 @@ pub(crate) fn span_of(prefix: &[u8]) -> Span
 
 /// Whether the last four bytes are the CRC-32 of all before them (RFC 4326 section 4.6).
 #[tactic(auto, using(crate::proofs::CheckSum::has_right_crc_short))]
-pub(crate) fn check(unit: &[u8]) -> bool
+pub(crate) fn has_its_crc(unit: &[u8]) -> bool
     ensures checked { result ≡ has_right_crc unit.now }
 {
     if unit.len() < CRC {
@@ -78,23 +66,36 @@ pub(crate) fn check(unit: &[u8]) -> bool
     crc32(&unit[..end]) == told
 }
 
-/// The length of the SNDU that lies whole at the front of `bytes`, its CRC-32 included and not tested.
-///
-/// None: fewer than 2 bytes, an End Indicator, a Length that has no room for the address and the
-/// CRC-32, or an SNDU that goes on behind the bytes.
-#[tactic(auto, using(crate::proofs::Spans::span_whole))]
-pub fn whole_front(bytes: &[u8]) -> Option<usize>
-    ensures told { result ≡ whole_within (length bytes.now) (sndu_span bytes.now) }
-    ensures within { IfSome result (λ n. (8 ≤ n) × (n ≤ length bytes.now)) }
-{
-    match span_of(bytes) {
-        Span::Whole(size) => {
-            if size <= bytes.len() {
-                Some(size)
-            } else {
-                None
-            }
-        }
-        _ => None,
+/// SNDUs as units of a transport stream: D and Length, 2 bytes, stand in the first packet (RFC 4326 section 6), and the
+/// longest has 32,767 bytes behind its Type (section 4.2).
+pub struct UleForm;
+
+impl UnitForm for UleForm {
+    ghost use Rattle.std.specs.Prelude.{refl};
+    ghost use Rattle.ts_spec.specs.Sndu.{sndu_form};
+    ghost use Rattle.ule_unit.specs.Spans.{sndu_lawful};
+
+    ghost form = { sndu_form };
+
+    ghost START = { 2 };
+
+    ghost LONGEST = { 32771 };
+
+    const START: usize = 2;
+
+    const LONGEST: usize = 32_771;
+
+    fn span(prefix: &[u8]) -> Span {
+        span_of(prefix)
     }
+
+    fn check(unit: &[u8]) -> bool {
+        has_its_crc(unit)
+    }
+
+    ghost lawful = { sndu_lawful };
+
+    ghost start_is = { refl };
+
+    ghost longest_is = { refl };
 }

@@ -2,14 +2,14 @@
 //!
 //! Sending: datagram -> [ule_unit] -> unit_stream -> ts_packet.
 //! Receiving: ts_packet -> unit_stream -> [ule_unit] -> ule_extension -> datagram.
-//! Begin with `read` and `write`; `whole_front` tells how long the SNDU at the front of some bytes is.
+//! Begin with `read` and `write`; `UleForm` is their form for unit_stream.
 #![tactic(auto)]
 
 mod form;
 mod laws;
 mod sndu;
 
-pub use form::whole_front;
+pub use form::UleForm;
 pub use laws::{a_written_sndu_reads_back, sndus_are_lawful, sndus_are_units};
 pub use sndu::{Sndu, UleFault, read, write};
 

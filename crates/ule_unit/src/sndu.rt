@@ -8,7 +8,8 @@ ghost use Rattle.std.specs.Result.{result_err};
 ghost use Rattle.ts_spec.specs.Sndu.{is_sndu, sndu_fields, has_right_length, sndu_bytes, sndu_front, address_bytes, head_number};
 ghost use Rattle.ule_unit.specs.Views.{fields_in, refusal};
 
-use crate::form::{ADDRESS, CRC, D, HEAD, NO_ADDRESS, Span, check, span_of};
+use crate::form::{ADDRESS, CRC, D, HEAD, NO_ADDRESS, has_its_crc, span_of};
+use unit_stream::Span;
 use crc_unit::crc32;
 
 /// An SNDU: its NPA address, its Type, and what stands behind these and before the CRC-32.
@@ -54,7 +55,7 @@ pub fn read(unit: &[u8]) -> Result<Sndu<'_>, UleFault>
     if !is_whole(unit) {
         return Err(UleFault::Length);
     }
-    if !check(unit) {
+    if !has_its_crc(unit) {
         return Err(UleFault::Crc);
     }
     let end = unit.len() - CRC;

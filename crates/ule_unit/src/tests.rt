@@ -1,6 +1,7 @@
 //! SNDUs from outside: the example of RFC 4326 appendix B, and one whose CRC-32 an independent program gave.
 
-use crate::{Sndu, UleFault, read, whole_front, write};
+use crate::{Sndu, UleFault, UleForm, read, write};
+use unit_stream::{Span, UnitForm};
 
 /// RFC 4326 appendix B: an IPv6 datagram with an NPA address.
 const WITH_ADDRESS: [u8; 67] = [
@@ -70,16 +71,16 @@ fn the_same_bytes_are_written(rt: HostRuntime) {
 
 /// RFC 4326 sections 4.2 and 4.3: a length is told by two bytes, and End Indicators are no SNDU.
 #[test]
-fn a_whole_sndu_is_found_at_the_front(rt: HostRuntime) {
-    let cases: [(&[u8], Option<usize>); 6] = [
-        (&WITH_ADDRESS, Some(67)),
-        (&[0x80, 4, 8, 0, 1, 2, 3, 4, 0xFF, 0xFF], Some(8)),
-        (&[0x80, 5, 8, 0, 1, 2, 3, 4], None),
-        (&[0x80, 3, 8, 0, 1, 2, 3, 4], None),
-        (&[0xFF, 0xFF, 0xFF, 0xFF], None),
-        (&[0x80], None),
+fn two_bytes_tell_an_sndu(rt: HostRuntime) {
+    let cases: [(&[u8], Span); 5] = [
+        (&WITH_ADDRESS, Span::Whole(67)),
+        (&[0x80, 5, 8, 0], Span::Whole(9)),
+        (&[0x80, 3, 8, 0, 1, 2, 3, 4], Span::Bad),
+        (&[0xFF, 0xFF, 0xFF, 0xFF], Span::Stuffing),
+        (&[0x80], Span::More),
     ];
     for (bytes, want) in cases {
-        assert_eq!(rt; whole_front(bytes), want);
+        assert_eq!(rt; UleForm::span(bytes), want);
     }
+    assert!(rt; UleForm::check(&WITHOUT_ADDRESS));
 }

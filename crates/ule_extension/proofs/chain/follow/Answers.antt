@@ -1,5 +1,5 @@
 -- The loop skips one optional header in each turn.
-use Rattle.std.proofs.Common.{◌≡◌, ℕ, ◌+◌, ◌*◌, ◌≤◌, true, ◌∙◌, sym, arith}
+use Rattle.std.proofs.Common.{◌≡◌, ℕ, ◌*◌, true, ◌∙◌, sym, arith}
 use Rattle.ts_spec.specs.Chain.{chain_end, header_size, is_optional}
 use Rattle.ule_extension.proofs.Steps.{skipped, skipped_none}
 use Rattle.ule_extension.proofs.chain.follow.Goals as goal
@@ -10,6 +10,7 @@ returns-then-bytes-at c =
     record {
       end = skipped_none (chain_end c.args.first_type c.args.bytes.now) c.loop-size.last_type c.loop-size.at c.args.bytes.now optional
           (omega arith) c.loop-size.invariant.same_end;
+      within = tt;
     }
 
 pub loop-size-preserved : goal.loop-size-preserved

@@ -1,4 +1,4 @@
-use Rattle.ule_unit.proofs.Spans.{sndu_lawful}
+use Rattle.ule_unit.specs.Spans.{sndu_lawful}
 use Rattle.ule_unit.proofs.laws.sndus_are_lawful.Goals as goal
 
 pub returns : goal.returns
