@@ -1,12 +1,12 @@
 -- What one call of a reader reads: a stamp and a packet, which are one piece.
-use Rattle.std.proofs.Common.{◌≡◌, ℕ, ◌+◌, List, [], ◌∷◌, ◌++◌, length, take, refl, ap, ap₂, sym, ◌∙◌, subst, arith, Option, None}
+use Rattle.std.proofs.Common.{◌≡◌, ℕ, ◌+◌, List, [], ◌∷◌, ◌++◌, length, take, refl, ap, sym, ◌∙◌, subst, Option, None}
 use Rattle.std.proofs.lemmas.List.{length-append}
 use Rattle.std.proofs.lemmas.List.Elements.{All-push}
 use Rattle.std.proofs.Math.Seq.{take-length}
 use Rattle.std.specs.Io.KnownBytes.{Consumes}
 use Rattle.wire_spec.specs.Causes.{raised}
-use Rattle.ts_spec.specs.Recording.{stamp_size, record_size, Record, records_of}
-use Rattle.ts_record.specs.Reading.{ReaderState, ReaderOf, ReadsRecord, TakesBytes, last_moment, moment_in}
+use Rattle.ts_spec.specs.Recording.{stamp_size, record_size, records_of}
+use Rattle.ts_record.specs.Reading.{ReaderState, ReaderOf, ReadsRecord, last_moment, moment_in}
 use Rattle.ts_record.proofs.RecordsLemmas.{record_with, record_behind, record_behind-cat, records_of-push, last_moment-push}
 
 -- the reader behind one record more, of this moment

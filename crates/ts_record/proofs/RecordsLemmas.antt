@@ -1,7 +1,7 @@
 -- The records of pieces, one piece more.
-use Rattle.std.proofs.Common.{◌≡◌, ℕ, ◌+◌, ◌*◌, ◌<◌, ◌≤◌, ◌^◌, List, [], ◌∷◌, ◌++◌, length, take, drop, refl, ap, ap₂, sym, ◌∙◌, arith, Option, None, Some, get_or}
+use Rattle.std.proofs.Common.{◌≡◌, ℕ, ◌+◌, ◌*◌, ◌≤◌, ◌^◌, List, [], ◌∷◌, ◌++◌, length, drop, refl, ap, ap₂, sym, ◌∙◌, arith, Option, None, Some}
 use Rattle.std.proofs.lemmas.List.{drop_at, map-append, get_or_append_left}
-use Rattle.wire_spec.specs.Bytes.{u16_at, u32_at}
+use Rattle.wire_spec.specs.Bytes.{u32_at}
 use Rattle.ts_spec.specs.Recording.{RecordingForm, plain, stamped, m2ts, stamp_size, Record, plain_record, stamped_record, m2ts_record, m2ts_records, m2ts_stamp, moment_behind, microseconds, records_of}
 use Rattle.ts_record.specs.Reading.{last_moment, moment_in}
 

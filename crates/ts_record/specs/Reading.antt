@@ -1,5 +1,5 @@
 -- A reader of records, and what one call of it reads.
-use Rattle.std.specs.Prelude.{◌≡◌, ℕ, ◌<◌, Bool, true, false, List, [], ◌∷◌, ◌++◌, length, All, Option, Some, None}
+use Rattle.std.specs.Prelude.{◌≡◌, ℕ, ◌<◌, Bool, true, false, List, [], ◌∷◌, ◌++◌, length, All, Option, None}
 use Rattle.std.specs.Io.KnownBytes.{Consumes, IsAtEnd}
 use Rattle.wire_spec.specs.Causes.{raised}
 use Rattle.ts_spec.specs.Recording.{RecordingForm, plain, stamped, m2ts, record_size, Record, plain_record, stamped_record, m2ts_record, records_of}

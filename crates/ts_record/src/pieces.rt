@@ -13,7 +13,8 @@ pub(crate) fn fill_both<S: Source>(
 ) -> Result<usize, Failed>
     requires { length stamp.old ≤ 8 }
     ensures bound { IfOk result (λ n. n ≤ length stamp.new + 188) }
-    ensures read { IfOk result (λ n. Consumes (S.left source.old) (S.left source.new) (take n (stamp.new ++ packet.new))) }
+    ensures read { IfOk result (λ n.
+        Consumes (S.left source.old) (S.left source.new) (take n (stamp.new ++ packet.new))) }
     ensures taken { IfOk result (λ n. S.taken source.new ≡ raised (S.taken source.old) n) }
     ensures end { IfOk result (λ n. n < length stamp.new + 188
         → (S.ended source.new ≡ true) × IsAtEnd (S.left source.new)) }

@@ -66,16 +66,22 @@ impl RecordReader {
     /// After an Err the reader is closed, and may not be asked again.
     pub fn next<S: Source>(&mut self, source: &mut S) -> Result<Option<Record>, RecordFault>
         requires { self.old.is_open ≡ true }
-        ensures read { (pieces : List (List ℕ)) → ReaderOf self.old pieces → IfOk result (λ it. IfSome it (λ r.
-            ReadsRecord self.old self.new (S.left source.old) (S.left source.new) (S.taken source.old) (S.taken source.new) pieces (record_seen r))) }
-        ensures end { (pieces : List (List ℕ)) → ReaderOf self.old pieces → IfOk result (λ it. IfNone it (
-            ReadsEnd self.old self.new (S.left source.old) (S.left source.new) (S.taken source.old) (S.taken source.new) pieces)) }
+        ensures read { (pieces : List (List ℕ)) → ReaderOf self.old pieces
+            → IfOk result (λ it. IfSome it (λ r.
+            ReadsRecord self.old self.new (S.left source.old) (S.left source.new)
+            (S.taken source.old) (S.taken source.new) pieces (record_seen r))) }
+        ensures end { (pieces : List (List ℕ)) → ReaderOf self.old pieces
+            → IfOk result (λ it. IfNone it (
+            ReadsEnd self.old self.new (S.left source.old) (S.left source.new)
+            (S.taken source.old) (S.taken source.new) pieces)) }
         ensures ended { IfOk result (λ it. IfNone it (S.ended source.new ≡ true)) }
         ensures few { OnOk result (self.old.count < 2 ^ 32) }
         ensures too_long { IsErrOf result RecordFault.TooLong ↔ (self.old.count ≡ 2 ^ 32) }
         ensures unchanged { IsErrOf result RecordFault.TooLong → source.new ≡ source.old }
-        ensures failed { IsErrOf result RecordFault.Failed → (bytes : List ℕ) × (length bytes < record_size self.old.form)
-            × TakesBytes (S.left source.old) (S.left source.new) (S.taken source.old) (S.taken source.new) bytes }
+        ensures failed { IsErrOf result RecordFault.Failed → (bytes : List ℕ)
+            × (length bytes < record_size self.old.form)
+            × TakesBytes (S.left source.old) (S.left source.new)
+            (S.taken source.old) (S.taken source.new) bytes }
         ensures cause { IsErrOf result RecordFault.Failed → Rose (S.faults source.old) (S.faults source.new) }
         ensures later { S.faults source.old ≤ S.faults source.new }
         ensures closed { OnErr result (self.new ≡ closed self.old) }

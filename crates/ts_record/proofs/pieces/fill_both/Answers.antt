@@ -1,4 +1,4 @@
-use Rattle.std.proofs.Common.{ℕ, ◌≡◌, ◌+◌, ◌∙◌, ap, length, arith, rules}
+use Rattle.std.proofs.Common.{◌≡◌, ◌+◌, ◌∙◌, ap, length, arith, rules}
 use Rattle.wire_spec.specs.Causes.{raised}
 use Rattle.ipe_io.proofs.Told.{raised-raised}
 use Rattle.ts_record.proofs.Fronts.{consumes_both}

@@ -1,4 +1,4 @@
-use Rattle.std.proofs.Common.{rules, ◌≡◌, ℕ, ◌+◌, ◌∙◌, length, arith}
+use Rattle.std.proofs.Common.{rules, ◌≡◌, ◌+◌, ◌∙◌, length, arith}
 use Rattle.ts_record.proofs.ReadLemmas.{reads_record}
 use Rattle.ts_record.proofs.reader.RecordReader.next.Goals as goal
 
