@@ -1,4 +1,4 @@
-// How a packet of a PID follows the one received before it.
+//! How a packet of a PID follows the one received before it.
 ghost use Rattle.std.specs.Prelude.{◌≡◌, ℕ, List, [], ◌∷◌, ◌++◌, Some, None};
 ghost use Rattle.ts_spec.specs.Packet.{fields_of};
 ghost use Rattle.ts_packet.specs.Fields.{fields_in};

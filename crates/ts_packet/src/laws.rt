@@ -1,4 +1,4 @@
-// Laws of the definitions: what is written is read.
+//! Laws of the definitions: what is written is read.
 ghost use Rattle.std.specs.Prelude.{◌≡◌, ℕ, ◌≤◌, Bool, true, false, List, length, replicate};
 ghost use Rattle.ts_spec.specs.Packet.{fields_of, is_packet, packet_bytes, null_packet};
 ghost use Rattle.ts_packet.specs.Fields.{written_fields};

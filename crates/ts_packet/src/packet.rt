@@ -1,4 +1,4 @@
-// Packets of 188 bytes: fields are read, or the first test that fails is named; packets are written.
+//! Packets of 188 bytes: fields are read, or the first test that fails is named; packets are written.
 ghost use Rattle.std.specs.Prelude.{◌≡◌, ℕ, ◌≤◌, ◌++◌, length, Some, None, MatchResult, IfOk, is_ok};
 ghost use Rattle.ts_spec.specs.Packet.{fields_of, is_packet, packet_bytes, null_packet};
 ghost use Rattle.ts_packet.specs.Fields.{fields_in, refusal};

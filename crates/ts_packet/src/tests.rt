@@ -1,4 +1,4 @@
-// Packets by hand, after ISO/IEC 13818-1 clause 2.4.3.2.
+//! Packets by hand, after ISO/IEC 13818-1 clause 2.4.3.2.
 use crate::{Continuity, Link, PacketFault, parse, write_null, write_packet};
 
 /// A packet with these first bytes, and bytes FF behind them.

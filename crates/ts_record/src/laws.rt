@@ -1,4 +1,4 @@
-// Laws of the definitions.
+//! Laws of the definitions.
 ghost use Rattle.std.specs.Prelude.{◌≡◌, ℕ, List};
 ghost use Rattle.wire_spec.specs.Lists.{IsCut};
 

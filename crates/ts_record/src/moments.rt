@@ -1,4 +1,4 @@
-// The moment of a record, from its stamp.
+//! The moment of a record, from its stamp.
 ghost use Rattle.std.specs.Prelude.{◌≡◌, ℕ, ◌+◌, ◌^◌, ◌<◌, ◌≤◌, IfSome};
 ghost use Rattle.std.specs.Option.{ForSome};
 ghost use Rattle.ts_spec.specs.Recording.{stamp_size as size_of_stamp, moment_behind};

@@ -1,4 +1,4 @@
-// The bytes of one record: the stamp and the packet, each into its own place.
+//! The bytes of one record: the stamp and the packet, each into its own place.
 ghost use Rattle.std.specs.Prelude.{◌≡◌, ℕ, ◌+◌, ◌<◌, ◌≤◌, ◌++◌, true, length, take, IfOk, OnErr};
 ghost use Rattle.std.specs.Io.KnownBytes.{Consumes, IsAtEnd};
 ghost use Rattle.wire_spec.specs.Causes.{HasCause, raised};

@@ -1,4 +1,4 @@
-// The reader of records: it takes one record's bytes at a time, and keeps the last moment.
+//! The reader of records: it takes one record's bytes at a time, and keeps the last moment.
 ghost use Rattle.std.specs.Prelude.{◌≡◌, ◌↔◌, ℕ, ◌^◌, ◌<◌, ◌≤◌, true, List, [], IfOk, IfSome, IfNone, OnOk, OnErr, IsErrOf, length};
 ghost use Rattle.wire_spec.specs.Causes.{Rose};
 ghost use Rattle.ts_spec.specs.Recording.{record_size};

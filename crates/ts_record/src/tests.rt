@@ -1,4 +1,4 @@
-// Recordings in memory, by hand.
+//! Recordings in memory, by hand.
 use crate::RecordReader;
 use ipe_io::{MemSource, RecordFault, Recording};
 use std::alloc::{AllocError, Global};
