@@ -19,6 +19,8 @@ mod outside;
 mod shelved_file;
 mod std_sink;
 mod std_source;
+#[cfg(test)]
+mod tests;
 
 pub use faults::{AddFault, Failed, LoadFault, RecordFault, Recording};
 pub use file_rack::FileRack;
