@@ -1,15 +1,14 @@
 -- A capture with one more record, and why no longer front of the bytes is a capture.
-use Rattle.std.proofs.Common.{◌≡◌, ◌≢◌, ◌⊎◌, inl, inr, ⊎_elim, ℕ, ◌+◌, ◌*◌, ◌<◌, ◌≤◌, Bool, true, false, cond, eqb, ltb, leb, List, [], ◌∷◌, ◌++◌, length, get_or, take, drop, map, sum_by, All, Option, Some, None, refl, ap, sym, ◌∙◌, subst, arith, length-append, append_assoc}
-use Rattle.std.proofs.lemmas.List.{take-append-drop, take-append-le, drop_at, map_push, length_push, length-map, length-take-le, append_cancel_left, append-nil, take_at, take_all, length-drop}
-use Rattle.std.proofs.lemmas.List.Elements.{All-push, All-head, All-tail, All-nil}
+use Rattle.std.proofs.Common.{◌≡◌, ℕ, ◌+◌, ◌<◌, ◌≤◌, Bool, List, [], ◌∷◌, ◌++◌, length, take, drop, map, All, Option, Some, None, refl, ap, sym, ◌∙◌, subst, arith, length-append, append_assoc}
+use Rattle.std.specs.Io.KnownBytes.{Consumes}
+use Rattle.std.proofs.lemmas.List.{take-append-le, drop_at, map_push, length_push, append-nil, take_all}
+use Rattle.std.proofs.lemmas.List.Elements.{All-push, All-nil}
 use Rattle.std.proofs.lemmas.List.Sums.{sum_by-append}
 use Rattle.wire_spec.specs.Lists.{joined}
-use Rattle.pcap_file.specs.Reading.{head_fault, is_least_first, link_at, captured_length, record_fault, longest_record, most_records, most_bytes}
-use Rattle.pcap_file.specs.Told.{IsRecord, IsCapture, TellsRecords, Tells, bytes_in}
+use Rattle.pcap_file.specs.Reading.{head_fault, is_least_first, link_at, captured_length, longest_record, most_records, most_bytes}
+use Rattle.pcap_file.specs.Told.{IsRecord, IsCapture, bytes_in}
 use Rattle.pcap_file.specs.Known.{ReaderState}
-use Rattle.pcap_file.specs.Reader.{HasRead, with_record}
-use Rattle.pcap_file.specs.declared.faults.CaptureFault.{CaptureFault}
-use Rattle.pcap_file.specs.declared.faults.CaptureFault.TheVariants as fault
+use Rattle.pcap_file.specs.Reader.{HasRead, TakesRecord, with_record}
 use Rattle.pcap_file.proofs.FileHeads.{head_fault-append, is_least_first-append, link_at-append, head_is_whole}
 use Rattle.pcap_file.proofs.RecordFaults.{captured_length-append}
 
@@ -40,14 +39,14 @@ IsCapture-more front records head bytes capture l told short few small =
       head = head_fault-append front (head ++ bytes) whole_head ∙ capture.head;
       pieces = capture.pieces ++ (head ++ bytes) ∷ [];
       whole =
-        ap (λ z. z ++ (head ++ bytes)) capture.whole
+          ap (λ z. z ++ (head ++ bytes)) capture.whole
           ∙ (append_assoc (take 24 front) (joined capture.pieces) (head ++ bytes)
           ∙ (ap (λ z. take 24 front ++ z) (sym (joined_push capture.pieces (head ++ bytes)))
           ∙ ap (λ z. z ++ joined (capture.pieces ++ (head ++ bytes) ∷ [])) (sym (take-append-le 24 front (head ++ bytes) whole_head))));
       each = subst (λ (o : Bool). All (λ piece. IsRecord o piece) (capture.pieces ++ (head ++ bytes) ∷ [])) (sym order)
-        (All-push (λ piece. IsRecord (is_least_first front) piece) capture.pieces (head ++ bytes) capture.each (record_of (is_least_first front) head bytes l told));
+          (All-push (λ piece. IsRecord (is_least_first front) piece) capture.pieces (head ++ bytes) capture.each (record_of (is_least_first front) head bytes l told));
       bytes_are =
-        ap (λ z. z ++ bytes ∷ []) capture.bytes_are
+          ap (λ z. z ++ bytes ∷ []) capture.bytes_are
           ∙ (ap (λ z. map (λ (piece : List ℕ). drop 16 piece) capture.pieces ++ z ∷ []) (sym (drop_at head bytes 16 l))
           ∙ sym (map_push (λ (piece : List ℕ). drop 16 piece) capture.pieces (head ++ bytes)));
       short = All-push (λ b. length b ≤ longest_record) records bytes capture.short short;
@@ -55,7 +54,7 @@ IsCapture-more front records head bytes capture l told short few small =
       small = omega (arith, bytes_in_push records bytes);
     }
 
-pub HasRead-more : (reader : ReaderState) (front : List ℕ) (records : List (List ℕ)) (head bytes : List ℕ) → HasRead reader front records → length head ≡ 16
+HasRead-more : (reader : ReaderState) (front : List ℕ) (records : List (List ℕ)) (head bytes : List ℕ) → HasRead reader front records → length head ≡ 16
     → length bytes ≡ captured_length reader.least_first head → length bytes ≤ longest_record → reader.records < most_records → reader.bytes + length bytes ≤ most_bytes
     → HasRead (with_record reader bytes) (front ++ (head ++ bytes)) (records ++ bytes ∷ [])
 HasRead-more reader front records head bytes so_far l told short few small =
@@ -67,6 +66,13 @@ HasRead-more reader front records head bytes so_far l told short few small =
       count = omega (arith, so_far.count, length_push records bytes);
       size = omega (arith, so_far.size, bytes_in_push records bytes);
     }
+
+-- a read that took a record
+pub HasRead-taken : (reader : ReaderState) (front : List ℕ) (records : List (List ℕ)) (a b : Option (List ℕ)) (bytes : List ℕ) → HasRead reader front records
+    → TakesRecord reader.least_first reader.records reader.bytes a b bytes
+    → (x : List ℕ) × Consumes a b (x ++ bytes) × HasRead (with_record reader bytes) (front ++ (x ++ bytes)) (records ++ bytes ∷ [])
+HasRead-taken reader front records a b bytes so_far t =
+    (t.head, t.read, HasRead-more reader front records t.head bytes so_far t.head_size t.size t.short t.few t.small)
 
 -- a reader that has taken the head alone
 pub HasRead-head : (reader : ReaderState) (head : List ℕ) → head_fault head ≡ None → length head ≡ 24 → reader.least_first ≡ is_least_first head

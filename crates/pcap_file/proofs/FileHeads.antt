@@ -1,5 +1,5 @@
 -- A capture's head is told by its 24 bytes, whatever follows them.
-use Rattle.std.proofs.Common.{◌≡◌, ◌⊎◌, inl, inr, ⊎_elim, ℕ, ◌+◌, ◌*◌, ◌<◌, ◌≤◌, Bool, true, false, not, ◌&&◌, ◌||◌, cond, eqb, ltb, List, [], ◌++◌, length, get_or, Option, Some, None, refl, ap, sym, ◌∙◌, subst, arith, length-append, IfSome}
+use Rattle.std.proofs.Common.{◌≡◌, ⊎_elim, ℕ, ◌+◌, ◌<◌, ◌≤◌, Bool, true, false, not, ◌&&◌, ◌||◌, cond, eqb, ltb, List, ◌++◌, length, Option, Some, None, refl, ap, ◌∙◌, arith, length-append, IfSome}
 use Rattle.std.specs.Option.{is_none}
 use Rattle.std.specs.Io.KnownBytes.{Consumes, IsAtEnd}
 use Rattle.std.proofs.lemmas.List.{get_or_append_left, append-nil}
@@ -36,7 +36,7 @@ is_least_first-append b x l = ap is_magic (u32_least_first_at-append b x 0 (omeg
 has_magic-append : (b x : List ℕ) → 24 ≤ length b → has_magic (b ++ x) ≡ has_magic b
 has_magic-append b x l =
     ap (λ n. is_magic n || is_magic (u32_least_first_at (b ++ x) 0)) (u32_at-append b x 0 (omega arith))
-      ∙ ap (λ n. is_magic (u32_at b 0) || is_magic n) (u32_least_first_at-append b x 0 (omega arith))
+    ∙ ap (λ n. is_magic (u32_at b 0) || is_magic n) (u32_least_first_at-append b x 0 (omega arith))
 
 -- the tests behind the magic, by the order of the numbers
 version_in : Bool → List ℕ → Bool
@@ -46,7 +46,7 @@ version_in-append : (least_first : Bool) (b x : List ℕ) → 24 ≤ length b �
 unfolding version_in
 version_in-append least_first b x l =
     ap (λ n. eqb n 2 && eqb (u16_of least_first (b ++ x) 6) 4) (u16_of-append least_first b x 4 (omega arith))
-      ∙ ap (λ n. eqb (u16_of least_first b 4) 2 && eqb n 4) (u16_of-append least_first b x 6 (omega arith))
+    ∙ ap (λ n. eqb (u16_of least_first b 4) 2 && eqb n 4) (u16_of-append least_first b x 6 (omega arith))
 
 has_version-append : (b x : List ℕ) → 24 ≤ length b → has_version (b ++ x) ≡ has_version b
 unfolding version_in
@@ -56,14 +56,14 @@ has_version-append b x l =
 pub link_at-append : (b x : List ℕ) → 24 ≤ length b → link_at (b ++ x) ≡ link_at b
 link_at-append b x l =
     ap (λ (o : Bool). link_of (u32_of o (b ++ x) 20)) (is_least_first-append b x l)
-      ∙ ap link_of (u32_of-append (is_least_first b) b x 20 (omega arith))
+    ∙ ap link_of (u32_of-append (is_least_first b) b x 20 (omega arith))
 
 -- the fault, by the tests
 fault_by : ℕ → Bool → Bool → Bool → Option CaptureFault
 fault_by n magic version unlinked =
     cond (eqb n 0) (Some fault.Empty)
-      (cond (ltb n 24) (Some fault.CutHead)
-        (cond (not magic) (Some fault.Magic) (cond (not version) (Some fault.Version) (cond unlinked (Some fault.Link) None))))
+    (cond (ltb n 24) (Some fault.CutHead)
+    (cond (not magic) (Some fault.Magic) (cond (not version) (Some fault.Version) (cond unlinked (Some fault.Link) None))))
 
 fault_by-whole : (m n : ℕ) (magic version unlinked : Bool) → 24 ≤ m → 24 ≤ n → fault_by m magic version unlinked ≡ fault_by n magic version unlinked
 unfolding fault_by
@@ -74,9 +74,9 @@ unfolding fault_by
 head_fault-append b x l =
     let size = length-append b x in
     ap (λ (t : Bool). fault_by (length (b ++ x)) t (has_version (b ++ x)) (is_none (link_at (b ++ x)))) (has_magic-append b x l)
-      ∙ ap (λ (t : Bool). fault_by (length (b ++ x)) (has_magic b) t (is_none (link_at (b ++ x)))) (has_version-append b x l)
-      ∙ ap (λ o. fault_by (length (b ++ x)) (has_magic b) (has_version b) (is_none o)) (link_at-append b x l)
-      ∙ fault_by-whole (length (b ++ x)) (length b) (has_magic b) (has_version b) (is_none (link_at b)) (omega arith) l
+    ∙ ap (λ (t : Bool). fault_by (length (b ++ x)) (has_magic b) t (is_none (link_at (b ++ x)))) (has_version-append b x l)
+    ∙ ap (λ o. fault_by (length (b ++ x)) (has_magic b) (has_version b) (is_none o)) (link_at-append b x l)
+    ∙ fault_by-whole (length (b ++ x)) (length b) (has_magic b) (has_version b) (is_none (link_at b)) (omega arith) l
 
 -- a head without fault is whole
 whole_by : (n : ℕ) (magic version unlinked : Bool) → fault_by n magic version unlinked ≡ None → 24 ≤ n
@@ -94,6 +94,6 @@ told_head None b head f took end e = tt
 told_head (Some xs) None head f took end e = absurd took
 told_head (Some xs) (Some ys) head f took end e =
     ⊎_elim
-      (λ (cut : length head < 24). ap head_fault (took ∙ (ap (λ z. head ++ z) (end cut) ∙ append-nil head)) ∙ e)
-      (λ (whole : 24 ≤ length head). ap head_fault took ∙ (head_fault-append head ys whole ∙ e))
-      (cases_lt (length head) 24)
+    (λ (cut : length head < 24). ap head_fault (took ∙ (ap (λ z. head ++ z) (end cut) ∙ append-nil head)) ∙ e)
+    (λ (whole : 24 ≤ length head). ap head_fault took ∙ (head_fault-append head ys whole ∙ e))
+    (cases_lt (length head) 24)

@@ -5,3 +5,4 @@ pub mod Longest
 pub mod States
 pub mod ToldByReader
 pub mod OneTold
+pub mod Written

@@ -1,6 +1,6 @@
 -- No longer front of the bytes is a capture than one behind which no allowed record begins.
-use Rattle.std.proofs.Common.{◌≡◌, ◌≢◌, ℕ, ◌+◌, ◌-◌, ◌*◌, ◌<◌, ◌≤◌, Bool, true, false, cond, eqb, ltb, leb, List, [], ◌∷◌, ◌++◌, length, get_or, take, drop, map, sum_by, All, Option, Some, None, refl, ap, sym, ◌∙◌, subst, arith, length-append, append_assoc, MatchOption}
-use Rattle.std.proofs.lemmas.List.{take-append-le, drop_at, length-map, length-take-le, append_cancel_left, take_at, length-drop}
+use Rattle.std.proofs.Common.{◌≡◌, ℕ, ◌+◌, ◌-◌, ◌<◌, ◌≤◌, Bool, cond, eqb, ltb, leb, List, [], ◌∷◌, ◌++◌, length, take, drop, map, All, Option, Some, None, refl, ap, sym, ◌∙◌, subst, arith, length-append, append_assoc, MatchOption}
+use Rattle.std.proofs.lemmas.List.{take-append-le, drop_at, length-map, length-take-le, append_cancel_left, length-drop}
 use Rattle.std.proofs.lemmas.List.Elements.{All-cons, All-head, All-tail}
 use Rattle.std.proofs.lemmas.List.Sums.{sum_by-append}
 use Rattle.wire_spec.specs.Lists.{joined}
@@ -35,7 +35,7 @@ record_fault-record least_first records bytes piece rest r few short small =
 pub same_length : (least_first : Bool) (p q x y : List ℕ) → IsRecord least_first p → IsRecord least_first q → p ++ x ≡ q ++ y → length p ≡ length q
 same_length least_first p q x y r s e =
     let told : captured_length least_first p ≡ captured_length least_first q =
-        sym (captured_length-append least_first p x r.head) ∙ (ap (λ z. captured_length least_first z) e ∙ captured_length-append least_first q y s.head) in
+    sym (captured_length-append least_first p x r.head) ∙ (ap (λ z. captured_length least_first z) e ∙ captured_length-append least_first q y s.head) in
     omega (arith, r.size, s.size, told)
 
 no_longer : (least_first : Bool) (records bytes n b : ℕ) (pieces others : List (List ℕ)) (rest behind : List ℕ)
@@ -64,8 +64,8 @@ no_longer least_first records bytes n b (q ∷ qs) (p ∷ ps) rest behind e each
     let left_q : length (drop 16 q) ≡ length q - 16 = length-drop 16 q in
     let left_p : length (drop 16 p) ≡ length p - 16 = length-drop 16 p in
     let further = no_longer least_first records bytes (n + 1) (b + length (drop 16 p)) qs ps rest behind on
-        (All-tail (λ piece. IsRecord least_first piece) q qs each) (All-tail (λ piece. IsRecord least_first piece) p ps each_other)
-        (All-tail (λ piece. length (drop 16 piece) ≤ longest_record) p ps short) (omega arith) (omega arith) (omega arith) (omega arith) ending in
+    (All-tail (λ piece. IsRecord least_first piece) q qs each) (All-tail (λ piece. IsRecord least_first piece) p ps each_other)
+    (All-tail (λ piece. length (drop 16 piece) ≤ longest_record) p ps short) (omega arith) (omega arith) (omega arith) (omega arith) ending in
     omega (arith, further, length-append q (joined qs), length-append p (joined ps), l)
 
 -- how long a capture is
@@ -86,7 +86,7 @@ all_of_pieces [] records e h = λ k d lt. absurd (omega arith)
 all_of_pieces (p ∷ ps) records e h =
     let here : All (λ bytes. length bytes ≤ longest_record) (drop 16 p ∷ bytes_of ps) = subst (λ (rs : List (List ℕ)). All (λ bytes. length bytes ≤ longest_record) rs) e h in
     All-cons (λ piece. length (drop 16 piece) ≤ longest_record) p ps (All-head (λ bytes. length bytes ≤ longest_record) (drop 16 p) (bytes_of ps) here)
-      (all_of_pieces ps (bytes_of ps) refl (All-tail (λ bytes. length bytes ≤ longest_record) (drop 16 p) (bytes_of ps) here))
+    (all_of_pieces ps (bytes_of ps) refl (All-tail (λ bytes. length bytes ≤ longest_record) (drop 16 p) (bytes_of ps) here))
 
 pub longest_front : (front rest : List ℕ) (records : List (List ℕ)) → IsCapture front records
     → (record_fault (is_least_first front) (length records) (bytes_in records) rest ≡ None → rest ≡ [])
@@ -96,20 +96,20 @@ longest_front front rest records c ending other behind others e o =
     let m = head_is_whole other o.head in
     let order : is_least_first other ≡ is_least_first front = same_order front rest other behind l m e in
     let pieces_on : joined c.pieces ++ rest ≡ joined o.pieces ++ behind =
-        append_cancel_left (take 24 front) (joined c.pieces ++ rest) (joined o.pieces ++ behind)
-          (sym (append_assoc (take 24 front) (joined c.pieces) rest)
-            ∙ (ap (λ z. z ++ rest) (sym c.whole)
-            ∙ (e
-            ∙ (ap (λ z. z ++ behind) o.whole
-            ∙ (append_assoc (take 24 other) (joined o.pieces) behind
-            ∙ ap (λ z. z ++ (joined o.pieces ++ behind)) (sym (same_head front rest other behind l m e))))))) in
+    append_cancel_left (take 24 front) (joined c.pieces ++ rest) (joined o.pieces ++ behind)
+    (sym (append_assoc (take 24 front) (joined c.pieces) rest)
+    ∙ (ap (λ z. z ++ rest) (sym c.whole)
+    ∙ (e
+    ∙ (ap (λ z. z ++ behind) o.whole
+    ∙ (append_assoc (take 24 other) (joined o.pieces) behind
+    ∙ ap (λ z. z ++ (joined o.pieces ++ behind)) (sym (same_head front rest other behind l m e))))))) in
     let each_other : All (λ piece. IsRecord (is_least_first front) piece) o.pieces = subst (λ (t : Bool). All (λ piece. IsRecord t piece) o.pieces) order o.each in
     let count_o : length others ≡ length o.pieces = ap (λ (rs : List (List ℕ)). length rs) o.bytes_are ∙ length-map o.pieces (λ (piece : List ℕ). drop 16 piece) in
     let count_c : length records ≡ length c.pieces = ap (λ (rs : List (List ℕ)). length rs) c.bytes_are ∙ length-map c.pieces (λ (piece : List ℕ). drop 16 piece) in
     let size_o : bytes_in others ≡ bytes_in (bytes_of o.pieces) = ap (λ (rs : List (List ℕ)). bytes_in rs) o.bytes_are in
     let size_c : bytes_in records ≡ bytes_in (bytes_of c.pieces) = ap (λ (rs : List (List ℕ)). bytes_in rs) c.bytes_are in
     let within = no_longer (is_least_first front) (length records) (bytes_in records) 0 0 c.pieces o.pieces rest behind pieces_on c.each each_other
-        (all_of_pieces o.pieces others o.bytes_are o.short) (omega (arith, o.few, count_o)) (omega (arith, o.small, size_o)) (omega arith) (omega arith) ending in
+    (all_of_pieces o.pieces others o.bytes_are o.short) (omega (arith, o.few, count_o)) (omega (arith, o.small, size_o)) (omega arith) (omega arith) ending in
     omega (arith, within, capture_length front records c, capture_length other others o)
 
 -- what is told where no allowed record follows
@@ -119,14 +119,14 @@ pub Tells-end : (front rest : List ℕ) (records : List (List ℕ)) (f : Option 
 Tells-end front rest records f c is_fault ending =
     let right : head_fault (front ++ rest) ≡ None = head_fault-append front rest (head_is_whole front c.head) ∙ c.head in
     subst (λ (o : Option CaptureFault). MatchOption o (TellsRecords (front ++ rest) records f) (λ at_head. (records ≡ []) × (f ≡ Some at_head))) (sym right)
-      (record {
-        front = front;
-        rest = rest;
-        whole = refl;
-        capture = c;
-        longest = longest_front front rest records c (λ e. ending (sym is_fault ∙ e));
-        fault_is = sym is_fault;
-      })
+    (record {
+      front = front;
+      rest = rest;
+      whole = refl;
+      capture = c;
+      longest = longest_front front rest records c (λ e. ending (sym is_fault ∙ e));
+      fault_is = sym is_fault;
+    })
 
 -- what is told where the head can't be read
 pub Tells-nothing : (bytes : List ℕ) (f : CaptureFault) → head_fault bytes ≡ Some f → Tells bytes [] (Some f)

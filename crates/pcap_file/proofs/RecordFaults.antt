@@ -1,7 +1,7 @@
 -- A record's fault is told by its head, and a record that is cut by what there is of it.
-use Rattle.std.proofs.Common.{◌≡◌, ℕ, ◌+◌, ◌*◌, ◌<◌, ◌≤◌, Bool, true, false, cond, eqb, ltb, leb, List, ◌++◌, length, get_or, Option, Some, None, refl, ap, sym, ◌∙◌, arith, length-append}
+use Rattle.std.proofs.Common.{◌≡◌, ℕ, ◌+◌, ◌<◌, ◌≤◌, Bool, cond, eqb, ltb, leb, List, ◌++◌, length, Some, None, refl, arith, length-append}
 use Rattle.std.proofs.lemmas.List.{get_or_append_left}
-use Rattle.pcap_file.specs.Reading.{u32_of, u16_of, captured_length, record_fault, longest_record, most_records, most_bytes}
+use Rattle.pcap_file.specs.Reading.{captured_length, record_fault, longest_record, most_records, most_bytes}
 use Rattle.pcap_file.specs.declared.faults.CaptureFault.TheVariants as fault
 
 -- a head's bytes stand before what follows it

@@ -1,5 +1,5 @@
 -- The state of a reader after an answer, by its fields.
-use Rattle.std.proofs.Common.{◌≡◌, ℕ, ◌+◌, ◌≤◌, Bool, true, false, List, ◌++◌, length, take, refl, ap, sym, ◌∙◌, subst, arith}
+use Rattle.std.proofs.Common.{◌≡◌, ℕ, ◌+◌, ◌≤◌, Bool, false, List, ◌++◌, length, take, ap, sym, ◌∙◌, subst}
 use Rattle.std.proofs.lemmas.List.{take-take, take-append-le}
 use Rattle.pcap_file.specs.Known.{ReaderState}
 use Rattle.pcap_file.specs.Reader.{with_record}
@@ -14,7 +14,7 @@ pub with_record-state : (reader : ReaderState) (least_first : Bool) (link : Link
     → state least_first link (records + 1) (bytes + n) is_open ≡ with_record reader taken
 with_record-state reader least_first link records bytes n is_open taken e l =
     subst (λ (r : ReaderState). state least_first link (records + 1) (bytes + n) is_open ≡ with_record r taken) e
-      (ap (λ (k : ℕ). state least_first link (records + 1) (bytes + k) is_open) (sym l))
+    (ap (λ (k : ℕ). state least_first link (records + 1) (bytes + k) is_open) (sym l))
 
 -- the front of a buffer, lent
 pub lent_front : (n room : ℕ) (buffer behind lent : List ℕ) → lent ≡ take room (buffer ++ behind) → n ≤ length buffer → n ≤ room → take n lent ≡ take n buffer

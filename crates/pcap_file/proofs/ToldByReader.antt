@@ -1,8 +1,8 @@
 -- What a source's bytes tell, by what a reader finds in those that are left.
-use Rattle.std.proofs.Common.{◌≡◌, ℕ, ◌+◌, Bool, List, [], ◌++◌, length, Option, Some, None, refl, ap, sym, ◌∙◌, IfSome}
+use Rattle.std.proofs.Common.{◌≡◌, ℕ, Bool, List, [], ◌++◌, length, Option, Some, None, refl, ap, sym, ◌∙◌, IfSome}
 use Rattle.std.specs.Io.KnownBytes.{Consumes, IsAtEnd}
 use Rattle.std.proofs.KnownBytes.{Consumes-whole}
-use Rattle.pcap_file.specs.Reading.{is_least_first, record_fault}
+use Rattle.pcap_file.specs.Reading.{record_fault}
 use Rattle.pcap_file.specs.Told.{Tells, bytes_in}
 use Rattle.pcap_file.specs.Known.{ReaderState}
 use Rattle.pcap_file.specs.Reader.{HasRead, OnNextFault}
@@ -23,11 +23,11 @@ told_fault : (front : List ℕ) (records : List (List ℕ)) (reader : ReaderStat
 told_fault front records reader f None so_far found = tt
 told_fault front records reader f (Some rest) so_far found =
     Tells-end front rest records (Some f) so_far.capture
-      (ap (λ (o : Bool). record_fault o (length records) (bytes_in records) rest) (sym so_far.order)
-        ∙ ap (λ n. record_fault reader.least_first n (bytes_in records) rest) (sym so_far.count)
-        ∙ ap (λ n. record_fault reader.least_first reader.records n rest) (sym so_far.size)
-        ∙ found)
-      (λ e. cc)
+    (ap (λ (o : Bool). record_fault o (length records) (bytes_in records) rest) (sym so_far.order)
+    ∙ ap (λ n. record_fault reader.least_first n (bytes_in records) rest) (sym so_far.count)
+    ∙ ap (λ n. record_fault reader.least_first reader.records n rest) (sym so_far.size)
+    ∙ found)
+    (λ e. cc)
 
 pub told_refusal : (reader : ReaderState) (front : List ℕ) (records : List (List ℕ)) (e : NextFault) (a : Option (List ℕ)) → HasRead reader front records
     → OnNextFault e (λ f. IfSome a (λ rest. record_fault reader.least_first reader.records reader.bytes rest ≡ Some f))

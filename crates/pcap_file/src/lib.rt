@@ -12,9 +12,11 @@ mod laws;
 mod numbers;
 mod reader;
 mod records;
+#[cfg(test)]
+mod tests;
 
 pub use captured::{LinkType, datagram_of};
 pub use faults::{CaptureFault, NextFault, OpenFault};
-pub use reader::CaptureReader;
 pub use heads::{record_head, write_head};
 pub use laws::{a_capture_tells_one_thing, written_captures_are_read_back};
+pub use reader::CaptureReader;

@@ -2,7 +2,7 @@
 ghost use Rattle.std.specs.Prelude.{◌≡◌, ℕ, ◌+◌, ◌-◌, ◌<◌, ◌≤◌, true, false, List, [], ◌++◌, length, take, Some, IfOk, IfErr, IfSome, IfNone, OnOk};
 ghost use Rattle.std.specs.Io.KnownBytes.{Consumes, IsAtEnd};
 ghost use Rattle.pcap_file.specs.Reading.{captured_length, record_fault, longest_record, most_records, most_bytes};
-ghost use Rattle.pcap_file.specs.Reader.{HasNextCause,  OnNextFault, TakesRecord, is_cut};
+ghost use Rattle.pcap_file.specs.Reader.{HasNextCause, OnNextFault, TakesRecord, is_cut};
 
 use crate::faults::{CaptureFault, NextFault};
 use crate::numbers::u32_at;
@@ -21,7 +21,12 @@ const MOST_RECORDS: u32 = 4_194_304;
 const MOST_BYTES: u32 = 268_435_456;
 
 /// The length that a record's head tells, where it stays within the limits.
-fn record_length(head: &[u8; 16], least_first: bool, records: u32, bytes: u32) -> Result<usize, CaptureFault>
+fn record_length(
+    head: &[u8; 16],
+    least_first: bool,
+    records: u32,
+    bytes: u32,
+) -> Result<usize, CaptureFault>
     requires { bytes ≤ most_bytes }
     ensures read { IfOk result (λ n. n ≡ captured_length least_first head.now) }
     ensures short { IfOk result (λ n. n ≤ longest_record) }

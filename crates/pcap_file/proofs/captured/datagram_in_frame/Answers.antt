@@ -1,5 +1,4 @@
 -- What stands behind the header is the rest of the frame.
-use Rattle.std.proofs.Common.{◌≡◌, ℕ, ◌+◌, ◌*◌, take, drop, ap, sym, ◌∙◌}
 use Rattle.std.proofs.lemmas.List.{take_rest}
 use Rattle.pcap_file.proofs.captured.datagram_in_frame.Goals as goal
 

@@ -1,9 +1,7 @@
-use Rattle.std.proofs.Common.{◌≡◌, ℕ, ◌+◌, ◌<◌, ◌≤◌, List, ◌++◌, length, take, drop, arith, Some, Option, length-take, ap, sym, ◌∙◌, refl}
-use Rattle.std.specs.Io.KnownBytes.{Consumes}
+use Rattle.std.proofs.Common.{◌≡◌, ℕ, ◌<◌, List, ◌++◌, length, take, drop, arith, Some, sym, ◌∙◌}
 use Rattle.std.proofs.KnownBytes.{Consumes-trans, Consumes-whole}
 use Rattle.std.proofs.lemmas.List.{length-take-le, take_at, take_all}
 use Rattle.pcap_file.specs.Reading.{record_fault}
-use Rattle.pcap_file.specs.Reader.{TakesRecord}
 use Rattle.pcap_file.specs.declared.faults.CaptureFault.TheVariants as fault
 use Rattle.pcap_file.proofs.RecordFaults.{record_fault-cut}
 use Rattle.pcap_file.proofs.records.read_record.Goals as goal
@@ -17,9 +15,9 @@ returns-then-count-length-clause-refused g c =
     let size : length got ≡ c.in-Ok-fill.count = length-take-le c.in-Ok-fill.count c.fill.new.buf c.in-Ok-fill.ensures.bound in
     let all = Consumes-trans (g.S.Source.left c.args.source.now) (g.S.Source.left c.read_head.new.source) (g.S.Source.left c.fill.new.source) head got (c.in-Ok-true.ensures.read c.in-Ok-true.field-0-test) c.in-Ok-fill.ensures.read in
     Consumes-whole (g.S.Source.left c.args.source.now) (g.S.Source.left c.fill.new.source) (head ++ got)
-      (λ (rest : List ℕ). record_fault c.args.least_first c.args.records c.args.bytes rest ≡ Some fault.CutRecord)
-      all (c.in-Ok-fill.ensures.end less).1
-      (record_fault-cut c.args.least_first c.args.records c.args.bytes head got (c.read_head.array_long) c.in-Ok.ensures.few (omega (arith, c.in-Ok.ensures.read, c.in-Ok.ensures.short)) (omega (arith, c.in-Ok.ensures.read, c.in-Ok.ensures.small)) (omega (arith, c.in-Ok.ensures.read, size)))
+    (λ (rest : List ℕ). record_fault c.args.least_first c.args.records c.args.bytes rest ≡ Some fault.CutRecord)
+    all (c.in-Ok-fill.ensures.end less).1
+    (record_fault-cut c.args.least_first c.args.records c.args.bytes head got (c.read_head.array_long) c.in-Ok.ensures.few (omega (arith, c.in-Ok.ensures.read, c.in-Ok.ensures.short)) (omega (arith, c.in-Ok.ensures.read, c.in-Ok.ensures.small)) (omega (arith, c.in-Ok.ensures.read, size)))
 
 pub returns-else-count-length-clause-read : goal.returns-else-count-length-clause-read
 returns-else-count-length-clause-read g c =

@@ -1,4 +1,3 @@
-use Rattle.pcap_file.proofs.Longest.{Tells-nothing}
 use Rattle.pcap_file.proofs.Captures.{HasRead-head}
 use Rattle.std.proofs.Common.{refl}
 use Rattle.pcap_file.proofs.reader.CaptureReader.open.Goals as goal
