@@ -7,15 +7,12 @@ use Rattle.wire_spec.specs.Causes.{raised}
 use Rattle.wire_spec.specs.Lists.{joined}
 use Rattle.wire_spec.specs.Content.{File, ChangesFile, grown}
 use Rattle.ts_spec.specs.Recording.{Record, RecordingForm, plain, records_of, record_size}
-use Rattle.ts_spec.specs.Received.{arrivals}
-use Rattle.carriage_spec.specs.Delivered.{delivered_by_ule}
-use Rattle.pcap_file.specs.Capture.{capture_record}
 use Rattle.ipe_io.proofs.Told.{IsThere, changes-trans, raised-raised}
 use Rattle.ts_record.specs.Reading.{ReaderState, ReaderOf, ReadsRecord, ReadsEnd}
-use Rattle.ipencap_engine.specs.Delivery.{records_text, given_by, last_of, packet_in}
+use Rattle.unit_stream.specs.Joining.{JoinerState}
+use Rattle.ipencap_engine.specs.Delivery.{records_text, reception_text, IsReceiving, ReceivesMore, ReceivesPart}
 use Rattle.ipencap_engine.specs.Reading.{HasRead, ReadsWhole, ReadsFront, ReadsToLimit, ReadsPart, delivered_in}
-use Rattle.ipencap_engine.proofs.Texts.{flat_map-append}
-use Rattle.ipencap_engine.proofs.Records.{delivered-push, last-push}
+use Rattle.ipencap_engine.proofs.Units.{delivered_events}
 
 pub joined-push : (xs : List (List ℕ)) (x : List ℕ) → joined (xs ++ x ∷ []) ≡ joined xs ++ x
 joined-push [] x = append-nil x
@@ -57,15 +54,19 @@ part_of_front pid left now old new at front =
       file = subst (λ (t : List ℕ). ChangesFile old new at (λ file. grown file t)) (sym (take_all (length text) text (omega arith))) front.file;
     }
 
+-- what is delivered, as the events say it
+text_is : (pid : ℕ) (packets : List (List ℕ)) → reception_text pid (records_of plain packets) ≡ records_text (delivered_in pid packets)
+text_is pid packets = ap records_text (delivered_events pid (records_of plain packets))
+
 -- the text of one more record
-text_push : (pid : ℕ) (packets : List (List ℕ)) (packet : List ℕ) (r : Record) (last : Option (List ℕ))
-    → records_of plain (packets ++ packet ∷ []) ≡ records_of plain packets ++ r ∷ [] → last ≡ last_of None (arrivals pid (records_of plain packets))
-    → records_text (delivered_in pid (packets ++ packet ∷ [])) ≡ records_text (delivered_in pid packets) ++ records_text (given_by pid last r)
-text_push pid packets packet r last more same =
-    ap (λ (records : List Record). records_text (delivered_by_ule pid records)) more
-    ∙ ap records_text (delivered-push pid (records_of plain packets) r)
-    ∙ flat_map-append capture_record (delivered_in pid packets) (given_by pid (last_of None (arrivals pid (records_of plain packets))) r)
-    ∙ ap (λ (l : Option (List ℕ)). records_text (delivered_in pid packets) ++ records_text (given_by pid l r)) (sym same)
+text_push : (pid : ℕ) (packets : List (List ℕ)) (packet : List ℕ) (r : Record) (done : List ℕ)
+    → records_of plain (packets ++ packet ∷ []) ≡ records_of plain packets ++ r ∷ []
+    → reception_text pid (records_of plain packets ++ r ∷ []) ≡ reception_text pid (records_of plain packets) ++ done
+    → records_text (delivered_in pid (packets ++ packet ∷ [])) ≡ records_text (delivered_in pid packets) ++ done
+text_push pid packets packet r done more told =
+    sym (text_is pid (packets ++ packet ∷ []))
+    ∙ ap (reception_text pid) more ∙ told
+    ∙ ap (λ (t : List ℕ). t ++ done) (text_is pid packets)
 
 -- the record that was read, in a plain recording
 pub record_more : (reader now_reader : ReaderState) (left now : Option (List ℕ)) (taken now_taken : ℕ) (packets : List (List ℕ)) (r : Record) → reader.form ≡ plain
@@ -73,41 +74,38 @@ pub record_more : (reader now_reader : ReaderState) (left now : Option (List ℕ
 record_more reader now_reader left now taken now_taken packets r form read =
     subst (λ (f : RecordingForm). records_of f (packets ++ read.piece ∷ []) ≡ records_of f packets ++ r ∷ []) form read.last
 
-pub file_more : (pid : ℕ) (old between new : Option (List File)) (at : ℕ) (packets : List (List ℕ)) (packet : List ℕ) (r : Record) (last : Option (List ℕ)) → IsThere old at
-    → records_of plain (packets ++ packet ∷ []) ≡ records_of plain packets ++ r ∷ [] → last ≡ last_of None (arrivals pid (records_of plain packets))
+pub file_more : (pid : ℕ) (last : Option (List ℕ)) (joiner : JoinerState) (old between new : Option (List File)) (at : ℕ) (packets : List (List ℕ)) (packet : List ℕ) (r : Record) → IsThere old at
+    → records_of plain (packets ++ packet ∷ []) ≡ records_of plain packets ++ r ∷ []
     → ChangesFile old between at (λ file. grown file (records_text (delivered_in pid packets)))
-    → ChangesFile between new at (λ file. grown file (records_text (given_by pid last r)))
+    → ReceivesMore pid last joiner (records_of plain packets) r between new at
     → ChangesFile old new at (λ file. grown file (records_text (delivered_in pid (packets ++ packet ∷ []))))
-file_more pid old between new at packets packet r last there more same before now =
-    changes-trans old between new at (records_text (delivered_in pid packets)) (records_text (given_by pid last r)) (records_text (delivered_in pid (packets ++ packet ∷ [])))
-    (text_push pid packets packet r last more same) there before now
+file_more pid last joiner old between new at packets packet r there more before now =
+    changes-trans old between new at (records_text (delivered_in pid packets)) now.done (records_text (delivered_in pid (packets ++ packet ∷ [])))
+      (text_push pid packets packet r now.done more now.told) there before now.file
 
 -- the writing of what a record gives stopped
-pub part_stop : (pid : ℕ) (left now : Option (List ℕ)) (old between new : Option (List File)) (at : ℕ) (packets : List (List ℕ)) (packet : List ℕ) (r : Record) (last : Option (List ℕ)) (n : ℕ) → IsThere old at
-    → records_of plain (packets ++ packet ∷ []) ≡ records_of plain packets ++ r ∷ [] → last ≡ last_of None (arrivals pid (records_of plain packets))
+pub part_stop : (pid : ℕ) (left now : Option (List ℕ)) (old between new : Option (List File)) (at : ℕ) (packets : List (List ℕ)) (packet : List ℕ) (r : Record) → IsThere old at
+    → records_of plain (packets ++ packet ∷ []) ≡ records_of plain packets ++ r ∷ []
     → HasRead left now (packets ++ packet ∷ []) []
     → ChangesFile old between at (λ file. grown file (records_text (delivered_in pid packets)))
-    → ChangesFile between new at (λ file. grown file (take n (records_text (given_by pid last r))))
+    → ReceivesPart pid (records_of plain packets) r between new at
     → ReadsPart pid left now old new at
-part_stop pid left now old between new at packets packet r last n there more same read before stopped =
+part_stop pid left now old between new at packets packet r there more read before stopped =
     let text : List ℕ = records_text (delivered_in pid packets) in
-    let this : List ℕ = records_text (given_by pid last r) in
     record {
       packets = packets ++ packet ∷ [];
       behind = [];
-      count = length text + n;
+      count = length text + stopped.count;
       read = read;
-      file = changes-trans old between new at text (take n this) (take (length text + n) (records_text (delivered_in pid (packets ++ packet ∷ []))))
-          (ap (take (length text + n)) (text_push pid packets packet r last more same) ∙ take-append-add text this n) there before stopped;
+      file = changes-trans old between new at text (take stopped.count stopped.text) (take (length text + stopped.count) (records_text (delivered_in pid (packets ++ packet ∷ []))))
+        (ap (take (length text + stopped.count)) (text_push pid packets packet r stopped.text more stopped.told) ∙ take-append-add text stopped.text stopped.count) there before stopped.file;
     }
 
-pub last_more : (pid : ℕ) (packets : List (List ℕ)) (packet : List ℕ) (r : Record) (last now : Option (List ℕ))
-    → records_of plain (packets ++ packet ∷ []) ≡ records_of plain packets ++ r ∷ [] → last ≡ last_of None (arrivals pid (records_of plain packets))
-    → now ≡ last_of last (packet_in pid r) → now ≡ last_of None (arrivals pid (records_of plain (packets ++ packet ∷ [])))
-last_more pid packets packet r last now more same e =
-    e ∙ ap (λ (l : Option (List ℕ)). last_of l (packet_in pid r)) same
-    ∙ sym (last-push pid (records_of plain packets) r)
-    ∙ ap (λ (records : List Record). last_of None (arrivals pid records)) (sym more)
+-- the records received, with one packet more
+pub receiving_more : (pid : ℕ) (last : Option (List ℕ)) (joiner : JoinerState) (packets : List (List ℕ)) (packet : List ℕ) (r : Record)
+    → records_of plain (packets ++ packet ∷ []) ≡ records_of plain packets ++ r ∷ []
+    → IsReceiving pid last joiner (records_of plain packets ++ r ∷ []) → IsReceiving pid last joiner (records_of plain (packets ++ packet ∷ []))
+receiving_more pid last joiner packets packet r more receiving = subst (λ (records : List Record). IsReceiving pid last joiner records) (sym more) receiving
 
 -- the counter of the bytes taken, with one packet more
 pub taken_more : (before mid now : ℕ) (packets : List (List ℕ)) (packet : List ℕ) → length packet ≡ 188 → mid ≡ raised before (188 * length packets)

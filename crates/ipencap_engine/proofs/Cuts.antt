@@ -1,22 +1,20 @@
 -- The records that told bytes are cut into.
-use Rattle.std.proofs.Common.{◌≡◌, inl, inr, ℕ, zero, suc, ◌<◌, ◌≤◌, List, [], ◌∷◌, ◌++◌, length, take, drop, min, refl, ap, sym, ◌∙◌, subst, arith, Option, None, Some, All, append_assoc}
+use Rattle.std.proofs.Common.{◌≡◌, inl, inr, ℕ, zero, suc, ◌+◌, ◌*◌, ◌<◌, ◌≤◌, List, [], ◌∷◌, ◌++◌, length, take, drop, min, refl, ap, sym, ◌∙◌, subst, arith, Option, None, Some, All, append_assoc}
 use Rattle.std.proofs.lemmas.Bool.{cases_lt}
-use Rattle.std.proofs.lemmas.List.{append-nil, length-take, length-drop, take-append-drop, length-append, take-append-le, take_min, take_at, map-append}
-use Rattle.std.proofs.lemmas.List.Elements.{All-append}
+use Rattle.std.proofs.lemmas.List.{append-nil, length-take, length-drop, take-append-drop, length-append, take-append-le, take_min, take_at, drop_at, map-append}
+use Rattle.std.proofs.lemmas.List.Elements.{All-append, All-head, All-tail}
 use Rattle.std.specs.List.{flat_map}
 use Rattle.std.specs.Io.KnownBytes.{Consumes, IsAtEnd}
 use Rattle.wire_spec.specs.Lists.{joined, IsCut}
 use Rattle.wire_spec.specs.Content.{File, AddsFile}
 use Rattle.ts_spec.specs.Recording.{Record, plain, plain_record, records_of}
-use Rattle.ts_spec.specs.Received.{arrivals, arrivals_from, received_after}
 use Rattle.carriage_spec.specs.Delivered.{delivered_by_ule}
 use Rattle.pcap_file.specs.Capture.{capture_head, capture_record, capture_text}
-use Rattle.ipencap_engine.specs.Delivery.{delivered_of, last_of}
 use Rattle.ipencap_engine.specs.Reading.{HasRead, delivered_in, most_records}
 use Rattle.ipencap_engine.specs.Files.{AddsPart, AddsCapture, AddsPrefix, AddsFront, file_of}
 use Rattle.ipencap_engine.specs.Outcome.{EndsWhole, EndsFront, EndsAtLimit, EndsPart}
 use Rattle.ipencap_engine.proofs.Texts.{flat_map-append}
-use Rattle.ipencap_engine.proofs.Records.{delivered-append}
+use Rattle.ipencap_engine.proofs.Records.{delivered_front}
 
 -- the bytes behind what was read
 consumed : (bytes : List ℕ) (left now : Option (List ℕ)) (front : List ℕ) → left ≡ Some bytes → Consumes left now front
@@ -107,13 +105,11 @@ cut_behind bytes left now packets behind e read =
     }
 
 -- what the first packets deliver stands at the front
-delivered_front : (pid : ℕ) (xs ys : List (List ℕ)) → (more : List (List ℕ)) × (delivered_in pid (xs ++ ys) ≡ delivered_in pid xs ++ more)
-delivered_front pid xs ys =
-    let rs : List Record = records_of plain xs in
-    let qs : List Record = records_of plain ys in (
-      delivered_of (received_after (last_of None (arrivals pid rs)) (arrivals_from pid (length rs) qs)),
-      ap (delivered_by_ule pid) (map-append plain_record xs ys) ∙ delivered-append pid rs qs,
-    )
+packets_front : (pid : ℕ) (xs ys : List (List ℕ)) → (more : List (List ℕ)) × (delivered_in pid (xs ++ ys) ≡ delivered_in pid xs ++ more)
+packets_front pid xs ys =
+    let front : (more : List (List ℕ)) × (delivered_by_ule pid (records_of plain xs ++ records_of plain ys) ≡ delivered_by_ule pid (records_of plain xs) ++ more) =
+        delivered_front pid (records_of plain xs) (records_of plain ys) in
+    (front.0, ap (delivered_by_ule pid) (map-append plain_record xs ys) ∙ front.1)
 
 text-append : (xs ys : List (List ℕ)) → capture_text (xs ++ ys) ≡ capture_text xs ++ flat_map capture_record ys
 text-append xs ys =
@@ -137,7 +133,7 @@ pub prefix_added : (pid : ℕ) (bytes : List ℕ) (left now : Option (List ℕ))
     → EndsPart pid left now old new → AddsPrefix pid bytes old new
 prefix_added pid bytes left now old new e ends =
     let behind : CutBehind bytes ends.packets = cut_behind bytes left now ends.packets ends.behind e ends.read in
-    let more : (more : List (List ℕ)) × (delivered_in pid (ends.packets ++ behind.others) ≡ delivered_in pid ends.packets ++ more) = delivered_front pid ends.packets behind.others in
+    let more : (more : List (List ℕ)) × (delivered_in pid (ends.packets ++ behind.others) ≡ delivered_in pid ends.packets ++ more) = packets_front pid ends.packets behind.others in
     record {
       packets = ends.packets ++ behind.others;
       tail = behind.tail;
@@ -146,9 +142,25 @@ prefix_added pid bytes left now old new e ends =
           (ap capture_text more.1 ∙ text-append (delivered_in pid ends.packets) more.0) ends.file;
     }
 
+-- packets of one size, one behind the other
+joined_size : (packets : List (List ℕ)) → All (λ packet. length packet ≡ 188) packets → length (joined packets) ≡ 188 * length packets
+joined_size [] each = refl
+joined_size (x ∷ xs) each =
+    length-append x (joined xs)
+    ∙ omega (arith, All-head (λ packet. length packet ≡ 188) x xs each, joined_size xs (All-tail (λ packet. length packet ≡ 188) x xs each))
+
+-- what is left behind what was read
+left_behind : (bytes : List ℕ) (left now : Option (List ℕ)) (packets : List (List ℕ)) (behind : List ℕ) → left ≡ Some bytes → HasRead left now packets behind
+    → now ≡ Some (drop (188 * length packets + length behind) bytes)
+left_behind bytes left now packets behind e read =
+    let front : List ℕ = joined packets ++ behind in
+    let found : (rest : List ℕ) × (bytes ≡ front ++ rest) × (now ≡ Some rest) = consumed bytes left now front e read.consumed in
+    found.2 ∙ ap Some (sym (ap (drop (188 * length packets + length behind)) found.1
+      ∙ drop_at front found.0 (188 * length packets + length behind) (omega (arith, length-append (joined packets) behind, joined_size packets read.each))))
+
 -- the capture of what the first records deliver was written
 pub front_added : (pid : ℕ) (bytes : List ℕ) (left now : Option (List ℕ)) (old new : Option (List File)) → left ≡ Some bytes
-    → (ends : EndsFront pid left now old new) → AddsFront pid (length ends.packets) bytes old new
+    → (ends : EndsFront pid left now old new) → AddsFront pid (length ends.packets) bytes now old new
 front_added pid bytes left now old new e ends =
     let behind : CutBehind bytes ends.packets = cut_behind bytes left now ends.packets ends.behind e ends.read in
     record {
@@ -156,11 +168,14 @@ front_added pid bytes left now old new e ends =
       tail = behind.tail;
       cut = behind.cut;
       within = omega (arith, length-append ends.packets behind.others);
+      part = length ends.behind;
+      short = ends.read.short;
+      left = left_behind bytes left now ends.packets ends.behind e ends.read;
       file = subst (λ (packets : List (List ℕ)). AddsFile old new (file_of (capture_text (delivered_in pid packets)) 0))
           (sym (take_at ends.packets behind.others (length ends.packets) refl)) ends.file;
     }
 
 pub limit_added : (pid : ℕ) (bytes : List ℕ) (left now : Option (List ℕ)) (old new : Option (List File)) → left ≡ Some bytes
-    → EndsAtLimit pid left now old new → AddsFront pid most_records bytes old new
+    → EndsAtLimit pid left now old new → AddsFront pid most_records bytes now old new
 limit_added pid bytes left now old new e ends =
-    subst (λ (count : ℕ). AddsFront pid count bytes old new) ends.limit (front_added pid bytes left now old new e ends.ends)
+    subst (λ (count : ℕ). AddsFront pid count bytes now old new) ends.limit (front_added pid bytes left now old new e ends.ends)

@@ -1,9 +1,10 @@
 pub mod Texts
 pub mod Units
-pub mod Packets
+pub mod Writing
 pub mod Records
-pub mod Lines
-pub mod Adding
 pub mod Advance
+pub mod Adding
 pub mod Cuts
 pub mod Commands
+pub mod Lines
+pub mod Losses

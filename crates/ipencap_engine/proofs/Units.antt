@@ -1,104 +1,149 @@
--- The units of a payload, one behind another.
-use Rattle.std.proofs.Common.{◌≡◌, ℕ, zero, suc, ◌+◌, ◌-◌, ◌<◌, ◌≤◌, Bool, true, false, cond, nat_le, List, [], ◌++◌, length, take, drop, refl, ap, sym, ◌∙◌, arith, subst, append_assoc, Option, None, Some}
-use Rattle.std.proofs.lemmas.List.{length-drop, append-nil}
-use Rattle.std.proofs.Math.Seq.{take-append-add}
-use Rattle.wire_spec.specs.Content.{File, ChangesFile, grown}
+-- The units that reassembly gives are SNDUs.
+use Rattle.std.proofs.Common.{◌≡◌, map, ℕ, ◌≤◌, Bool, true, false, cond, ◌&&◌, ◌||◌, ◌==◌, nat_le, List, [], ◌∷◌, ◌++◌, length, take, refl, ap, sym, ◌∙◌, arith, append_assoc, eq-eqb, min, if◌then◌else◌}
+use Rattle.std.specs.List.{flat_map}
+use Rattle.std.proofs.lemmas.List.{append-nil, length-take-le, length-append}
+use Rattle.std.proofs.lemmas.Bool.{leb-true}
 use Rattle.ts_spec.specs.Form.{Span, more, stuffing, whole, bad}
-use Rattle.ts_spec.specs.Sndu.{sndu_span}
-use Rattle.ule_unit.specs.Views.{whole_within}
-use Rattle.ipe_io.proofs.Told.{IsThere, changes-trans}
-use Rattle.ipencap_engine.specs.Delivery.{carried_by, given_front, given_within, records_text}
-use Rattle.ipencap_engine.proofs.Texts.{flat_map-append, stops_before}
-use Rattle.pcap_file.specs.Capture.{capture_record}
+use Rattle.ts_spec.specs.Packet.{PacketFields}
+use Rattle.ts_spec.specs.Received.{Arrival, packet_of, received_packets}
+use Rattle.ts_spec.specs.Recording.{Record}
+use Rattle.ts_spec.specs.Reassembly.{Given, all_of, Outcome, candidate, bad_length, delimit, no_outcome, incomplete, is_complete, outcome_by, outcome_of, bytes_from, unit_starts, PlacedUnit, accepted_in, accepted_units}
+use Rattle.ts_spec.specs.Events.{Event, unit_event, bad_check_event, delimit_event, bad_length_event, event_by, event_at, misfit_events, packet_events, events_of}
+use Rattle.ts_spec.specs.Sndu.{sndu_form, sndu_span, is_sndu, is_whole_of, has_right_length, has_right_crc}
+use Rattle.ule_unit.specs.Spans.{sndu_lawful}
+use Rattle.reassembly_law.specs.UnderWay.{unit_of_event}
+use Rattle.reassembly_law.proofs.Units.{of_events}
+use Rattle.carriage_spec.specs.Delivered.{carried_by_sndu, delivered_by_ule}
+use Rattle.ipencap_engine.specs.Delivery.{carried_by, carried_event}
+use Rattle.ipencap_engine.proofs.Texts.{flat_map-append}
 
--- a unit that lies whole in the bytes has one or more of them
-pub whole_range : (bytes : List ℕ) (k : ℕ) → whole_within (length bytes) (sndu_span bytes) ≡ Some k → (0 < k) × (k ≤ length bytes)
-whole_range bytes k e = (grind arith, grind arith)
+-- the span of an SNDU is its length
+whole_of : (n : ℕ) (span : Span) → is_whole_of n span ≡ true → span ≡ whole n
+whole_of n (whole m) e = let same : m ≡ n = grind (arith, e) in ap whole same
+whole_of n more e = absurd (cc)
+whole_of n stuffing e = absurd (cc)
+whole_of n bad e = absurd (cc)
 
--- the unit at the front, and what is behind it
-given_whole : (bytes : List ℕ) (span : Span) (k : ℕ) (next : List ℕ → List (List ℕ)) → whole_within (length bytes) span ≡ Some k
-    → given_front bytes span next ≡ carried_by (take k bytes) ++ next (drop k bytes)
-given_whole bytes more k next e = absurd (cc)
-given_whole bytes stuffing k next e = absurd (cc)
-given_whole bytes bad k next e = absurd (cc)
-given_whole bytes (whole n) k next e = by_test (nat_le n (length bytes)) e
+both_left : (a b : Bool) → (a && b) ≡ true → a ≡ true
+both_left true b e = refl
+both_left false b e = e
+
+-- an SNDU has 32,771 bytes at most
+pub sndu_is_short : (unit : List ℕ) → is_sndu unit ≡ true → length unit ≤ 32771
+sndu_is_short unit e = sndu_lawful.whole_most unit (length unit) (whole_of (length unit) (sndu_span unit) (both_left (has_right_length unit) (has_right_crc unit) e))
+
+-- the datagram of an event, of which only the CRC-32 is known to be right
+abbrev carried_plainly : Event → List (List ℕ)
+carried_plainly (unit_event moment unit) = carried_by_sndu unit
+carried_plainly bad_check_event = []
+carried_plainly delimit_event = []
+carried_plainly bad_length_event = []
+
+-- a unit with its own length and a right CRC-32 is an SNDU
+unit_is_sndu : (unit : List ℕ) → sndu_span unit ≡ whole (length unit) → has_right_crc unit ≡ true → is_sndu unit ≡ true
+unit_is_sndu unit size right =
+    ap (λ (b : Bool). b && has_right_crc unit) (ap (is_whole_of (length unit)) size ∙ eq-eqb (length unit) (length unit) refl) ∙ right
+
+carried_unit : (unit : List ℕ) → is_sndu unit ≡ true → carried_by unit ≡ carried_by_sndu unit
+carried_unit unit e = ap (λ (b : Bool). cond b (carried_by_sndu unit) []) e
+
+-- what an outcome carries
+carried_outcome : (moment : ℕ) (told : Outcome) → ((unit : List ℕ) → told ≡ candidate unit → sndu_span unit ≡ whole (length unit))
+    → flat_map carried_event (event_by sndu_form moment told) ≡ flat_map carried_plainly (event_by sndu_form moment told)
+carried_outcome moment bad_length sized = refl
+carried_outcome moment delimit sized = refl
+carried_outcome moment no_outcome sized = refl
+carried_outcome moment (candidate unit) sized = checked (has_right_crc unit) refl
   where
-    by_test : (b : Bool) → cond b (Some n) None ≡ Some k → cond b (carried_by (take n bytes) ++ next (drop n bytes)) [] ≡ carried_by (take k bytes) ++ next (drop k bytes)
-    by_test true e = let same : n ≡ k = cc in ap (λ m. carried_by (take m bytes) ++ next (drop m bytes)) same
-    by_test false e = absurd (cc)
+    checked : (b : Bool) → has_right_crc unit ≡ b
+        → flat_map carried_event ((if b then unit_event moment unit else bad_check_event) ∷ []) ≡ flat_map carried_plainly ((if b then unit_event moment unit else bad_check_event) ∷ [])
+    checked false right = refl
+    checked true right = ap (λ (t : List (List ℕ)). t ++ []) (carried_unit unit (unit_is_sndu unit (sized unit refl) right))
 
--- no unit lies whole at the front
-given_none : (bytes : List ℕ) (span : Span) (next : List ℕ → List (List ℕ)) → whole_within (length bytes) span ≡ None → given_front bytes span next ≡ []
-given_none bytes more next e = refl
-given_none bytes stuffing next e = refl
-given_none bytes bad next e = refl
-given_none bytes (whole n) next e = by_test (nat_le n (length bytes)) e
+-- a candidate has the length that its bytes tell
+candidate_sized : (given : Given) (span : Span) (unit : List ℕ) → sndu_span (all_of given) ≡ span → outcome_by span given ≡ candidate unit → sndu_span unit ≡ whole (length unit)
+candidate_sized given more unit told e = absurd (not_candidate given.is_ended e)
   where
-    by_test : (b : Bool) → cond b (Some n) None ≡ None → cond b (carried_by (take n bytes) ++ next (drop n bytes)) [] ≡ []
-    by_test true e = absurd (cc)
-    by_test false e = refl
+    not_candidate : (b : Bool) → cond b delimit no_outcome ≡ candidate unit → ⊥
+    not_candidate true e = cc
+    not_candidate false e = cc
+candidate_sized given stuffing unit told e = absurd (not_candidate given.is_ended e)
+  where
+    not_candidate : (b : Bool) → cond b delimit no_outcome ≡ candidate unit → ⊥
+    not_candidate true e = cc
+    not_candidate false e = cc
+candidate_sized given bad unit told e = absurd (cc)
+candidate_sized given (whole n) unit told e = by_test (is_complete n given) refl e
+  where
+    not_candidate : (b : Bool) → cond b delimit no_outcome ≡ candidate unit → ⊥
+    not_candidate true e = cc
+    not_candidate false e = cc
+    within : is_complete n given ≡ true → n ≤ length (all_of given)
+    within c = first (nat_le n (length given.payloads)) refl
+      where
+        first : (b : Bool) → nat_le n (length given.payloads) ≡ b → n ≤ length (all_of given)
+        first true h = omega (arith, leb-true n (length given.payloads) h, length-append given.payloads given.rest)
+        first false h = grind (arith, c, h)
+    by_test : (b : Bool) → is_complete n given ≡ b → cond b (candidate (take n (all_of given))) (incomplete given) ≡ candidate unit → sndu_span unit ≡ whole (length unit)
+    by_test false c e = absurd (not_candidate given.is_ended e)
+    by_test true c e =
+        let unit_is : take n (all_of given) ≡ unit = cc in
+        let size : length unit ≡ n = ap length (sym unit_is) ∙ length-take-le n (all_of given) (within c) in
+        ap sndu_span (sym unit_is) ∙ sndu_lawful.of_unit (all_of given) n told ∙ ap whole (sym size)
 
-pub text_none : (most : ℕ) (bytes : List ℕ) → whole_within (length bytes) (sndu_span bytes) ≡ None → records_text (given_within most bytes) ≡ []
-text_none zero bytes e = refl
-text_none (suc most) bytes e = ap records_text (given_none bytes (sndu_span bytes) (given_within most) e)
+carried_starts : (arrival : Arrival) (behind : List Arrival) (starts : List ℕ)
+    → flat_map carried_event (flat_map (event_at sndu_form arrival behind) starts) ≡ flat_map carried_plainly (flat_map (event_at sndu_form arrival behind) starts)
+carried_starts arrival behind [] = refl
+carried_starts arrival behind (start ∷ starts) =
+    let given : Given = bytes_from start (packet_of arrival) behind in
+    let events : List Event = event_at sndu_form arrival behind start in
+    let others : List Event = flat_map (event_at sndu_form arrival behind) starts in
+    flat_map-append carried_event events others
+    ∙ ap (λ (t : List (List ℕ)). t ++ flat_map carried_event others)
+      (carried_outcome arrival.moment (outcome_of sndu_form given) (λ unit e. candidate_sized given (sndu_span (all_of given)) unit refl e))
+    ∙ ap (λ (t : List (List ℕ)). flat_map carried_plainly events ++ t) (carried_starts arrival behind starts)
+    ∙ sym (flat_map-append carried_plainly events others)
 
--- the text of a unit and of those behind it
-text_more : (most : ℕ) (rest unit behind : List ℕ) (k : ℕ) → length rest ≤ most → whole_within (length rest) (sndu_span rest) ≡ Some k → unit ≡ take k rest → behind ≡ drop k rest
-    → (length behind ≤ most - 1) × (records_text (given_within most rest) ≡ records_text (carried_by unit) ++ records_text (given_within (most - 1) behind))
-text_more zero rest unit behind k enough whole_there front back =
-    let range : (0 < k) × (k ≤ length rest) = whole_range rest k whole_there in absurd (omega (arith, range.0, range.1))
-text_more (suc most) rest unit behind k enough whole_there front back =
-    let range : (0 < k) × (k ≤ length rest) = whole_range rest k whole_there in
-    let same : suc most - 1 ≡ most = omega arith in (
-      omega (arith, range.0, ap length back, length-drop k rest),
-      ap records_text (given_whole rest (sndu_span rest) k (given_within most) whole_there)
-          ∙ flat_map-append capture_record (carried_by (take k rest)) (given_within most (drop k rest))
-          ∙ ap (λ (u : List ℕ). records_text (carried_by u) ++ records_text (given_within most (drop k rest))) (sym front)
-          ∙ ap (λ (d : List ℕ). records_text (carried_by unit) ++ records_text (given_within most d)) (sym back)
-          ∙ ap (λ (n : ℕ). records_text (carried_by unit) ++ records_text (given_within n behind)) (sym same),
-    )
+carried_misfit : (b : Bool) → flat_map carried_event (cond {A = List Event} b (delimit_event ∷ []) []) ≡ flat_map carried_plainly (cond {A = List Event} b (delimit_event ∷ []) [])
+carried_misfit true = refl
+carried_misfit false = refl
 
--- so much is written, and the rest gives the rest of the text
-pub record IsWritten (a b : Option (List File)) (at : ℕ) (rest total : List ℕ) : Type 0 where
-  pub most : ℕ
-  pub done : List ℕ
-  pub enough : length rest ≤ most
-  pub file : ChangesFile a b at (λ file. grown file done)
-  pub all : done ++ records_text (given_within most rest) ≡ total
+carried_packet : (arrival : Arrival) (behind : List Arrival) → flat_map carried_event (packet_events sndu_form arrival behind) ≡ flat_map carried_plainly (packet_events sndu_form arrival behind)
+carried_packet arrival behind =
+    let misfit : List Event = misfit_events (packet_of arrival) in
+    let started : List Event = flat_map (event_at sndu_form arrival behind) (unit_starts sndu_form (packet_of arrival)) in
+    flat_map-append carried_event misfit started
+    ∙ ap (λ (t : List (List ℕ)). t ++ flat_map carried_event started) (carried_misfit _)
+    ∙ ap (λ (t : List (List ℕ)). flat_map carried_plainly misfit ++ t) (carried_starts arrival behind (unit_starts sndu_form (packet_of arrival)))
+    ∙ sym (flat_map-append carried_plainly misfit started)
 
--- one more unit was written
-pub written_more : (a b c : Option (List File)) (at : ℕ) (rest unit behind total : List ℕ) (k : ℕ) → IsThere a at
-    → whole_within (length rest) (sndu_span rest) ≡ Some k → unit ≡ take k rest → behind ≡ drop k rest
-    → IsWritten a b at rest total → ChangesFile b c at (λ file. grown file (records_text (carried_by unit))) → IsWritten a c at behind total
-written_more a b c at rest unit behind total k there whole_there front back before now =
-    let this : List ℕ = records_text (carried_by unit) in
-    let step : (length behind ≤ before.most - 1) × (records_text (given_within before.most rest) ≡ this ++ records_text (given_within (before.most - 1) behind)) =
-    text_more before.most rest unit behind k before.enough whole_there front back in
-    record {
-      most = before.most - 1;
-      done = before.done ++ this;
-      enough = step.0;
-      file = changes-trans a b c at before.done this (before.done ++ this) refl there before.file now;
-      all = append_assoc before.done this (records_text (given_within (before.most - 1) behind)) ∙ ap (λ t. before.done ++ t) (sym step.1) ∙ before.all;
-    }
+carried_events : (packets : List Arrival) → flat_map carried_event (events_of sndu_form packets) ≡ flat_map carried_plainly (events_of sndu_form packets)
+carried_events [] = refl
+carried_events (arrival ∷ behind) =
+    flat_map-append carried_event (packet_events sndu_form arrival behind) (events_of sndu_form behind)
+    ∙ ap (λ (t : List (List ℕ)). t ++ flat_map carried_event (events_of sndu_form behind)) (carried_packet arrival behind)
+    ∙ ap (λ (t : List (List ℕ)). flat_map carried_plainly (packet_events sndu_form arrival behind) ++ t) (carried_events behind)
+    ∙ sym (flat_map-append carried_plainly (packet_events sndu_form arrival behind) (events_of sndu_form behind))
 
--- the writing of one unit stopped
-pub written_stop : (a b c : Option (List File)) (at : ℕ) (rest unit behind total : List ℕ) (k n : ℕ) → IsThere a at
-    → whole_within (length rest) (sndu_span rest) ≡ Some k → unit ≡ take k rest → behind ≡ drop k rest
-    → IsWritten a b at rest total → ChangesFile b c at (λ file. grown file (take n (records_text (carried_by unit))))
-    → (m : ℕ) × ChangesFile a c at (λ file. grown file (take m total))
-written_stop a b c at rest unit behind total k n there whole_there front back before now =
-    let this : List ℕ = records_text (carried_by unit) in
-    let step : (length behind ≤ before.most - 1) × (records_text (given_within before.most rest) ≡ this ++ records_text (given_within (before.most - 1) behind)) =
-    text_more before.most rest unit behind k before.enough whole_there front back in
-    let so_far : ChangesFile a c at (λ file. grown file (take (length before.done + n) (before.done ++ this))) =
-    changes-trans a b c at before.done (take n this) (take (length before.done + n) (before.done ++ this)) (take-append-add before.done this n) there before.file now in
-    stops_before a c at (length before.done + n) (before.done ++ this) (records_text (given_within (before.most - 1) behind)) total
-    (sym before.all ∙ ap (λ t. before.done ++ t) step.1 ∙ sym (append_assoc before.done this (records_text (given_within (before.most - 1) behind)))) so_far
+-- what the units among events carry
+abbrev of_pair : ℕ × List ℕ → List (List ℕ)
+of_pair pair = carried_by_sndu pair.1
 
--- all is written where no unit lies whole at the front of the rest
-pub written_all : (a b : Option (List File)) (at : ℕ) (rest total : List ℕ) → whole_within (length rest) (sndu_span rest) ≡ None
-    → IsWritten a b at rest total → ChangesFile a b at (λ file. grown file total)
-written_all a b at rest total none written =
-    let same : written.done ≡ total = sym (append-nil written.done) ∙ ap (λ t. written.done ++ t) (sym (text_none written.most rest none)) ∙ written.all in
-    subst (λ (t : List ℕ). ChangesFile a b at (λ file. grown file t)) same written.file
+carried_units : (events : List Event) → flat_map carried_plainly events ≡ flat_map of_pair (flat_map unit_of_event events)
+carried_units [] = refl
+carried_units (unit_event moment unit ∷ events) = ap (λ (t : List (List ℕ)). carried_by_sndu unit ++ t) (carried_units events)
+carried_units (bad_check_event ∷ events) = carried_units events
+carried_units (delimit_event ∷ events) = carried_units events
+carried_units (bad_length_event ∷ events) = carried_units events
+
+carried_accepted : (units : List PlacedUnit) → flat_map of_pair (map (λ (a : PlacedUnit). (a.moment, a.unit)) units) ≡ flat_map (λ (a : PlacedUnit). carried_by_sndu a.unit) units
+carried_accepted [] = refl
+carried_accepted (a ∷ units) = ap (λ (t : List (List ℕ)). carried_by_sndu a.unit ++ t) (carried_accepted units)
+
+-- the delivered datagrams are those of the events
+pub delivered_events : (pid : ℕ) (records : List Record) → flat_map carried_event (events_of sndu_form (received_packets pid records)) ≡ delivered_by_ule pid records
+delivered_events pid records =
+    carried_events (received_packets pid records)
+    ∙ carried_units (events_of sndu_form (received_packets pid records))
+    ∙ ap (flat_map of_pair) (of_events sndu_form (received_packets pid records))
+    ∙ carried_accepted (accepted_units sndu_form pid records)

@@ -1,5 +1,5 @@
 -- What stands in the rack after `ule PID`, where the input tells its bytes.
-use Rattle.std.specs.Prelude.{◌⊎◌, ℕ, ◌<◌, ◌≤◌, List, length, take, Option, codes}
+use Rattle.std.specs.Prelude.{◌≡◌, ◌⊎◌, ℕ, ◌+◌, ◌*◌, ◌<◌, ◌≤◌, List, length, take, drop, Option, Some, codes}
 use Rattle.wire_spec.specs.Lists.{IsCut}
 use Rattle.wire_spec.specs.Content.{File, AddsFile, Stays}
 use Rattle.pcap_file.specs.Capture.{capture_text}
@@ -32,10 +32,14 @@ pub record AddsPrefix (pid : ℕ) (bytes : List ℕ) (old new : Option (List Fil
   pub cut : IsCut 188 bytes packets tail
   pub file : AddsPart old new (capture_text (delivered_in pid packets))
 
--- the one file was added: the capture of what the first records of the recording deliver, which were read
-pub record AddsFront (pid count : ℕ) (bytes : List ℕ) (old new : Option (List File)) : Type 0 where
+-- the one file was added: the capture of what the first records of the recording deliver; these were read, and a part
+-- of the next
+pub record AddsFront (pid count : ℕ) (bytes : List ℕ) (now : Option (List ℕ)) (old new : Option (List File)) : Type 0 where
   pub packets : List (List ℕ)
   pub tail : List ℕ
   pub cut : IsCut 188 bytes packets tail
   pub within : count ≤ length packets
+  pub part : ℕ
+  pub short : part < 188
+  pub left : now ≡ Some (drop (188 * count + part) bytes)
   pub file : AddsFile old new (file_of (capture_text (delivered_in pid (take count packets))) 0)

@@ -4,3 +4,4 @@ pub mod Reading
 pub mod Files
 pub mod Statuses
 pub mod Outcome
+pub mod Loss

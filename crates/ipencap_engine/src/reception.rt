@@ -1,16 +1,20 @@
 //! A recording -> the datagrams of one PID, record by record, written to a file.
-ghost use Rattle.std.specs.Prelude.{◌≡◌, ℕ, ◌*◌, ◌<◌, ◌≤◌, ◌^◌, true, Some, length, option_copied, IfSome, if◌then◌else◌};
+ghost use Rattle.std.specs.Prelude.{◌≡◌, ℕ, ◌*◌, ◌<◌, ◌≤◌, true, List, [], OnOk, OnErr};
 ghost use Rattle.wire_spec.specs.Causes.{HasCause, Rose, RoseBy, raised};
-ghost use Rattle.wire_spec.specs.Content.{PutsInFile};
-ghost use Rattle.ts_spec.specs.Received.{is_of};
-ghost use Rattle.ipencap_engine.specs.Delivery.{records_text, started_payload, datagrams_started, given_by, last_of, packet_in};
+ghost use Rattle.ts_spec.specs.Recording.{Record as ReadRecord};
+ghost use Rattle.ts_spec.specs.Sndu.{sndu_form};
 ghost use Rattle.ts_record.specs.Reading.{record_seen};
+ghost use Rattle.unit_stream.specs.Joining.{Stands};
+ghost use Rattle.ipencap_engine.specs.Delivery.{IsReceiving, ReceivesMore, ReceivesPart};
 ghost use Rattle.ipencap_engine.specs.Reading.{ReadsWhole, ReadsFront, ReadsToLimit, ReadsPart, most_records};
 
-use crate::delivery::put_units;
+use crate::delivery::put_packet;
 use ipe_io::{Failed, Rack, RecordFault, Recording, Source};
-use ts_packet::{Continuity, Link, parse};
+use std::alloc::Allocator;
+use ts_packet::{Continuity, parse};
 use ts_record::{Record, RecordReader};
+use ule_unit::UleForm;
+use unit_stream::Joiner;
 
 /// How the reading of a recording ended.
 #[derive(Clone, Copy, Debug, PartialEq, Eq)]
@@ -26,8 +30,17 @@ pub enum Ending {
 }
 
 /// Writes the datagrams that a plain recording delivers on one PID to the file at a place.
-pub fn receive<I: Source, R: Rack>(input: &mut I, pid: u16, rack: &mut R, at: u32) -> Ending
-    requires { at < R.count rack.old }
+///
+/// `joiner` was fed nothing before. No memory is taken.
+pub fn receive<I: Source, A: Allocator, R: Rack>(
+    input: &mut I,
+    pid: u16,
+    joiner: &mut Joiner<UleForm, A>,
+    rack: &mut R,
+    at: u32,
+) -> Ending
+    requires place { at < R.count rack.old }
+    requires fresh { Stands sndu_form joiner.old [] }
     ensures whole { result ≡ Ending.Whole → ReadsWhole pid (I.left input.old) (I.left input.new) (R.files rack.old) (R.files rack.new) at }
     ensures read { result ≡ Ending.Whole → I.ended input.new ≡ true }
     ensures fewer { result ≡ Ending.Whole → (n : ℕ) × (n < 188 * most_records) × (I.taken input.new ≡ raised (I.taken input.old) n) }
@@ -50,72 +63,41 @@ pub fn receive<I: Source, R: Rack>(input: &mut I, pid: u16, rack: &mut R, at: u3
             Err(RecordFault::Failed) => return Ending::SourceFault,
             Err(RecordFault::TooLong) => return Ending::TooLong,
         };
-        match put_record(&record, pid, &mut continuity, rack, at) {
+        match put_record(&record, pid, &mut continuity, joiner, rack, at) {
             Ok(()) => {}
             Err(Failed) => return Ending::RackFault,
         }
     }
 }
 
-/// Writes the datagrams that one record gives; one without a moment gives none.
-fn put_record<R: Rack>(
+/// Writes the datagrams of all units that end in one record: in a packet of the PID that is received.
+fn put_record<A: Allocator, R: Rack>(
     item: &Record,
     pid: u16,
     continuity: &mut Continuity,
+    joiner: &mut Joiner<UleForm, A>,
     rack: &mut R,
     at: u32,
 ) -> Result<(), Failed>
     requires { at < R.count rack.old }
-    ensures written { PutsInFile result (R.files rack.old) (R.files rack.new) at (records_text (given_by pid continuity.old (record_seen item.now))) }
-    ensures last { continuity.new ≡ last_of continuity.old (packet_in pid (record_seen item.now)) }
+    ensures written { (records : List ReadRecord) → IsReceiving pid continuity.old joiner.old records
+        → OnOk result (ReceivesMore pid continuity.new joiner.new records (record_seen item.now) (R.files rack.old) (R.files rack.new) at) }
+    ensures failed { (records : List ReadRecord) → IsReceiving pid continuity.old joiner.old records
+        → OnErr result (ReceivesPart pid records (record_seen item.now) (R.files rack.old) (R.files rack.new) at) }
     ensures count { R.count rack.new ≡ R.count rack.old }
     ensures cause { HasCause (R.faults rack.old) (R.faults rack.new) result }
 {
-    match item.moment {
-        Some(_) => put_packet(&item.bytes, pid, continuity, rack, at),
-        None => Ok(()),
-    }
-}
-
-/// Writes the datagrams that one packet gives, where it is a received packet of the PID.
-fn put_packet<R: Rack>(
-    bytes: &[u8; 188],
-    pid: u16,
-    continuity: &mut Continuity,
-    rack: &mut R,
-    at: u32,
-) -> Result<(), Failed>
-    requires { at < R.count rack.old }
-    ensures written { PutsInFile result (R.files rack.old) (R.files rack.new) at (records_text (datagrams_started (started_payload pid continuity.old bytes.now))) }
-    ensures last { continuity.new ≡ (if is_of pid bytes.now then Some bytes.now else continuity.old) }
-    ensures count { R.count rack.new ≡ R.count rack.old }
-    ensures cause { HasCause (R.faults rack.old) (R.faults rack.new) result }
-{
-    match payload_started(bytes, pid, continuity) {
-        Some(payload) => put_units(payload, rack, at),
-        None => Ok(()),
-    }
-}
-
-/// The payload of a received packet of the PID, where a unit starts in it.
-fn payload_started<'a>(
-    bytes: &'a [u8; 188],
-    pid: u16,
-    continuity: &mut Continuity,
-) -> Option<&'a [u8]>
-    ensures read { option_copied result ≡ started_payload pid continuity.old bytes.now }
-    ensures last { continuity.new ≡ (if is_of pid bytes.now then Some bytes.now else continuity.old) }
-    ensures small { IfSome result (λ payload. length payload.now < 2 ^ 32) }
-{
-    let packet = match parse(bytes) {
+    let moment = match item.moment {
+        Some(moment) => moment,
+        None => return Ok(()),
+    };
+    let packet = match parse(&item.bytes) {
         Ok(packet) => packet,
-        Err(_) => return None,
+        Err(_) => return Ok(()),
     };
     if packet.pid != pid {
-        return None;
+        return Ok(());
     }
-    if continuity.see(bytes, &packet) == Link::Repeat || !packet.starts {
-        return None;
-    }
-    Some(packet.payload)
+    let link = continuity.see(&item.bytes, &packet);
+    put_packet(link, &packet, moment, joiner, rack, at)
 }

@@ -3,9 +3,11 @@ ghost use Rattle.std.specs.Prelude.{◌≡◌, ◌≢◌, ℕ, ◌*◌, ◌<◌,
 ghost use Rattle.std.specs.Io.KnownBytes.{IsAtEnd};
 ghost use Rattle.wire_spec.specs.Causes.{Rose, RoseBy, raised};
 ghost use Rattle.pcap_file.specs.Capture.{capture_head};
+ghost use Rattle.ts_spec.specs.Recording.{Record};
 ghost use Rattle.ipencap_engine.specs.Words.{AsksForUle, IsNoCommand};
 ghost use Rattle.ipencap_engine.specs.Reading.{most_records};
 ghost use Rattle.ipencap_engine.specs.Files.{AddsPart, AddsCapture, AddsPrefix, AddsFront};
+ghost use Rattle.ipencap_engine.specs.Loss.{CarriesUle, IsRecorded, KeepsIntact, KeepsPart};
 ghost use Rattle.ipencap_engine.specs.Outcome.{EndsWhole, EndsFront, EndsPart};
 ghost use Rattle.ipencap_engine.specs.Statuses.{CanCome, Complains, status_line};
 
@@ -17,8 +19,13 @@ use std::alloc::Global;
 
 /// Does what the words behind the program's name say, and tells the line of the status where there is one.
 ///
-/// `ule PID` reads a plain recording from `input`, and writes the datagrams of the SNDUs that lie whole in one packet
-/// of the PID to the file `ule.pcap` of `rack`. No other words form a command yet, so nothing uses `shelf` and `output`.
+/// `ule PID` reads a plain recording of 188-byte packets from `input`, takes the SNDUs of the PID together from its
+/// packets (RFC 4326), and writes the datagrams that they carry to the file `ule.pcap` of `rack`. No other words form a
+/// command yet, so nothing uses `shelf` and `output`.
+///
+/// The loss law: whatever packets of the recording were dropped, repeated or damaged on their way, if no damaged SNDU
+/// passes its CRC-32, the file holds datagrams that were sent, unchanged, in order and each once, and among them each
+/// whose SNDU arrived intact.
 ///
 /// `Done`: the input was read to its end. Usage: the words form no command. SourceFault, RackFault: a count of that
 /// object's faults rose. TooLong: 2^32 records were read. OutOfMemory: memory for the file was wanting.
@@ -41,13 +48,23 @@ pub fn run<S: Shelf, I: Source, O: Sink, R: Rack, E: Sink>(
     ensures output { output.new ≡ output.old }
     ensures unchanged { result ≡ Status.Usage → (input.new ≡ input.old) × (rack.new ≡ rack.old) }
 
+    // The loss law, where the recording is one of packets that carry SNDUs.
+    ensures loss { (pid : ℕ) (bytes : List ℕ) (sent : List Record) (datagrams : List (List ℕ)) (carries : CarriesUle pid sent datagrams)
+        (recorded : IsRecorded pid sent datagrams carries bytes)
+        → AsksForUle (map (λ word. string_bytes word) words.now) pid → I.left input.old ≡ Some bytes
+        → result ≡ Status.Done → KeepsIntact pid sent datagrams carries bytes recorded (R.files rack.old) (R.files rack.new) }
+    ensures loss_part { (pid : ℕ) (bytes : List ℕ) (sent : List Record) (datagrams : List (List ℕ)) (carries : CarriesUle pid sent datagrams)
+        (recorded : IsRecorded pid sent datagrams carries bytes)
+        → AsksForUle (map (λ word. string_bytes word) words.now) pid → I.left input.old ≡ Some bytes
+        → result ≢ Status.Done → KeepsPart pid sent datagrams carries bytes recorded (R.files rack.old) (R.files rack.new) }
+
     // What the rack holds, where the input tells its bytes.
     ensures written { (pid : ℕ) (bytes : List ℕ) → AsksForUle (map (λ word. string_bytes word) words.now) pid → I.left input.old ≡ Some bytes
         → result ≡ Status.Done → AddsCapture pid bytes (R.files rack.old) (R.files rack.new) }
     ensures front { (pid : ℕ) (bytes : List ℕ) → AsksForUle (map (λ word. string_bytes word) words.now) pid → I.left input.old ≡ Some bytes
-        → result ≡ Status.SourceFault → (count : ℕ) × AddsFront pid count bytes (R.files rack.old) (R.files rack.new) }
+        → result ≡ Status.SourceFault → (count : ℕ) × AddsFront pid count bytes (I.left input.new) (R.files rack.old) (R.files rack.new) }
     ensures limit { (pid : ℕ) (bytes : List ℕ) → AsksForUle (map (λ word. string_bytes word) words.now) pid → I.left input.old ≡ Some bytes
-        → result ≡ Status.TooLong → AddsFront pid most_records bytes (R.files rack.old) (R.files rack.new) }
+        → result ≡ Status.TooLong → AddsFront pid most_records bytes (I.left input.new) (R.files rack.old) (R.files rack.new) }
     ensures other { (pid : ℕ) (bytes : List ℕ) → AsksForUle (map (λ word. string_bytes word) words.now) pid → I.left input.old ≡ Some bytes
         → result ≢ Status.Done → AddsPrefix pid bytes (R.files rack.old) (R.files rack.new) }
     ensures memory { result ≡ Status.OutOfMemory → AddsPart (R.files rack.old) (R.files rack.new) capture_head }
@@ -82,9 +99,9 @@ fn obey<I: Source, R: Rack>(alloc: Global, words: &[String], input: &mut I, rack
     ensures written { (pid : ℕ) (bytes : List ℕ) → AsksForUle (map (λ word. string_bytes word) words.now) pid → I.left input.old ≡ Some bytes
         → result ≡ Status.Done → AddsCapture pid bytes (R.files rack.old) (R.files rack.new) }
     ensures front { (pid : ℕ) (bytes : List ℕ) → AsksForUle (map (λ word. string_bytes word) words.now) pid → I.left input.old ≡ Some bytes
-        → result ≡ Status.SourceFault → (count : ℕ) × AddsFront pid count bytes (R.files rack.old) (R.files rack.new) }
+        → result ≡ Status.SourceFault → (count : ℕ) × AddsFront pid count bytes (I.left input.new) (R.files rack.old) (R.files rack.new) }
     ensures limit { (pid : ℕ) (bytes : List ℕ) → AsksForUle (map (λ word. string_bytes word) words.now) pid → I.left input.old ≡ Some bytes
-        → result ≡ Status.TooLong → AddsFront pid most_records bytes (R.files rack.old) (R.files rack.new) }
+        → result ≡ Status.TooLong → AddsFront pid most_records bytes (I.left input.new) (R.files rack.old) (R.files rack.new) }
     ensures other { (pid : ℕ) (bytes : List ℕ) → AsksForUle (map (λ word. string_bytes word) words.now) pid → I.left input.old ≡ Some bytes
         → result ≢ Status.Done → AddsPrefix pid bytes (R.files rack.old) (R.files rack.new) }
     ensures memory { result ≡ Status.OutOfMemory → AddsPart (R.files rack.old) (R.files rack.new) capture_head }

@@ -1,9 +1,9 @@
 use Rattle.std.proofs.Common.{◌≡◌, ◌++◌, ◌∷◌, [], length, ap, sym, ◌∙◌, refl, arith, Err}
-use Rattle.ts_spec.specs.Recording.{RecordingForm, record_size}
+use Rattle.ts_spec.specs.Recording.{RecordingForm, record_size, plain, records_of}
 use Rattle.ts_record.specs.Reading.{ReadsRecord, ReadsEnd, record_seen}
 use Rattle.ipe_io.proofs.Told.{is_there, changes-nil, raised-zero}
 use Rattle.ipencap_engine.specs.Reading.{ReadsToLimit}
-use Rattle.ipencap_engine.proofs.Advance.{has_read_all, consumes_none, consumed_more, part_of_front, part_stop, file_more, last_more, taken_more, record_more, short_part, whole_at_end, few_taken, front_at, limit_at}
+use Rattle.ipencap_engine.proofs.Advance.{has_read_all, consumes_none, consumed_more, part_of_front, part_stop, file_more, receiving_more, taken_more, record_more, short_part, whole_at_end, few_taken, front_at, limit_at}
 use Rattle.ipencap_engine.proofs.reception.receive.Goals as goal
 
 pub records-init : goal.records-init
@@ -15,7 +15,7 @@ records-init g c = (
     consumed = consumes_none (g.I.Source.left c.args.input.now);
     taken = sym (raised-zero (g.I.Source.taken c.args.input.now) (g.met.I.Source.taken_fits c.args.input.now));
     file = changes-nil (g.R.Rack.files c.args.rack.now) c.args.at;
-    last = c.new-continuity.ensures.none;
+    receiving = record { last_is = c.new-continuity.ensures.none; stands = c.requires.fresh };
     count = refl;
     rack_faults = omega arith;
     input_faults = omega arith;
@@ -87,10 +87,11 @@ records-preserved g c =
         stands = read.stands;
         consumed = consumed_more (g.I.Source.left c.args.input.now) (g.I.Source.left c.records.input) (g.I.Source.left c.next.new.source) c.records.invariant.0 read.piece c.records.invariant.1.consumed read.takes.bytes_are;
         taken = taken_more (g.I.Source.taken c.args.input.now) (g.I.Source.taken c.records.input) (g.I.Source.taken c.next.new.source) c.records.invariant.0 read.piece size c.records.invariant.1.taken read.takes.rose;
-        file = file_more c.args.pid (g.R.Rack.files c.args.rack.now) (g.R.Rack.files c.records.rack) (g.R.Rack.files c.put_record.new.rack) c.args.at c.records.invariant.0 read.piece (record_seen c.in-Ok-Some.record) c.records.continuity
-            (is_there (g.R.Rack.files c.args.rack.now) c.args.at (g.R.Rack.count c.args.rack.now) (g.met.R.Rack.as_many c.args.rack.now) c.requires)
-            more c.records.invariant.1.last c.records.invariant.1.file c.in-Ok.ensures.written;
-        last = last_more c.args.pid c.records.invariant.0 read.piece (record_seen c.in-Ok-Some.record) c.records.continuity c.put_record.new.continuity more c.records.invariant.1.last c.in-Ok.ensures.last;
+        file = file_more c.args.pid c.put_record.new.continuity c.put_record.new.joiner (g.R.Rack.files c.args.rack.now) (g.R.Rack.files c.records.rack) (g.R.Rack.files c.put_record.new.rack) c.args.at c.records.invariant.0 read.piece (record_seen c.in-Ok-Some.record)
+            (is_there (g.R.Rack.files c.args.rack.now) c.args.at (g.R.Rack.count c.args.rack.now) (g.met.R.Rack.as_many c.args.rack.now) c.requires.place)
+            more c.records.invariant.1.file (c.in-Ok.ensures.written (records_of plain c.records.invariant.0) c.records.invariant.1.receiving);
+        receiving = receiving_more c.args.pid c.put_record.new.continuity c.put_record.new.joiner c.records.invariant.0 read.piece (record_seen c.in-Ok-Some.record) more
+            (c.in-Ok.ensures.written (records_of plain c.records.invariant.0) c.records.invariant.1.receiving).receiving;
         count = c.in-Ok.ensures.count ∙ c.records.invariant.1.count;
         rack_faults = omega (arith, c.records.invariant.1.rack_faults, c.in-Ok.ensures.cause.later);
         input_faults = omega (arith, c.records.invariant.1.input_faults, c.in-Ok-Some.ensures.later);
@@ -103,9 +104,9 @@ returns-in-Err-clause-part g c =
     rw c.in-Ok-Some.field-0-is at (c.in-Ok-Some.ensures.read c.records.invariant.0 c.records.invariant.1.stands) in
     let more = record_more c.records.reader c.next.new.self (g.I.Source.left c.records.input) (g.I.Source.left c.next.new.source) (g.I.Source.taken c.records.input) (g.I.Source.taken c.next.new.source) c.records.invariant.0 (record_seen c.in-Ok-Some.record) c.records.invariant.1.form read in
     part_stop c.args.pid (g.I.Source.left c.args.input.now) (g.I.Source.left c.next.new.source) (g.R.Rack.files c.args.rack.now) (g.R.Rack.files c.records.rack) (g.R.Rack.files c.put_record.new.rack) c.args.at
-    c.records.invariant.0 read.piece (record_seen c.in-Ok-Some.record) c.records.continuity c.in-Err.ensures.written.0
-    (is_there (g.R.Rack.files c.args.rack.now) c.args.at (g.R.Rack.count c.args.rack.now) (g.met.R.Rack.as_many c.args.rack.now) c.requires)
-    more c.records.invariant.1.last
+    c.records.invariant.0 read.piece (record_seen c.in-Ok-Some.record)
+    (is_there (g.R.Rack.files c.args.rack.now) c.args.at (g.R.Rack.count c.args.rack.now) (g.met.R.Rack.as_many c.args.rack.now) c.requires.place)
+    more
     (has_read_all c.next.new.self (c.records.invariant.0 ++ read.piece ∷ []) (g.I.Source.left c.args.input.now) (g.I.Source.left c.next.new.source) (read.form ∙ c.records.invariant.1.form) read.stands
     (consumed_more (g.I.Source.left c.args.input.now) (g.I.Source.left c.records.input) (g.I.Source.left c.next.new.source) c.records.invariant.0 read.piece c.records.invariant.1.consumed read.takes.bytes_are))
-    c.records.invariant.1.file c.in-Err.ensures.written.1
+    c.records.invariant.1.file (c.in-Err.ensures.failed (records_of plain c.records.invariant.0) c.records.invariant.1.receiving)
