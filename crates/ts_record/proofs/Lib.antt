@@ -1,4 +1,4 @@
 mod Fronts
 mod RecordsLemmas
 mod ReadLemmas
-mod Cuts
+pub mod Cuts
