@@ -21,4 +21,6 @@ pub mod Stamps
 pub mod Late
 pub mod Lossless
 pub mod Moments
-pub mod Small
+pub mod SmallStream
+pub mod SmallChannel
+pub mod SmallLoss

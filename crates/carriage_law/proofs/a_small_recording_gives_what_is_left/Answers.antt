@@ -1,4 +1,4 @@
-use Rattle.carriage_law.proofs.Small.{small_loss}
+use Rattle.carriage_law.proofs.SmallLoss.{small_loss}
 use Rattle.carriage_law.proofs.a_small_recording_gives_what_is_left.Goals as goal
 
 pub returns : goal.returns
