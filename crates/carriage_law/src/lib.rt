@@ -21,13 +21,13 @@ ghost use Rattle.carriage_spec.specs.Delivered.{carried_by_sndu, delivered_by_ul
 ghost use Rattle.carriage_law.specs.Examples.{SmallLoss};
 ghost use Rattle.carriage_law.specs.Words.{differing_from_last, TellsByFronts, packets_from, IsEndedBy, timed_packet, timed_unit, IsShift};
 
-// UNITS
+// Units.
 
 /// The accepted units are sent ones, in order and each once, and each that arrived intact is among them.
 ///
-/// All else that this file says of units and datagrams through a channel is read off the numbers of the accepted units.
+/// Read off their numbers: the accepted units are a subsequence of those sent, and nothing that arrived intact is missing.
 pub fn accepted_units_are_numbered()
-    ensures { (recording : RecordingForm) (sent recorded : List Record) (channel : Channel recording sent recorded)
+    ensures numbered { (recording : RecordingForm) (sent recorded : List Record) (channel : Channel recording sent recorded)
         → (form : UnitForm) (pid : ℕ) (units : List (List ℕ)) (begin : ℕ → ℕ) → IsCarried form pid sent units begin
         → NoUndetectedError channel form pid units begin
         → (numbers : List ℕ) × IncludesIntact channel pid units begin numbers
@@ -36,7 +36,7 @@ pub fn accepted_units_are_numbered()
 
 /// The accepted units are a subsequence of those sent.
 pub fn accepted_units_were_sent()
-    ensures { (recording : RecordingForm) (sent recorded : List Record) (channel : Channel recording sent recorded)
+    ensures sent { (recording : RecordingForm) (sent recorded : List Record) (channel : Channel recording sent recorded)
         → (form : UnitForm) (pid : ℕ) (units : List (List ℕ)) (begin : ℕ → ℕ) → IsCarried form pid sent units begin
         → NoUndetectedError channel form pid units begin
         → IsSubsequence (map (λ (accepted : PlacedUnit). accepted.unit) (accepted_units form pid recorded)) units }
@@ -44,14 +44,14 @@ pub fn accepted_units_were_sent()
 
 /// Each unit that arrived intact is accepted, from its own record and place, whatever errors are not detected.
 pub fn intact_units_are_accepted()
-    ensures { (recording : RecordingForm) (sent recorded : List Record) (channel : Channel recording sent recorded)
+    ensures accepted { (recording : RecordingForm) (sent recorded : List Record) (channel : Channel recording sent recorded)
         → (form : UnitForm) (pid : ℕ) (units : List (List ℕ)) (begin : ℕ → ℕ) → IsCarried form pid sent units begin
         → (n : ℕ) → n < length units → ArrivedIntact channel pid units begin n → IsAccepted channel form pid units begin n }
 {}
 
 /// Units that arrived intact are a subsequence of the accepted ones.
 pub fn intact_units_are_among_the_accepted()
-    ensures { (recording : RecordingForm) (sent recorded : List Record) (channel : Channel recording sent recorded)
+    ensures among { (recording : RecordingForm) (sent recorded : List Record) (channel : Channel recording sent recorded)
         → (form : UnitForm) (pid : ℕ) (units : List (List ℕ)) (begin : ℕ → ℕ) → IsCarried form pid sent units begin
         → NoUndetectedError channel form pid units begin
         → (intact : List ℕ) → IsRising 0 intact
@@ -59,16 +59,16 @@ pub fn intact_units_are_among_the_accepted()
         → IsSubsequence (map (unit_at units) intact) (map (λ (accepted : PlacedUnit). accepted.unit) (accepted_units form pid recorded)) }
 {}
 
-// DATAGRAMS OF ULE
+// Datagrams of ULE.
 
 /// SNDUs are a lawful kind of unit.
 pub fn sndus_are_a_lawful_kind_of_unit()
-    ensures { IsLawful sndu_form }
+    ensures lawful { IsLawful sndu_form }
 {}
 
 /// The delivered datagrams are those that sent SNDUs carry, in order and each once, with every one that arrived intact.
 pub fn delivered_datagrams_are_numbered()
-    ensures { (recording : RecordingForm) (sent recorded : List Record) (channel : Channel recording sent recorded)
+    ensures numbered { (recording : RecordingForm) (sent recorded : List Record) (channel : Channel recording sent recorded)
         → (pid : ℕ) (units : List (List ℕ)) (begin : ℕ → ℕ) → Packetizes sndu_form units (packets_sent pid sent) begin
         → NoUndetectedError channel sndu_form pid units begin
         → (numbers : List ℕ) × IncludesIntact channel pid units begin numbers
@@ -77,7 +77,7 @@ pub fn delivered_datagrams_are_numbered()
 
 /// The delivered datagrams are a subsequence of those that were sent.
 pub fn delivered_datagrams_were_sent()
-    ensures { (recording : RecordingForm) (sent recorded : List Record) (channel : Channel recording sent recorded)
+    ensures sent { (recording : RecordingForm) (sent recorded : List Record) (channel : Channel recording sent recorded)
         → (pid : ℕ) (units : List (List ℕ)) (begin : ℕ → ℕ) → Packetizes sndu_form units (packets_sent pid sent) begin
         → NoUndetectedError channel sndu_form pid units begin
         → IsSubsequence (delivered_by_ule pid recorded) (flat_map carried_by_sndu units) }
@@ -85,7 +85,7 @@ pub fn delivered_datagrams_were_sent()
 
 /// The datagrams of SNDUs that arrived intact are a subsequence of those delivered: each as often as such SNDUs carry it.
 pub fn intact_datagrams_are_delivered()
-    ensures { (recording : RecordingForm) (sent recorded : List Record) (channel : Channel recording sent recorded)
+    ensures delivered { (recording : RecordingForm) (sent recorded : List Record) (channel : Channel recording sent recorded)
         → (pid : ℕ) (units : List (List ℕ)) (begin : ℕ → ℕ) → Packetizes sndu_form units (packets_sent pid sent) begin
         → NoUndetectedError channel sndu_form pid units begin
         → (intact : List ℕ) → IsRising 0 intact
@@ -93,13 +93,13 @@ pub fn intact_datagrams_are_delivered()
         → IsSubsequence (flat_map (λ n. carried_by_sndu (unit_at units n)) intact) (delivered_by_ule pid recorded) }
 {}
 
-// MOMENTS
+// Moments.
 
-/// Accepted units have the moments that their records have in what was sent: in m2ts recordings all but for one constant.
+/// Accepted units that were sent have the moments of their records in what was sent: in m2ts recordings but for one constant.
 ///
 /// The constant is a multiple of 2^30, since moments are counted on from the stamp of the first record that was recorded.
 pub fn accepted_units_have_their_moments()
-    ensures { (recording : RecordingForm) (sent : List Record) (pieces : List (List ℕ)) (channel : Channel recording sent (records_of recording pieces))
+    ensures moments { (recording : RecordingForm) (sent : List Record) (pieces : List (List ℕ)) (channel : Channel recording sent (records_of recording pieces))
         → (form : UnitForm) (pid : ℕ) (units : List (List ℕ)) (begin : ℕ → ℕ) → IsCarried form pid sent units begin
         → (shift : ℕ) × IsShift recording shift
         × ((accepted : PlacedUnit) → Contains (accepted_units form pid (records_of recording pieces)) accepted
@@ -107,7 +107,7 @@ pub fn accepted_units_have_their_moments()
         → accepted.moment + shift ≡ (arrival_at (arrivals pid sent) is.packet).moment) }
 {}
 
-// ISOLATION
+// One PID by itself.
 
 /// What is received on a PID depends on the readable packets of the PID alone.
 ///
@@ -122,29 +122,29 @@ pub fn a_pid_is_received_by_itself()
         → delivered_by_ule pid one ≡ delivered_by_ule pid other }
 {}
 
-// DEFINITIONS IN OTHER WORDS
+// Definitions in other words.
 
 /// A received packet is one that differs from the packet received last.
 pub fn received_packets_differ_from_the_last_received()
-    ensures { (pid : ℕ) (records : List Record) → received_packets pid records ≡ differing_from_last None (arrivals pid records) }
+    ensures received { (pid : ℕ) (records : List Record) → received_packets pid records ≡ differing_from_last None (arrivals pid records) }
 {}
 
 /// Each outcome by the prefixes of the bytes of a start, and by whether a packet ended them.
 pub fn outcomes_are_told_by_a_front()
-    ensures { (form : UnitForm) (given : Given) → IsLawful form → TellsByFronts form given }
+    ensures told { (form : UnitForm) (given : Given) → IsLawful form → TellsByFronts form given }
 {}
 
 /// The bytes of a start are ended by the first packet that is not continuous or has the start indicator.
 pub fn bytes_are_ended_by_a_packet()
-    ensures { (start : ℕ) (packet : PacketFields) (behind : List Arrival)
+    ensures ended { (start : ℕ) (packet : PacketFields) (behind : List Arrival)
         → ((bytes_from start packet behind).is_ended ≡ true) ↔ ((k : ℕ) × IsEndedBy (packets_from packet behind) k) }
 {}
 
-// CHANNELS THERE ARE
+// Premises that hold.
 
 /// A recording came through a channel that changes nothing, and of a stream so recorded each unit is accepted.
 pub fn a_stream_without_loss_is_accepted()
-    ensures { (recording : RecordingForm) (pieces : List (List ℕ)) (form : UnitForm) (pid : ℕ) (units : List (List ℕ)) (begin : ℕ → ℕ)
+    ensures accepted { (recording : RecordingForm) (pieces : List (List ℕ)) (form : UnitForm) (pid : ℕ) (units : List (List ℕ)) (begin : ℕ → ℕ)
         → IsCarried form pid (records_of recording pieces) units begin
         → (channel : Channel recording (records_of recording pieces) (records_of recording pieces))
         × ((n : ℕ) → n < length units → IsAccepted channel form pid units begin n) }
@@ -152,11 +152,11 @@ pub fn a_stream_without_loss_is_accepted()
 
 /// A recording that lacks its first records came through a channel, whatever moments it then has.
 pub fn a_recording_may_begin_late()
-    ensures { (recording : RecordingForm) (pieces : List (List ℕ)) (n : ℕ)
+    ensures late { (recording : RecordingForm) (pieces : List (List ℕ)) (n : ℕ)
         → Channel recording (records_of recording pieces) (records_of recording (drop n pieces)) }
 {}
 
 /// In a small recording that lost records, has a copy of one and a damaged one, all premises hold: what is left is delivered.
 pub fn a_small_recording_gives_what_is_left()
-    ensures { SmallLoss }
+    ensures small { SmallLoss }
 {}

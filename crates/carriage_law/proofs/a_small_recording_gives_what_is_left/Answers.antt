@@ -2,4 +2,4 @@ use Rattle.carriage_law.proofs.SmallLoss.{small_loss}
 use Rattle.carriage_law.proofs.a_small_recording_gives_what_is_left.Goals as goal
 
 pub returns : goal.returns
-returns c = small_loss
+returns c = record { small = small_loss }

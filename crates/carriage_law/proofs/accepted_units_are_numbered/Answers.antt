@@ -2,8 +2,10 @@ use Rattle.carriage_law.proofs.Units.{accepted_numbers, accepted_are, includes_i
 use Rattle.carriage_law.proofs.accepted_units_are_numbered.Goals as goal
 
 pub returns : goal.returns
-returns c = λ recording sent recorded channel form pid units begin carried no_error. (
-  accepted_numbers recording sent recorded channel form pid units begin carried no_error,
-  includes_intact recording sent recorded channel form pid units begin carried no_error,
-  accepted_are recording sent recorded channel form pid units begin carried no_error,
-)
+returns c = record {
+  numbered = λ recording sent recorded channel form pid units begin carried no_error. (
+    accepted_numbers recording sent recorded channel form pid units begin carried no_error,
+    includes_intact recording sent recorded channel form pid units begin carried no_error,
+    accepted_are recording sent recorded channel form pid units begin carried no_error,
+  );
+}

@@ -2,8 +2,10 @@ use Rattle.carriage_law.proofs.Datagrams.{delivered_numbers, delivered_include_i
 use Rattle.carriage_law.proofs.delivered_datagrams_are_numbered.Goals as goal
 
 pub returns : goal.returns
-returns c = λ recording sent recorded channel pid units begin packetized no_error. (
-  delivered_numbers recording sent recorded channel pid units begin packetized no_error,
-  delivered_include_intact recording sent recorded channel pid units begin packetized no_error,
-  delivered_are recording sent recorded channel pid units begin packetized no_error,
-)
+returns c = record {
+  numbered = λ recording sent recorded channel pid units begin packetized no_error. (
+    delivered_numbers recording sent recorded channel pid units begin packetized no_error,
+    delivered_include_intact recording sent recorded channel pid units begin packetized no_error,
+    delivered_are recording sent recorded channel pid units begin packetized no_error,
+  );
+}

@@ -2,4 +2,4 @@ use Rattle.carriage_law.proofs.Datagrams.{intact_are_delivered}
 use Rattle.carriage_law.proofs.intact_datagrams_are_delivered.Goals as goal
 
 pub returns : goal.returns
-returns c = intact_are_delivered
+returns c = record { delivered = intact_are_delivered }

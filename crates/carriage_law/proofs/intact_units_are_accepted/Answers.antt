@@ -2,4 +2,4 @@ use Rattle.carriage_law.proofs.Intact.{intact_accepted}
 use Rattle.carriage_law.proofs.intact_units_are_accepted.Goals as goal
 
 pub returns : goal.returns
-returns c = intact_accepted
+returns c = record { accepted = intact_accepted }
