@@ -5,7 +5,7 @@ use Rattle.std.proofs.lemmas.List.{get_or-map, length-map}
 use Rattle.ts_spec.specs.Recording.{Record, RecordingForm, plain, stamped, m2ts, plain_record, stamped_record, m2ts_records, m2ts_stamp, records_of}
 use Rattle.ts_spec.specs.Received.{no_record, record_at}
 use Rattle.carriage_spec.specs.Channel.{HasStamps, Channel}
-use Rattle.carriage_law.proofs.Stamps.{moment_at, length-m2ts, moment-m2ts, stamp-moment, moments_near}
+use Rattle.carriage_law.proofs.Stamps.{moment_at, length-m2ts, moment-m2ts, stamp-moment, stamp_of-m2ts, moments_near}
 
 -- each piece gives a record
 length-records : (recording : RecordingForm) (pieces : List (List ℕ)) → length (records_of recording pieces) ≡ length pieces
@@ -35,9 +35,8 @@ stamps_late m2ts pieces n = record {
   stamp = λ j within.
       let known : j < length (drop n pieces) = omega (arith, length-m2ts None (drop n pieces)) in
       let known_all : n + j < length pieces = omega (arith, length-drop n pieces, known) in
-      ap (option_map (λ (moment : ℕ). moment % 2 ^ 30)) (moment-m2ts None (drop n pieces) j known)
-      ∙ ap (λ (t : ℕ). Some t)
-      (stamp-moment None (drop n pieces) j known ∙ ap m2ts_stamp (get_or-drop n pieces j []) ∙ sym (stamp-moment None pieces (n + j) known_all));
+      stamp_of-m2ts (drop n pieces) j known
+      ∙ ap (λ (t : ℕ). Some t) (ap m2ts_stamp (get_or-drop n pieces j []) ∙ sym (stamp-moment None pieces (n + j) known_all));
   rises = λ j within. (near j within).0;
   near = λ j within. (near j within).1;
 }

@@ -3,7 +3,7 @@ use Rattle.std.proofs.Common.{◌≡◌, ℕ, zero, suc, ◌+◌, ◌-◌, ◌%�
 use Rattle.std.specs.Prelude.{option_map}
 use Rattle.ts_spec.specs.Recording.{Record, m2ts_stamp, moment_behind, m2ts_records}
 use Rattle.ts_spec.specs.Received.{record_at}
-use Rattle.carriage_spec.specs.Channel.{KeepsStamps}
+use Rattle.carriage_spec.specs.Channel.{stamp_of, KeepsStamps}
 
 -- the piece of a record
 abbrev pub piece_at : List (List ℕ) → ℕ → List ℕ
@@ -48,6 +48,11 @@ pub stamp-moment : (before : Option ℕ) (pieces : List (List ℕ)) (j : ℕ) �
 stamp-moment before [] j within = absurd (omega arith)
 stamp-moment before (piece ∷ pieces) zero within = remainder-moment before (m2ts_stamp piece) (stamp_small piece)
 stamp-moment before (piece ∷ pieces) (suc j) within = stamp-moment (Some (moment_behind before (m2ts_stamp piece))) pieces j (omega arith)
+
+-- so a record has the stamp of its piece
+pub stamp_of-m2ts : (pieces : List (List ℕ)) (j : ℕ) → j < length pieces → stamp_of (record_at (m2ts_records None pieces) j) ≡ Some (m2ts_stamp (piece_at pieces j))
+stamp_of-m2ts pieces j within =
+    ap (option_map (λ (moment : ℕ). moment % 2 ^ 30)) (moment-m2ts None pieces j within) ∙ ap (λ (t : ℕ). Some t) (stamp-moment None pieces j within)
 
 -- moments of neighbours
 pub moments_near : (before : Option ℕ) (pieces : List (List ℕ)) (j : ℕ) → suc j < length pieces

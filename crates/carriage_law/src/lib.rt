@@ -5,17 +5,17 @@
 //! Begin with `accepted_units_are_numbered` and `delivered_datagrams_are_numbered`.
 #![tactic(auto)]
 
-ghost use Rattle.std.specs.Prelude.{◌≡◌, ◌↔◌, ℕ, ◌+◌, ◌<◌, List, length, drop, map, flat_map, Contains, true, None};
+ghost use Rattle.std.specs.Prelude.{◌≡◌, ◌↔◌, ℕ, ◌+◌, ◌<◌, List, [], length, drop, map, flat_map, slice_index_or, Contains, true, Some, None};
 ghost use Rattle.wire_spec.specs.Lists.{IsSubsequence};
 ghost use Rattle.ts_spec.specs.Form.{UnitForm, IsLawful};
 ghost use Rattle.ts_spec.specs.Packet.{PacketFields};
-ghost use Rattle.ts_spec.specs.Recording.{Record, RecordingForm, records_of};
-ghost use Rattle.ts_spec.specs.Received.{Arrival, arrival_at, arrivals, received_packets};
+ghost use Rattle.ts_spec.specs.Recording.{Record, RecordingForm, m2ts, m2ts_stamp, records_of};
+ghost use Rattle.ts_spec.specs.Received.{record_at, Arrival, arrival_at, arrivals, received_packets};
 ghost use Rattle.ts_spec.specs.Reassembly.{Given, bytes_from, accepted_units, PlacedUnit};
 ghost use Rattle.ts_spec.specs.Events.{events_of};
 ghost use Rattle.ts_spec.specs.Packetized.{unit_at, Packetizes};
 ghost use Rattle.ts_spec.specs.Sndu.{sndu_form};
-ghost use Rattle.carriage_spec.specs.Channel.{Channel};
+ghost use Rattle.carriage_spec.specs.Channel.{stamp_of, Channel};
 ghost use Rattle.carriage_spec.specs.Carried.{packets_sent, IsCarried, IsSentUnit, NoUndetectedError, ArrivedIntact, IsAccepted, IsRising, IncludesIntact};
 ghost use Rattle.carriage_spec.specs.Delivered.{carried_by_sndu, delivered_by_ule};
 ghost use Rattle.carriage_law.specs.Examples.{SmallLoss};
@@ -105,6 +105,12 @@ pub fn accepted_units_have_their_moments()
         × ((accepted : PlacedUnit) → Contains (accepted_units form pid (records_of recording pieces)) accepted
         → (n : ℕ) (is : IsSentUnit channel pid units begin n accepted)
         → accepted.moment + shift ≡ (arrival_at (arrivals pid sent) is.packet).moment) }
+{}
+
+/// The stamp that the channel's rule names is that of the piece of which an m2ts record was read.
+pub fn m2ts_records_have_their_stamps()
+    ensures stamps { (pieces : List (List ℕ)) (j : ℕ) → j < length pieces
+        → stamp_of (record_at (records_of m2ts pieces) j) ≡ Some (m2ts_stamp (slice_index_or pieces j [])) }
 {}
 
 // One PID by itself.

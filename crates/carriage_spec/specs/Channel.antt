@@ -11,13 +11,13 @@ use Rattle.ts_spec.specs.Received.{record_at, Arrival, arrivals}
 pub record KeepsMoments (sent recorded : List Record) (place first : ℕ → ℕ) : Type 0 where
   pub no_copy : (j : ℕ) → j < length recorded → first j ≡ j → (record_at recorded j).moment ≡ (record_at sent (place j)).moment
 
--- the stamp of a record of an m2ts recording: its moment is that of the record before, raised by the difference of their stamps
+-- the stamp of a record of an m2ts recording, whose moments are counted on from stamp to stamp
 abbrev pub stamp_of : Record → Option ℕ
 stamp_of r = option_map (λ moment. moment % 2 ^ 30) r.moment
 
 -- there is a time for each recorded record: that of a record which is no copy is the moment that its record has in what
 -- was sent, and each record, a copy too, has its time modulo 2^30 as stamp; the times don't fall, and those of neighbours
--- are less than 2^30 apart. So the recorded moments differ from those in what was sent by one constant
+-- are less than 2^30 apart. So recorded moments differ from the times by one constant
 pub record KeepsStamps (sent recorded : List Record) (place first : ℕ → ℕ) : Type 0 where
   pub time : ℕ → ℕ
   pub no_copy : (j : ℕ) → j < length recorded → first j ≡ j → (record_at sent (place j)).moment ≡ Some (time j)
