@@ -81,7 +81,7 @@ pub file_more : (pid : ℕ) (last : Option (List ℕ)) (joiner : JoinerState) (o
     → ChangesFile old new at (λ file. grown file (records_text (delivered_in pid (packets ++ packet ∷ []))))
 file_more pid last joiner old between new at packets packet r there more before now =
     changes-trans old between new at (records_text (delivered_in pid packets)) now.done (records_text (delivered_in pid (packets ++ packet ∷ [])))
-      (text_push pid packets packet r now.done more now.told) there before now.file
+    (text_push pid packets packet r now.done more now.told) there before now.file
 
 -- the writing of what a record gives stopped
 pub part_stop : (pid : ℕ) (left now : Option (List ℕ)) (old between new : Option (List File)) (at : ℕ) (packets : List (List ℕ)) (packet : List ℕ) (r : Record) → IsThere old at
@@ -98,7 +98,7 @@ part_stop pid left now old between new at packets packet r there more read befor
       count = length text + stopped.count;
       read = read;
       file = changes-trans old between new at text (take stopped.count stopped.text) (take (length text + stopped.count) (records_text (delivered_in pid (packets ++ packet ∷ []))))
-        (ap (take (length text + stopped.count)) (text_push pid packets packet r stopped.text more stopped.told) ∙ take-append-add text stopped.text stopped.count) there before stopped.file;
+          (ap (take (length text + stopped.count)) (text_push pid packets packet r stopped.text more stopped.told) ∙ take-append-add text stopped.text stopped.count) there before stopped.file;
     }
 
 -- the records received, with one packet more

@@ -7,7 +7,7 @@ use Rattle.std.specs.List.{flat_map}
 use Rattle.std.specs.Io.KnownBytes.{Consumes, IsAtEnd}
 use Rattle.wire_spec.specs.Lists.{joined, IsCut}
 use Rattle.wire_spec.specs.Content.{File, AddsFile}
-use Rattle.ts_spec.specs.Recording.{Record, plain, plain_record, records_of}
+use Rattle.ts_spec.specs.Recording.{plain, plain_record, records_of}
 use Rattle.carriage_spec.specs.Delivered.{delivered_by_ule}
 use Rattle.pcap_file.specs.Capture.{capture_head, capture_record, capture_text}
 use Rattle.ipencap_engine.specs.Reading.{HasRead, delivered_in, most_records}
@@ -108,7 +108,7 @@ cut_behind bytes left now packets behind e read =
 packets_front : (pid : ℕ) (xs ys : List (List ℕ)) → (more : List (List ℕ)) × (delivered_in pid (xs ++ ys) ≡ delivered_in pid xs ++ more)
 packets_front pid xs ys =
     let front : (more : List (List ℕ)) × (delivered_by_ule pid (records_of plain xs ++ records_of plain ys) ≡ delivered_by_ule pid (records_of plain xs) ++ more) =
-        delivered_front pid (records_of plain xs) (records_of plain ys) in
+    delivered_front pid (records_of plain xs) (records_of plain ys) in
     (front.0, ap (delivered_by_ule pid) (map-append plain_record xs ys) ∙ front.1)
 
 text-append : (xs ys : List (List ℕ)) → capture_text (xs ++ ys) ≡ capture_text xs ++ flat_map capture_record ys
@@ -156,7 +156,7 @@ left_behind bytes left now packets behind e read =
     let front : List ℕ = joined packets ++ behind in
     let found : (rest : List ℕ) × (bytes ≡ front ++ rest) × (now ≡ Some rest) = consumed bytes left now front e read.consumed in
     found.2 ∙ ap Some (sym (ap (drop (188 * length packets + length behind)) found.1
-      ∙ drop_at front found.0 (188 * length packets + length behind) (omega (arith, length-append (joined packets) behind, joined_size packets read.each))))
+    ∙ drop_at front found.0 (188 * length packets + length behind) (omega (arith, length-append (joined packets) behind, joined_size packets read.each))))
 
 -- the capture of what the first records deliver was written
 pub front_added : (pid : ℕ) (bytes : List ℕ) (left now : Option (List ℕ)) (old new : Option (List File)) → left ≡ Some bytes

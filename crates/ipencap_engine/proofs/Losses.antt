@@ -1,11 +1,9 @@
 -- The loss law, joined to what a recording of these bytes delivers.
-use Rattle.std.proofs.Common.{◌≡◌, ℕ, List, length, flat_map, sym, subst, Option}
-use Rattle.wire_spec.specs.Lists.{IsCut, IsSubsequence}
+use Rattle.std.proofs.Common.{ℕ, List, length, sym, subst, Option}
+use Rattle.wire_spec.specs.Lists.{IsSubsequence}
 use Rattle.wire_spec.specs.Content.{File, AddsFile}
 use Rattle.ts_spec.specs.Recording.{Record, plain, records_of}
-use Rattle.ts_spec.specs.Sndu.{sndu_form}
 use Rattle.pcap_file.specs.Capture.{capture_text}
-use Rattle.carriage_spec.specs.Delivered.{carried_by_sndu}
 use Rattle.carriage_law.proofs.Datagrams.{delivered_numbers, delivered_include_intact, delivered_are, delivered_were_sent}
 use Rattle.ts_record.proofs.Cuts.{one_cut}
 use Rattle.ipencap_engine.specs.Reading.{delivered_in}
@@ -21,7 +19,7 @@ module _ (pid : ℕ) (sent : List Record) (datagrams : List (List ℕ)) (carries
     includes = delivered_include_intact plain sent (records_of plain recorded.packets) recorded.channel pid carries.units carries.begin carries.packetized recorded.detected;
     delivered_are = delivered_are plain sent (records_of plain recorded.packets) recorded.channel pid carries.units carries.begin carries.packetized recorded.detected;
     were_sent = subst (λ (t : List (List ℕ)). IsSubsequence (delivered_in pid recorded.packets) t) (sym carries.carried)
-      (delivered_were_sent plain sent (records_of plain recorded.packets) recorded.channel pid carries.units carries.begin carries.packetized recorded.detected);
+        (delivered_were_sent plain sent (records_of plain recorded.packets) recorded.channel pid carries.units carries.begin carries.packetized recorded.detected);
   }
 
   -- the whole capture
@@ -30,7 +28,7 @@ module _ (pid : ℕ) (sent : List Record) (datagrams : List (List ℕ)) (carries
     delivered = delivered_in pid recorded.packets;
     delivers = delivers_intact;
     file = subst (λ (packets : List (List ℕ)). AddsFile old new (file_of (capture_text (delivered_in pid packets)) (length (capture_text (delivered_in pid packets)))))
-      (one_cut 188 bytes adds.packets recorded.packets adds.tail recorded.tail adds.cut recorded.cut).0 adds.file;
+        (one_cut 188 bytes adds.packets recorded.packets adds.tail recorded.tail adds.cut recorded.cut).0 adds.file;
   }
 
   -- a part of it
@@ -39,5 +37,5 @@ module _ (pid : ℕ) (sent : List Record) (datagrams : List (List ℕ)) (carries
     delivered = delivered_in pid recorded.packets;
     delivers = delivers_intact;
     file = subst (λ (packets : List (List ℕ)). AddsPart old new (capture_text (delivered_in pid packets)))
-      (one_cut 188 bytes adds.packets recorded.packets adds.tail recorded.tail adds.cut recorded.cut).0 adds.file;
+        (one_cut 188 bytes adds.packets recorded.packets adds.tail recorded.tail adds.cut recorded.cut).0 adds.file;
   }

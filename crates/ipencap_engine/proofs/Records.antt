@@ -1,14 +1,14 @@
 -- One more record of a recording.
-use Rattle.std.proofs.Common.{◌≡◌, ◌⊎◌, inl, inr, ℕ, ◌+◌, Bool, true, false, cond, not, ◌&&◌, ◌==◌, List, [], ◌∷◌, ◌++◌, length, take, refl, ap, sym, ◌∙◌, subst, arith, append_assoc, eq-eqb, Option, None, Some, Result, Ok, Err, OnOk, OnErr}
+use Rattle.std.proofs.Common.{◌≡◌, ℕ, Bool, true, false, cond, ◌&&◌, ◌==◌, List, [], ◌∷◌, ◌++◌, length, refl, ap, sym, ◌∙◌, subst, append_assoc, eq-eqb, Option, None, Some, Result, Ok, Err, OnOk, OnErr}
 use Rattle.std.specs.List.{flat_map}
 use Rattle.std.proofs.lemmas.List.{append-nil}
 use Rattle.std.proofs.lemmas.Bool.{ne_eqb}
 use Rattle.std.proofs.lemmas.Slice.Eq.{bytes_eq-Decides}
-use Rattle.wire_spec.specs.Content.{File, ChangesFile, grown}
-use Rattle.ts_spec.specs.Packet.{PacketFields, fields_of, is_packet, continues}
+use Rattle.wire_spec.specs.Content.{File}
+use Rattle.ts_spec.specs.Packet.{fields_of, is_packet, continues}
 use Rattle.ts_spec.specs.Packetized.{no_packet}
 use Rattle.ts_spec.specs.Recording.{Record}
-use Rattle.ts_spec.specs.Received.{Arrival, packet_of, is_of, arrival_of, repeats, unless_repeated, received_after, received_packets}
+use Rattle.ts_spec.specs.Received.{Arrival, packet_of, is_of, arrival_of, repeats, received_after, received_packets}
 use Rattle.ts_spec.specs.Events.{Event, events_of}
 use Rattle.ts_spec.specs.Sndu.{sndu_form}
 use Rattle.ule_unit.specs.Spans.{sndu_lawful}
@@ -18,7 +18,7 @@ use Rattle.reassembly_law.proofs.OneRecord.{one_more}
 use Rattle.reassembly_law.proofs.Steps.{events_more}
 use Rattle.carriage_spec.specs.Delivered.{delivered_by_ule}
 use Rattle.ts_packet.specs.declared.continuity.Link.{Link}
-use Rattle.ts_packet.specs.declared.continuity.Link.TheVariants.{First, Next, Repeat, Gap}
+use Rattle.ts_packet.specs.declared.continuity.Link.TheVariants.{Next, Repeat, Gap}
 use Rattle.ts_packet.specs.Links.{link_of}
 use Rattle.unit_stream.specs.Joining.{JoinerState, Stands, packets_with}
 use Rattle.ipe_io.proofs.Told.{changes-nil}
@@ -42,9 +42,9 @@ pub not_received : (pid : ℕ) (last : Option (List ℕ)) (joiner : JoinerState)
     → packet_in pid records r ≡ [] → IsReceiving pid last joiner records → ReceivesMore pid last joiner records r a a at
 not_received pid last joiner records r a at none receiving =
     let same : received_packets pid (records ++ r ∷ []) ≡ received_packets pid records =
-        received_more pid records r last receiving.last_is
-        ∙ ap (λ (t : List Arrival). received_packets pid records ++ received_after last t) none
-        ∙ append-nil (received_packets pid records) in
+    received_more pid records r last receiving.last_is
+    ∙ ap (λ (t : List Arrival). received_packets pid records ++ received_after last t) none
+    ∙ append-nil (received_packets pid records) in
     record {
       receiving = record {
         last_is = receiving.last_is ∙ ap (last_bytes None) (sym same);
@@ -97,6 +97,7 @@ packets_linked (Some before) packets next = repeated (repeats (Some before) next
     linked : (b : Bool) → packets_with (cond b Next Gap) packets next ≡ packets ++ next ∷ []
     linked true = refl
     linked false = refl
+
     repeated : (b : Bool) → packets_with (cond b Repeat (cond (continues (fields_of before) (fields_of next.bytes)) Next Gap)) packets next
         ≡ packets ++ (cond {A = List Arrival} b [] (next ∷ []) ++ [])
     repeated true = sym (append-nil packets)
@@ -143,7 +144,7 @@ pub receives_more : {T E : Type 0} (result : Result T E) (pid : ℕ) (last : Opt
 receives_more (Err x) pid last joiner records r moment link a b at now_last now_joiner receiving timed of_pid linked seen written = written
 receives_more (Ok x) pid last joiner records r moment link a b at now_last now_joiner receiving timed of_pid linked seen written =
     let same : packets_with link (received_packets pid records) (packet_at records r moment) ≡ received_packets pid (records ++ r ∷ []) =
-        received_with pid records r moment last link receiving.last_is timed of_pid linked in
+    received_with pid records r moment last link receiving.last_is timed of_pid linked in
     record {
       receiving = record {
         last_is = seen ∙ last_with pid records r moment last receiving.last_is timed of_pid;
@@ -161,7 +162,7 @@ pub receives_part : {T E : Type 0} (result : Result T E) (pid : ℕ) (last : Opt
 receives_part (Ok x) pid last joiner records r moment link a b at receiving timed of_pid linked written = written
 receives_part (Err x) pid last joiner records r moment link a b at receiving timed of_pid linked written =
     let same : packets_with link (received_packets pid records) (packet_at records r moment) ≡ received_packets pid (records ++ r ∷ []) =
-        received_with pid records r moment last link receiving.last_is timed of_pid linked in
+    received_with pid records r moment last link receiving.last_is timed of_pid linked in
     record {
       text = written.text;
       told = ap (λ (packets : List Arrival). events_text (events_of sndu_form packets)) (sym same) ∙ written.told;
@@ -174,31 +175,34 @@ events_front : (packets others : List Arrival) → (more : List Event) × (event
 events_front packets [] = ([], ap (events_of sndu_form) (append-nil packets) ∙ sym (append-nil (events_of sndu_form packets)))
 events_front packets (next ∷ others) =
     let one : List Event = new_events sndu_form (continues (last_packet no_packet packets) (packet_of next)) (open_units sndu_form packets) next in
-    let rest : (more : List Event) × (events_of sndu_form ((packets ++ next ∷ []) ++ others) ≡ events_of sndu_form (packets ++ next ∷ []) ++ more) = events_front (packets ++ next ∷ []) others in
-    (one ++ rest.0,
-     ap (events_of sndu_form) (sym (append_assoc packets (next ∷ []) others)) ∙ rest.1
-     ∙ ap (λ (t : List Event). t ++ rest.0) (events_more sndu_form sndu_lawful no_packet packets next)
-     ∙ append_assoc (events_of sndu_form packets) one rest.0)
+    let rest : (more : List Event) × (events_of sndu_form ((packets ++ next ∷ []) ++ others) ≡ events_of sndu_form (packets ++ next ∷ []) ++ more) = events_front (packets ++ next ∷ []) others in (
+      one ++ rest.0,
+      ap (events_of sndu_form) (sym (append_assoc packets (next ∷ []) others)) ∙ rest.1
+          ∙ ap (λ (t : List Event). t ++ rest.0) (events_more sndu_form sndu_lawful no_packet packets next)
+          ∙ append_assoc (events_of sndu_form packets) one rest.0,
+    )
 
 delivered_one : (pid : ℕ) (records : List Record) (r : Record) → (more : List (List ℕ)) × (delivered_by_ule pid (records ++ r ∷ []) ≡ delivered_by_ule pid records ++ more)
 delivered_one pid records r =
     let packets : List Arrival = received_packets pid records in
     let others : List Arrival = received_after (last_bytes None packets) (packet_in pid records r) in
-    let front : (more : List Event) × (events_of sndu_form (packets ++ others) ≡ events_of sndu_form packets ++ more) = events_front packets others in
-    (flat_map carried_event front.0,
-     sym (delivered_events pid (records ++ r ∷ []))
-     ∙ ap (λ (t : List Arrival). flat_map carried_event (events_of sndu_form t)) (received_more pid records r (last_bytes None packets) refl)
-     ∙ ap (flat_map carried_event) front.1
-     ∙ flat_map-append carried_event (events_of sndu_form packets) front.0
-     ∙ ap (λ (t : List (List ℕ)). t ++ flat_map carried_event front.0) (delivered_events pid records))
+    let front : (more : List Event) × (events_of sndu_form (packets ++ others) ≡ events_of sndu_form packets ++ more) = events_front packets others in (
+      flat_map carried_event front.0,
+      sym (delivered_events pid (records ++ r ∷ []))
+          ∙ ap (λ (t : List Arrival). flat_map carried_event (events_of sndu_form t)) (received_more pid records r (last_bytes None packets) refl)
+          ∙ ap (flat_map carried_event) front.1
+          ∙ flat_map-append carried_event (events_of sndu_form packets) front.0
+          ∙ ap (λ (t : List (List ℕ)). t ++ flat_map carried_event front.0) (delivered_events pid records),
+    )
 
 -- what the first records deliver stands at the front of what all deliver
 pub delivered_front : (pid : ℕ) (xs ys : List Record) → (more : List (List ℕ)) × (delivered_by_ule pid (xs ++ ys) ≡ delivered_by_ule pid xs ++ more)
 delivered_front pid xs [] = ([], ap (delivered_by_ule pid) (append-nil xs) ∙ sym (append-nil (delivered_by_ule pid xs)))
 delivered_front pid xs (y ∷ ys) =
     let one : (more : List (List ℕ)) × (delivered_by_ule pid (xs ++ y ∷ []) ≡ delivered_by_ule pid xs ++ more) = delivered_one pid xs y in
-    let rest : (more : List (List ℕ)) × (delivered_by_ule pid ((xs ++ y ∷ []) ++ ys) ≡ delivered_by_ule pid (xs ++ y ∷ []) ++ more) = delivered_front pid (xs ++ y ∷ []) ys in
-    (one.0 ++ rest.0,
-     ap (delivered_by_ule pid) (sym (append_assoc xs (y ∷ []) ys)) ∙ rest.1
-     ∙ ap (λ (t : List (List ℕ)). t ++ rest.0) one.1
-     ∙ append_assoc (delivered_by_ule pid xs) one.0 rest.0)
+    let rest : (more : List (List ℕ)) × (delivered_by_ule pid ((xs ++ y ∷ []) ++ ys) ≡ delivered_by_ule pid (xs ++ y ∷ []) ++ more) = delivered_front pid (xs ++ y ∷ []) ys in (
+      one.0 ++ rest.0,
+      ap (delivered_by_ule pid) (sym (append_assoc xs (y ∷ []) ys)) ∙ rest.1
+          ∙ ap (λ (t : List (List ℕ)). t ++ rest.0) one.1
+          ∙ append_assoc (delivered_by_ule pid xs) one.0 rest.0,
+    )

@@ -1,13 +1,12 @@
 -- The units that reassembly gives are SNDUs.
-use Rattle.std.proofs.Common.{◌≡◌, map, ℕ, ◌≤◌, Bool, true, false, cond, ◌&&◌, ◌||◌, ◌==◌, nat_le, List, [], ◌∷◌, ◌++◌, length, take, refl, ap, sym, ◌∙◌, arith, append_assoc, eq-eqb, min, if◌then◌else◌}
+use Rattle.std.proofs.Common.{◌≡◌, map, ℕ, ◌≤◌, Bool, true, false, cond, ◌&&◌, nat_le, List, [], ◌∷◌, ◌++◌, length, take, refl, ap, sym, ◌∙◌, arith, eq-eqb, if◌then◌else◌}
 use Rattle.std.specs.List.{flat_map}
-use Rattle.std.proofs.lemmas.List.{append-nil, length-take-le, length-append}
+use Rattle.std.proofs.lemmas.List.{length-take-le, length-append}
 use Rattle.std.proofs.lemmas.Bool.{leb-true}
 use Rattle.ts_spec.specs.Form.{Span, more, stuffing, whole, bad}
-use Rattle.ts_spec.specs.Packet.{PacketFields}
 use Rattle.ts_spec.specs.Received.{Arrival, packet_of, received_packets}
 use Rattle.ts_spec.specs.Recording.{Record}
-use Rattle.ts_spec.specs.Reassembly.{Given, all_of, Outcome, candidate, bad_length, delimit, no_outcome, incomplete, is_complete, outcome_by, outcome_of, bytes_from, unit_starts, PlacedUnit, accepted_in, accepted_units}
+use Rattle.ts_spec.specs.Reassembly.{Given, all_of, Outcome, candidate, bad_length, delimit, no_outcome, incomplete, is_complete, outcome_by, outcome_of, bytes_from, unit_starts, PlacedUnit, accepted_units}
 use Rattle.ts_spec.specs.Events.{Event, unit_event, bad_check_event, delimit_event, bad_length_event, event_by, event_at, misfit_events, packet_events, events_of}
 use Rattle.ts_spec.specs.Sndu.{sndu_form, sndu_span, is_sndu, is_whole_of, has_right_length, has_right_crc}
 use Rattle.ule_unit.specs.Spans.{sndu_lawful}
@@ -78,12 +77,14 @@ candidate_sized given (whole n) unit told e = by_test (is_complete n given) refl
     not_candidate : (b : Bool) → cond b delimit no_outcome ≡ candidate unit → ⊥
     not_candidate true e = cc
     not_candidate false e = cc
+
     within : is_complete n given ≡ true → n ≤ length (all_of given)
     within c = first (nat_le n (length given.payloads)) refl
       where
         first : (b : Bool) → nat_le n (length given.payloads) ≡ b → n ≤ length (all_of given)
         first true h = omega (arith, leb-true n (length given.payloads) h, length-append given.payloads given.rest)
         first false h = grind (arith, c, h)
+
     by_test : (b : Bool) → is_complete n given ≡ b → cond b (candidate (take n (all_of given))) (incomplete given) ≡ candidate unit → sndu_span unit ≡ whole (length unit)
     by_test false c e = absurd (not_candidate given.is_ended e)
     by_test true c e =
@@ -100,7 +101,7 @@ carried_starts arrival behind (start ∷ starts) =
     let others : List Event = flat_map (event_at sndu_form arrival behind) starts in
     flat_map-append carried_event events others
     ∙ ap (λ (t : List (List ℕ)). t ++ flat_map carried_event others)
-      (carried_outcome arrival.moment (outcome_of sndu_form given) (λ unit e. candidate_sized given (sndu_span (all_of given)) unit refl e))
+    (carried_outcome arrival.moment (outcome_of sndu_form given) (λ unit e. candidate_sized given (sndu_span (all_of given)) unit refl e))
     ∙ ap (λ (t : List (List ℕ)). flat_map carried_plainly events ++ t) (carried_starts arrival behind starts)
     ∙ sym (flat_map-append carried_plainly events others)
 

@@ -1,14 +1,14 @@
 -- The events of a packet, written one after another.
-use Rattle.std.proofs.Common.{◌≡◌, ℕ, ◌+◌, List, [], ◌∷◌, ◌++◌, length, take, set, refl, ap, sym, ◌∙◌, subst, append_assoc, Option, None, Some, Result, Ok, Err, OnOk, OnErr, MatchResult}
+use Rattle.std.proofs.Common.{◌≡◌, ℕ, ◌+◌, List, [], ◌∷◌, ◌++◌, length, take, refl, ap, sym, ◌∙◌, subst, append_assoc, Option, None, Some}
 use Rattle.std.specs.List.{flat_map}
 use Rattle.std.proofs.lemmas.List.{append-nil, length-set}
 use Rattle.std.proofs.Math.Seq.{take-append-add}
-use Rattle.wire_spec.specs.Content.{File, ChangesFile, PutsInFile, grown}
+use Rattle.wire_spec.specs.Content.{File, ChangesFile, grown}
 use Rattle.ts_spec.specs.Packet.{PacketFields}
 use Rattle.ts_spec.specs.Received.{Arrival}
-use Rattle.ts_spec.specs.Events.{Event, events_of}
+use Rattle.ts_spec.specs.Events.{Event}
 use Rattle.ts_spec.specs.Sndu.{sndu_form}
-use Rattle.unit_stream.specs.Joining.{JoinerState, Stands, IsGiving, Answers, left_events}
+use Rattle.unit_stream.specs.Joining.{JoinerState, IsGiving, Answers, left_events}
 use Rattle.pcap_file.specs.Capture.{capture_record}
 use Rattle.ipe_io.proofs.Told.{IsThere, changes-trans, changes-nil}
 use Rattle.ipencap_engine.specs.Delivery.{carried_event, records_text, events_text, IsWriting, HasWritten, HasWrittenPart}
@@ -51,7 +51,7 @@ pub writing_none : (joiner new : JoinerState) (packet : PacketFields) (packets :
     → Answers sndu_form joiner new packet (Some event) → events_text (event ∷ []) ≡ [] → IsWriting joiner packet packets before a b at → IsWriting new packet packets before a b at
 writing_none joiner new packet packets before event a b at there answers none writing =
     writing_more joiner new packet packets before event a b b at there answers writing
-      (subst (λ (t : List ℕ). ChangesFile b b at (λ file. grown file t)) (sym none) (changes-nil b at))
+    (subst (λ (t : List ℕ). ChangesFile b b at (λ file. grown file t)) (sym none) (changes-nil b at))
 
 -- the writing of one event stopped
 pub writing_stop : (joiner new : JoinerState) (packet : PacketFields) (packets : List Arrival) (before : List Event) (event : Event) (a b c : Option (List File)) (at n : ℕ) → IsThere b at
@@ -62,15 +62,15 @@ writing_stop joiner new packet packets before event a b c at n there answers wri
     let rest : List Event = left_events sndu_form packet new in
     let gives : IsGiving sndu_form new packet packets (writing.given ++ event ∷ []) = answers.gives packets writing.given writing.gives in
     let so_far : ChangesFile a c at (λ file. grown file (take (length writing.done + n) (writing.done ++ this))) =
-        changes-trans a b c at writing.done (take n this) (take (length writing.done + n) (writing.done ++ this)) (take-append-add writing.done this n)
-          (there_before a b at (λ file. grown file writing.done) writing.file there) writing.file put in
+    changes-trans a b c at writing.done (take n this) (take (length writing.done + n) (writing.done ++ this)) (take-append-add writing.done this n)
+    (there_before a b at (λ file. grown file writing.done) writing.file there) writing.file put in
     let stopped : (m : ℕ) × ChangesFile a c at (λ file. grown file (take m ((writing.done ++ this) ++ events_text rest))) =
-        stops_before a c at (length writing.done + n) (writing.done ++ this) (events_text rest) ((writing.done ++ this) ++ events_text rest) refl so_far in
+    stops_before a c at (length writing.done + n) (writing.done ++ this) (events_text rest) ((writing.done ++ this) ++ events_text rest) refl so_far in
     record {
       text = (writing.done ++ this) ++ events_text rest;
       told = ap events_text (sym gives.events) ∙ events_text-append (writing.given ++ event ∷ []) rest
-        ∙ ap (λ t. t ++ events_text rest) (told_more writing.given before writing.done event writing.told)
-        ∙ append_assoc (events_text before) (writing.done ++ this) (events_text rest);
+          ∙ ap (λ t. t ++ events_text rest) (told_more writing.given before writing.done event writing.told)
+          ∙ append_assoc (events_text before) (writing.done ++ this) (events_text rest);
       count = stopped.0;
       file = stopped.1;
     }
@@ -100,9 +100,9 @@ unit_stopped old new at n datagrams put = subst (λ (t : List (List ℕ)). Chang
 pub writing_begins : (joiner : JoinerState) (packet : PacketFields) (packets : List Arrival) (before : List Event) (a : Option (List File)) (at : ℕ)
     → IsGiving sndu_form joiner packet packets before → IsWriting joiner packet packets before a a at
 writing_begins joiner packet packets before a at gives = record {
-    given = before;
-    gives = gives;
-    done = [];
-    told = sym (append-nil (events_text before));
-    file = changes-nil a at;
-  }
+  given = before;
+  gives = gives;
+  done = [];
+  told = sym (append-nil (events_text before));
+  file = changes-nil a at;
+}

@@ -1,5 +1,5 @@
 -- The loss law for one ULE service: what the file holds of the SNDUs that were sent, whatever became of the records.
-use Rattle.std.specs.Prelude.{◌≡◌, ◌≢◌, ℕ, List, length, flat_map, Option}
+use Rattle.std.specs.Prelude.{◌≡◌, ℕ, List, length, flat_map, Option}
 use Rattle.wire_spec.specs.Lists.{IsSubsequence, IsCut}
 use Rattle.wire_spec.specs.Content.{File, AddsFile}
 use Rattle.ts_spec.specs.Recording.{Record, plain, records_of}

@@ -1,4 +1,4 @@
-use Rattle.std.proofs.Common.{◌≡◌, ◌++◌, [], List, ap, ◌∙◌, subst, Option, Some, Ok, Err, option_map}
+use Rattle.std.proofs.Common.{ap, ◌∙◌, subst, Option, Some, option_map}
 use Rattle.ts_spec.specs.Events.{Event, unit_event}
 use Rattle.ts_spec.specs.Sndu.{sndu_form}
 use Rattle.ts_packet.specs.Fields.{fields_in}
@@ -13,20 +13,20 @@ pub returns-in-Ok-clause-more : goal.returns-in-Ok-clause-more
 returns-in-Ok-clause-more g c = λ packets before start writing more.
     let event : Event = unit_event c.in-Some-Unit.field-0-0 c.in-Some-Unit.bytes.now in
     let answers : Answers sndu_form c.args.joiner.now c.next.follows.lender-at-none (fields_in c.args.packet.now) (Some event) =
-        subst (λ (e : Option Event). Answers sndu_form c.args.joiner.now c.next.follows.lender-at-none (fields_in c.args.packet.now) e)
-          (ap (option_map event_in) (c.in-Some-Unit.is ∙ ap (λ e. Some e) c.in-Some-Unit.field-0-is)) c.next.follows.holds-at-none in
+    subst (λ (e : Option Event). Answers sndu_form c.args.joiner.now c.next.follows.lender-at-none (fields_in c.args.packet.now) e)
+    (ap (option_map event_in) (c.in-Some-Unit.is ∙ ap (λ e. Some e) c.in-Some-Unit.field-0-is)) c.next.follows.holds-at-none in
     writing_more c.args.joiner.now c.next.follows.lender-at-none (fields_in c.args.packet.now) packets before event start (g.R.Rack.files c.args.rack.now) (g.R.Rack.files c.put_unit.new.rack) c.args.at
-      (is_there (g.R.Rack.files c.args.rack.now) c.args.at (g.R.Rack.count c.args.rack.now) (g.met.R.Rack.as_many c.args.rack.now) c.requires)
-      answers writing
-      (unit_written (g.R.Rack.files c.args.rack.now) (g.R.Rack.files c.put_unit.new.rack) c.args.at (carried_by c.in-Some-Unit.bytes.now) c.in-Ok.ensures.written)
+    (is_there (g.R.Rack.files c.args.rack.now) c.args.at (g.R.Rack.count c.args.rack.now) (g.met.R.Rack.as_many c.args.rack.now) c.requires)
+    answers writing
+    (unit_written (g.R.Rack.files c.args.rack.now) (g.R.Rack.files c.put_unit.new.rack) c.args.at (carried_by c.in-Some-Unit.bytes.now) c.in-Ok.ensures.written)
 
 pub returns-in-Err-clause-failed : goal.returns-in-Err-clause-failed
 returns-in-Err-clause-failed g c = λ packets before start writing.
     let event : Event = unit_event c.in-Some-Unit.field-0-0 c.in-Some-Unit.bytes.now in
     let answers : Answers sndu_form c.args.joiner.now c.next.follows.lender-at-none (fields_in c.args.packet.now) (Some event) =
-        subst (λ (e : Option Event). Answers sndu_form c.args.joiner.now c.next.follows.lender-at-none (fields_in c.args.packet.now) e)
-          (ap (option_map event_in) (c.in-Some-Unit.is ∙ ap (λ e. Some e) c.in-Some-Unit.field-0-is)) c.next.follows.holds-at-none in
+    subst (λ (e : Option Event). Answers sndu_form c.args.joiner.now c.next.follows.lender-at-none (fields_in c.args.packet.now) e)
+    (ap (option_map event_in) (c.in-Some-Unit.is ∙ ap (λ e. Some e) c.in-Some-Unit.field-0-is)) c.next.follows.holds-at-none in
     writing_stop c.args.joiner.now c.next.follows.lender-at-none (fields_in c.args.packet.now) packets before event start (g.R.Rack.files c.args.rack.now) (g.R.Rack.files c.put_unit.new.rack) c.args.at c.in-Err.ensures.written.0
-      (is_there (g.R.Rack.files c.args.rack.now) c.args.at (g.R.Rack.count c.args.rack.now) (g.met.R.Rack.as_many c.args.rack.now) c.requires)
-      answers writing
-      (unit_stopped (g.R.Rack.files c.args.rack.now) (g.R.Rack.files c.put_unit.new.rack) c.args.at c.in-Err.ensures.written.0 (carried_by c.in-Some-Unit.bytes.now) c.in-Err.ensures.written.1)
+    (is_there (g.R.Rack.files c.args.rack.now) c.args.at (g.R.Rack.count c.args.rack.now) (g.met.R.Rack.as_many c.args.rack.now) c.requires)
+    answers writing
+    (unit_stopped (g.R.Rack.files c.args.rack.now) (g.R.Rack.files c.put_unit.new.rack) c.args.at c.in-Err.ensures.written.0 (carried_by c.in-Some-Unit.bytes.now) c.in-Err.ensures.written.1)

@@ -9,12 +9,12 @@ use Rattle.ipencap_engine.proofs.delivery.put_packet.Given as goal
 
 abbrev pub invariant-events : goal.invariant-events
 invariant-events g l = record {
-    writing : (packets : List Arrival) (before : List Event) (start : Option (List File))
-        → IsWriting l.initial.joiner (fields_in l.packet) packets before start (g.R.Rack.files l.initial.rack) l.at
-        → IsWriting l.joiner (fields_in l.packet) packets before start (g.R.Rack.files l.rack) l.at;
-    count : g.R.Rack.count l.rack ≡ g.R.Rack.count l.initial.rack;
-    faults : g.R.Rack.faults l.initial.rack ≤ g.R.Rack.faults l.rack;
-  }
+  writing : (packets : List Arrival) (before : List Event) (start : Option (List File))
+      → IsWriting l.initial.joiner (fields_in l.packet) packets before start (g.R.Rack.files l.initial.rack) l.at
+      → IsWriting l.joiner (fields_in l.packet) packets before start (g.R.Rack.files l.rack) l.at;
+  count : g.R.Rack.count l.rack ≡ g.R.Rack.count l.initial.rack;
+  faults : g.R.Rack.faults l.initial.rack ≤ g.R.Rack.faults l.rack;
+}
 
 abbrev pub decreases-events : goal.decreases-events
 decreases-events g l = steps_left (length l.packet.payload.now) l.joiner

@@ -1,4 +1,4 @@
-use Rattle.std.proofs.Common.{◌≡◌, List, ℕ, ap, sym}
+use Rattle.std.proofs.Common.{ap, sym}
 use Rattle.ipencap_engine.specs.Delivery.{carried_by, records_text}
 use Rattle.ipencap_engine.proofs.Texts.{puts_nothing}
 use Rattle.ipencap_engine.proofs.delivery.put_unit.Goals as goal
