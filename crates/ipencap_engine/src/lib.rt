@@ -7,6 +7,8 @@
 mod delivery;
 mod reception;
 mod status;
+#[cfg(test)]
+mod tests;
 mod top;
 mod ule;
 mod words;
