@@ -1,5 +1,5 @@
 -- One file of a rack in memory that changes.
-use Rattle.std.proofs.Common.{◌≡◌, ℕ, ◌<◌, ◌≤◌, List, length, take, get_or, set, map, ap, sym, ◌∙◌, arith}
+use Rattle.std.proofs.Common.{◌≡◌, ℕ, ◌<◌, List, length, take, get_or, set, ap, sym, ◌∙◌, arith}
 use Rattle.std.proofs.lemmas.List.{map-set, get_or-map, length-map, length-take, get_or-take}
 use Rattle.std.proofs.Math.Seq.{take-set-lt}
 use Rattle.wire_spec.specs.Content.{File, no_file}

@@ -1,5 +1,5 @@
 -- What the objects in memory are seen as, and which of their calls fail.
-use Rattle.std.specs.Prelude.{◌≡◌, ℕ, ◌+◌, ◌-◌, ◌^◌, ◌<◌, ◌≤◌, ◌⊎◌, Bool, List, length, map, min, Contains, Option, Some, None}
+use Rattle.std.specs.Prelude.{ℕ, ◌+◌, ◌-◌, ◌^◌, ◌<◌, ◌≤◌, Bool, List, length, map, min, Contains, Option, Some, None}
 use Rattle.std.specs.Prelude.{bytes_eq, if◌then◌else◌, option_map, is_some}
 use Rattle.wire_spec.specs.Causes.{raised}
 use Rattle.wire_spec.specs.Content.{File}

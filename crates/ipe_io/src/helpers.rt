@@ -48,9 +48,9 @@ pub fn put_file<R: Rack>(rack: &mut R, at: u32, piece: &[u8]) -> Result<(), Fail
     ensures count { R.count rack.new ≡ R.count rack.old }
     ensures cause { HasCause (R.faults rack.old) (R.faults rack.new) result }
 {
-    let mut done = 0;
-    while done < piece.len() {
-        done += rack.write(at, &piece[done..])?;
+    let mut put = 0;
+    while put < piece.len() {
+        put += rack.write(at, &piece[put..])?;
     }
     Ok(())
 }

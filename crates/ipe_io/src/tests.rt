@@ -110,15 +110,24 @@ fn a_shelf_in_memory_has_a_second_file(rt: HostRuntime) -> Result<(), Fail> {
 fn files_are_written_and_loaded(rt: HostRuntime) -> Result<(), Fail> {
     let mut rack = FileRack::new(rt.alloc(), rt);
     assert_eq!(rt; rack.add(rt.alloc(), "ipe_io_a"), Ok(0));
-    assert_eq!(rt; rack.add(rt.alloc(), "no_such_folder/ipe_io"), Err(AddFault::Failed));
+    assert_eq!(rt;
+        rack.add(rt.alloc(), "no_such_folder/ipe_io"),
+        Err(AddFault::Failed)
+    );
     assert_eq!(rt; rack.add(rt.alloc(), "ipe_io_b"), Ok(1));
     put_file(&mut rack, 1, b"12")?;
     put_file(&mut rack, 1, b"3")?;
     let mut shelf = FileShelf::new(rt);
     assert_eq!(rt; shelf.load(rt.alloc(), "ipe_io_b")?.len(), 0);
     rack.flush_all()?;
-    assert_eq!(rt; shelf.load(rt.alloc(), "ipe_io_b")?.as_slice(), b"123".as_slice());
-    assert_eq!(rt; shelf.load(rt.alloc(), "ipe_io_none"), Err(LoadFault::Failed));
+    assert_eq!(rt;
+        shelf.load(rt.alloc(), "ipe_io_b")?.as_slice(),
+        b"123".as_slice()
+    );
+    assert_eq!(rt;
+        shelf.load(rt.alloc(), "ipe_io_none"),
+        Err(LoadFault::Failed)
+    );
     fs::remove_file(&rt, "ipe_io_a")?;
     fs::remove_file(&rt, "ipe_io_b")?;
     Ok(())
@@ -146,7 +155,10 @@ fn a_file_is_read_as_it_was_written(rt: HostRuntime) -> Result<(), Fail> {
     assert_eq!(rt; into[0], b'8');
     let mut sink = StdSink::new(fs::create(&rt, "ipe_io_c")?);
     put_all(&mut sink, b"9")?;
-    assert_eq!(rt; shelf.load(rt.alloc(), "ipe_io_c")?.as_slice(), b"9".as_slice());
+    assert_eq!(rt;
+        shelf.load(rt.alloc(), "ipe_io_c")?.as_slice(),
+        b"9".as_slice()
+    );
     fs::remove_file(&rt, "ipe_io_c")?;
     Ok(())
 }

@@ -1,4 +1,4 @@
-use Rattle.std.proofs.Common.{◌≡◌, ap}
+use Rattle.std.proofs.Common.{ap}
 use Rattle.wire_spec.specs.Content.{flushed_file}
 use Rattle.ipe_io.proofs.MemFiles.{one_changed}
 use Rattle.ipe_io.proofs.mem_rack.MemRackRack.flush.Goals as goal

@@ -1,5 +1,5 @@
-use Rattle.std.proofs.Common.{◌≡◌, ◌∙◌, ap, sym, take, rules, length, get_or, ◌<◌}
-use Rattle.wire_spec.specs.Content.{File, grown, no_file}
+use Rattle.std.proofs.Common.{◌≡◌, ◌∙◌, ap, sym, take, length, ◌<◌}
+use Rattle.wire_spec.specs.Content.{File, grown}
 use Rattle.ipe_io.specs.Memory.{fitting}
 use Rattle.ipe_io.proofs.MemFiles.{one_changed, file_there, seen_is_stored}
 use Rattle.ipe_io.proofs.mem_rack.MemRackRack.write.Goals as goal

@@ -1,5 +1,4 @@
-use Rattle.std.proofs.Common.{rules, ◌≡◌, ◌∙◌, sym, ap, ℕ, ◌≤◌, List, Option, arith}
-use Rattle.ipe_io.specs.Memory.{ShelfState, Shelved, faults_of}
+use Rattle.std.proofs.Common.{◌∙◌, sym, ap, arith}
 use Rattle.ipe_io.proofs.MemShelves.{others_later}
 use Rattle.ipe_io.proofs.mem_shelf.MemShelf.fail.Goals as goal
 use Rattle.ipe_io.proofs.mem_shelf.MemShelf.fail.Goals.{in-Some+else-has_name-2, in_default}

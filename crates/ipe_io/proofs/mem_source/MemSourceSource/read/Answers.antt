@@ -1,4 +1,4 @@
-use Rattle.std.proofs.Common.{◌≡◌, ℕ, ◌+◌, ◌<◌, ◌≤◌, List, length, drop, min, ◌-◌, ◌++◌, ap, sym, ◌∙◌, arith, refl, length-append, length-drop}
+use Rattle.std.proofs.Common.{◌≡◌, ℕ, ◌≤◌, List, length, drop, min, ◌-◌, ◌++◌, ap, sym, ◌∙◌, arith, refl, length-append, length-drop}
 use Rattle.std.proofs.lemmas.List.{length-take}
 use Rattle.ipe_io.proofs.Buffers.{read_from_memory, read_at_end}
 use Rattle.ipe_io.proofs.mem_source.MemSourceSource.read.Goals as goal
