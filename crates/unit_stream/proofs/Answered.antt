@@ -1,13 +1,11 @@
 -- What one place read makes of a joiner.
-use Rattle.std.proofs.Common.{◌≡◌, ℕ, ◌<◌, List, [], ◌∷◌, ◌++◌, length, refl, ap, sym, ◌∙◌, subst, append_assoc, Option, None, Some}
-use Rattle.std.specs.Prelude.{IsSome, option_to_list}
+use Rattle.std.proofs.Common.{◌≡◌, ◌<◌, List, [], ◌∷◌, ◌++◌, length, refl, ap, sym, ◌∙◌, subst, append_assoc, Option, None, Some}
 use Rattle.std.proofs.lemmas.List.{append-nil}
 use Rattle.ts_spec.specs.Form.{UnitForm}
 use Rattle.ts_spec.specs.Packet.{PacketFields}
 use Rattle.ts_spec.specs.Received.{Arrival}
-use Rattle.ts_spec.specs.Events.{Event, events_of}
-use Rattle.reassembly_law.specs.UnderWay.{Open}
-use Rattle.unit_stream.specs.Joining.{Place, JoinerState, drained, reading, events_from, left_events, left_open, steps_left, IsGiving, AfterNext, Answers}
+use Rattle.ts_spec.specs.Events.{Event}
+use Rattle.unit_stream.specs.Joining.{Place, JoinerState, drained, reading, left_events, left_open, steps_left, IsGiving, AfterNext, Answers}
 use Rattle.unit_stream.specs.Steps.{Reads}
 
 pub answers_reading : (form : UnitForm) (old new : JoinerState) (packet : PacketFields) (place : Place) (event : Option Event)

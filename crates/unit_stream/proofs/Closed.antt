@@ -1,14 +1,13 @@
 -- What a continuous packet with the start indicator makes of a unit under way.
-use Rattle.std.proofs.Common.{◌≡◌, ◌⊎◌, inl, inr, ℕ, ◌+◌, ◌-◌, ◌<◌, ◌≤◌, Bool, true, false, cond, not, ◌&&◌, ◌||◌, leb, eqb, min, List, [], ◌∷◌, ◌++◌, length, take, drop, flat_map, refl, ap, sym, ◌∙◌, subst, arith, length-append, Option, None, Some}
-use Rattle.std.proofs.lemmas.List.{append-nil, take-append-le, take-append-drop, take_all, length-take, length-take-le, take-take}
+use Rattle.std.proofs.Common.{◌≡◌, ◌⊎◌, inl, inr, ℕ, ◌+◌, ◌<◌, ◌≤◌, Bool, true, false, cond, ◌||◌, leb, eqb, min, List, [], ◌++◌, length, take, drop, refl, ap, sym, ◌∙◌, arith, length-append, Option}
+use Rattle.std.proofs.lemmas.List.{append-nil, take-append-le, take-append-drop, take_all, length-take}
 use Rattle.ts_spec.specs.Form.{UnitForm, Span, more, stuffing, whole, bad, IsLawful}
-use Rattle.ts_spec.specs.Packet.{PacketFields, pointer, pointer_fits}
-use Rattle.ts_spec.specs.Reassembly.{Given, all_of, with_payload, ended_by, given_by, Outcome, candidate, bad_length, delimit, no_outcome, is_complete, incomplete, outcome_by, outcome_of}
-use Rattle.ts_spec.specs.Events.{Event, event_by, delimit_event}
-use Rattle.reassembly_law.specs.UnderWay.{Open, is_told, unless_told, nothing_given, given_next, resumed, still_open, IsUnderWay}
+use Rattle.ts_spec.specs.Packet.{PacketFields, pointer_fits}
+use Rattle.ts_spec.specs.Reassembly.{Given, all_of, with_payload, ended_by, Outcome, candidate, bad_length, delimit, is_complete, incomplete, outcome_by, outcome_of}
+use Rattle.ts_spec.specs.Events.{Event, event_by}
+use Rattle.reassembly_law.specs.UnderWay.{Open, is_told, nothing_given, given_next, IsUnderWay}
 use Rattle.reassembly_law.proofs.Outcomes.{leb_true, true_leb, false_leb}
-use Rattle.reassembly_law.proofs.Room.{stays_unit}
-use Rattle.unit_stream.specs.Joining.{Place, JoinerState, drained, reading, giving, left_events, left_open, rest_events, rest_open}
+use Rattle.unit_stream.specs.Joining.{Place, giving, rest_events}
 use Rattle.unit_stream.specs.Steps.{Closes, pointed}
 use Rattle.unit_stream.proofs.Resumed.{eqb_false, eqb_true, leb_false, span-take}
 

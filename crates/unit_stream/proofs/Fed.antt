@@ -1,5 +1,5 @@
 -- One packet more is fed.
-use Rattle.std.proofs.Common.{◌≡◌, ◌⊎◌, inl, inr, ℕ, zero, suc, ◌+◌, ◌<◌, Bool, true, false, cond, List, [], ◌∷◌, ◌++◌, length, get_or, flat_map, refl, ap, sym, ◌∙◌, subst, arith, Option, None, Some}
+use Rattle.std.proofs.Common.{◌≡◌, inl, inr, ℕ, suc, Bool, true, false, cond, List, [], ◌∷◌, ◌++◌, flat_map, refl, ap, sym, ◌∙◌, subst, arith, Option, None, Some}
 use Rattle.std.specs.Prelude.{Contains}
 use Rattle.ts_spec.specs.Form.{UnitForm, IsLawful}
 use Rattle.ts_spec.specs.Packet.{PacketFields, continues, fields_of}
@@ -7,14 +7,14 @@ use Rattle.ts_spec.specs.Received.{Arrival, packet_of, repeats}
 use Rattle.ts_spec.specs.Reassembly.{outcome_of, bytes_from, unit_starts}
 use Rattle.ts_spec.specs.Events.{Event, event_by, misfit_events, packet_events, events_of}
 use Rattle.ts_spec.specs.Packetized.{no_packet}
-use Rattle.reassembly_law.specs.UnderWay.{Open, unless_told, resumed, still_open, open_units, last_packet, IsUnderWay, new_events, new_under_way}
+use Rattle.reassembly_law.specs.UnderWay.{Open, unless_told, resumed, still_open, open_units, last_packet, IsUnderWay}
 use Rattle.reassembly_law.specs.Records.{last_bytes}
 use Rattle.reassembly_law.proofs.Steps.{events_more, under_way_more}
 use Rattle.reassembly_law.proofs.Room.{are_under_way}
 use Rattle.ts_packet.specs.declared.continuity.Link.{Link}
 use Rattle.ts_packet.specs.declared.continuity.Link.TheVariants.{First, Next, Repeat, Gap}
 use Rattle.ts_packet.specs.Links.{link_of}
-use Rattle.unit_stream.specs.Joining.{JoinerState, drained, left_events, left_open, Stands, IsGiving, IsLinked, packets_with}
+use Rattle.unit_stream.specs.Joining.{JoinerState, drained, Stands, IsGiving, IsLinked, packets_with}
 use Rattle.unit_stream.specs.Steps.{IsFed, AreProper}
 
 -- Links.

@@ -1,16 +1,16 @@
 -- What one packet makes of a unit under way, by the bytes that the buffer then holds.
-use Rattle.std.proofs.Common.{◌≡◌, ◌⊎◌, inl, inr, ℕ, ◌+◌, ◌-◌, ◌<◌, ◌≤◌, Bool, true, false, cond, not, ◌&&◌, min, ◌||◌, leb, eqb, List, [], ◌∷◌, ◌++◌, length, take, drop, refl, ap, sym, ◌∙◌, subst, arith, length-append, Option, None, Some}
-use Rattle.std.proofs.lemmas.List.{append-nil, take-append-le, take-append-drop, take_all, length-take, length-take-le, take-take}
+use Rattle.std.proofs.Common.{◌≡◌, ◌⊎◌, inl, inr, ℕ, ◌<◌, ◌≤◌, Bool, true, false, cond, not, ◌&&◌, min, leb, eqb, List, [], ◌∷◌, ◌++◌, length, take, drop, refl, ap, sym, ◌∙◌, subst, arith, None}
+use Rattle.std.proofs.lemmas.List.{append-nil, take-append-drop, take_all, length-take, length-take-le, take-take}
 use Rattle.ts_spec.specs.Form.{UnitForm, Span, more, stuffing, whole, bad, IsLawful}
-use Rattle.ts_spec.specs.Packet.{PacketFields, pointer, pointer_fits}
-use Rattle.ts_spec.specs.Reassembly.{Given, all_of, with_payload, ended_by, given_by, Outcome, candidate, bad_length, delimit, no_outcome, is_complete, incomplete, outcome_by, outcome_of}
-use Rattle.ts_spec.specs.Events.{Event, event_by, delimit_event}
+use Rattle.ts_spec.specs.Packet.{PacketFields}
+use Rattle.ts_spec.specs.Reassembly.{Given, with_payload, candidate, bad_length, outcome_of}
+use Rattle.ts_spec.specs.Events.{event_by}
 use Rattle.reassembly_law.specs.UnderWay.{Open, is_told, unless_told, nothing_given, given_next, resumed, still_open, IsUnderWay}
 use Rattle.reassembly_law.proofs.Given.{given_whole, with-with}
 use Rattle.reassembly_law.proofs.Outcomes.{told_by, leb_true, true_leb, false_leb, told_outcome, untold_outcome}
 use Rattle.reassembly_law.proofs.Room.{stays_unit}
-use Rattle.unit_stream.specs.Joining.{Place, JoinerState, drained, reading, giving, left_events, left_open, rest_events, rest_open}
-use Rattle.unit_stream.specs.Steps.{GoesOn, Closes}
+use Rattle.unit_stream.specs.Joining.{drained, giving}
+use Rattle.unit_stream.specs.Steps.{GoesOn}
 
 pub eqb_false : (a b : ℕ) → (a ≡ b → ⊥) → eqb a b ≡ false
 eqb_false a b apart = grind (arith, apart)
@@ -81,9 +81,9 @@ module _ (form : UnitForm) (lawful : IsLawful form) where
     goes_whole n told within =
         let span_all : form.span (unit.bytes ++ packet.payload) ≡ whole n = sym span_is ∙ told in
         let is_whole : is_told (form.span (unit.bytes ++ packet.payload)) (length (unit.bytes ++ packet.payload)) ≡ true =
-            ap (λ (s : Span). is_told s (length (unit.bytes ++ packet.payload))) span_all ∙ leb_true n (length (unit.bytes ++ packet.payload)) (omega (arith, held_size)) in
+        ap (λ (s : Span). is_told s (length (unit.bytes ++ packet.payload))) span_all ∙ leb_true n (length (unit.bytes ++ packet.payload)) (omega (arith, held_size)) in
         let front : take n joined ≡ take n (unit.bytes ++ packet.payload) =
-            ap (take n) held ∙ take-take n form.longest (unit.bytes ++ packet.payload) (lawful.whole_most joined n told) in
+        ap (take n) held ∙ take-take n form.longest (unit.bytes ++ packet.payload) (lawful.whole_most joined n told) in
         record {
           events = append-nil (event_by form unit.moment (candidate (take n joined)))
               ∙ ap (λ (t : List ℕ). event_by form unit.moment (candidate t)) front
@@ -95,7 +95,7 @@ module _ (form : UnitForm) (lawful : IsLawful form) where
     goes_bad told =
         let span_all : form.span (unit.bytes ++ packet.payload) ≡ bad = sym span_is ∙ told in
         let is_bad : is_told (form.span (unit.bytes ++ packet.payload)) (length (unit.bytes ++ packet.payload)) ≡ true =
-            ap (λ (s : Span). is_told s (length (unit.bytes ++ packet.payload))) span_all in
+        ap (λ (s : Span). is_told s (length (unit.bytes ++ packet.payload))) span_all in
         record {
           events = sym ((told_goes unit packet plain is_bad).0 ∙ ap (λ (s : Span). event_by form unit.moment (told_by s (unit.bytes ++ packet.payload))) span_all);
           under_way = sym (told_goes unit packet plain is_bad).1;
@@ -123,7 +123,7 @@ module _ (form : UnitForm) (lawful : IsLawful form) where
     goes_open good untold =
         let same : joined ≡ unit.bytes ++ packet.payload = held_whole good untold in
         let untold_all : is_told (form.span (unit.bytes ++ packet.payload)) (length (unit.bytes ++ packet.payload)) ≡ false =
-            ap (λ (t : List ℕ). is_told (form.span t) (length t)) (sym same) ∙ untold in
+        ap (λ (t : List ℕ). is_told (form.span t) (length t)) (sym same) ∙ untold in
         record {
           events = sym (untold_goes unit packet plain untold_all).0;
           under_way = ap (λ (t : List ℕ). record { moment = unit.moment; bytes = t } ∷ []) same ∙ sym (untold_goes unit packet plain untold_all).1;

@@ -1,15 +1,15 @@
 -- What the bytes at a place of a payload make of the events from there on.
-use Rattle.std.proofs.Common.{◌≡◌, ◌⊎◌, inl, inr, ℕ, ◌+◌, ◌<◌, ◌≤◌, Bool, true, false, cond, leb, ltb, List, [], ◌∷◌, ◌++◌, length, take, drop, flat_map, refl, ap, sym, ◌∙◌, subst, arith, length-drop, Option, None, Some}
+use Rattle.std.proofs.Common.{◌≡◌, ◌⊎◌, inl, inr, ℕ, ◌+◌, ◌<◌, ◌≤◌, Bool, true, false, cond, ltb, List, [], ◌∷◌, ◌++◌, length, take, drop, flat_map, refl, ap, sym, ◌∙◌, subst, arith, length-drop, None, Some}
 use Rattle.std.proofs.lemmas.List.{append-nil}
 use Rattle.ts_spec.specs.Form.{UnitForm, Span, more, stuffing, whole, bad, IsLawful}
 use Rattle.ts_spec.specs.Packet.{PacketFields}
-use Rattle.ts_spec.specs.Reassembly.{Outcome, candidate, bad_length, outcome_of, bytes_from, starts_behind}
+use Rattle.ts_spec.specs.Reassembly.{Outcome, outcome_of, bytes_from, starts_behind}
 use Rattle.ts_spec.specs.Events.{Event, unit_event, bad_check_event, bad_length_event, event_by}
 use Rattle.reassembly_law.specs.UnderWay.{Open, is_told, unless_told, nothing_given}
 use Rattle.reassembly_law.specs.Starts.{starts_from}
 use Rattle.reassembly_law.proofs.OneByOne.{step}
 use Rattle.reassembly_law.proofs.Outcomes.{told_by, leb_true, told_outcome, untold_outcome}
-use Rattle.unit_stream.specs.Joining.{Place, drained, reading, events_from, open_from}
+use Rattle.unit_stream.specs.Joining.{Place, drained, reading, open_from}
 use Rattle.unit_stream.specs.Steps.{Reads}
 
 ltb_true : (a b : ℕ) → a < b → ltb a b ≡ true
@@ -92,8 +92,8 @@ module _ (form : UnitForm) (lawful : IsLawful form) (packet : PacketFields) (pla
       → Reads form packet place (Some (cond (form.check (take size bytes)) (unit_event place.moment (take size bytes)) bad_check_event)) (reading (record { moment = place.moment; at = place.at + size }))
   reads_within size enough told within =
       let more_starts : starts_from form packet.payload place.at ≡ place.at ∷ starts_from form packet.payload (place.at + size) =
-          starts_by (whole size) enough told
-          ∙ ap (λ (b : Bool). place.at ∷ cond b (starts_from form packet.payload (place.at + size)) []) (leb_true size (length bytes) within) in
+      starts_by (whole size) enough told
+      ∙ ap (λ (b : Bool). place.at ∷ cond b (starts_from form packet.payload (place.at + size)) []) (leb_true size (length bytes) within) in
       let is : is_told (form.span bytes) (length bytes) ≡ true = ap (λ (s : Span). is_told s (length bytes)) told ∙ leb_true size (length bytes) within in
       let least : 1 ≤ size = omega (arith, lawful.whole_least bytes size told, lawful.start_least) in
       record {
@@ -112,7 +112,7 @@ module _ (form : UnitForm) (lawful : IsLawful form) (packet : PacketFields) (pla
   reads_beyond enough no_stuffing untold =
       let one : starts_from form packet.payload place.at ≡ place.at ∷ [] = by_span (form.span bytes) refl untold in
       let opened : open_from form packet place ≡ record { moment = place.moment; bytes = bytes } ∷ [] =
-          ap (flat_map open_there) one ∙ append-nil (open_there place.at) ∙ open_is false untold in
+      ap (flat_map open_there) one ∙ append-nil (open_there place.at) ∙ open_is false untold in
       record {
         events = ap (flat_map event_there) one ∙ append-nil (event_there place.at) ∙ no_outcome_there untold;
         under_way = opened;

@@ -1,8 +1,8 @@
 -- What a joiner's value tells of its parts.
 use Rattle.std.proofs.Common.{◌≡◌, ℕ, List, refl, Option}
 use Rattle.reassembly_law.specs.UnderWay.{Open}
-use Rattle.unit_stream.specs.Joining.{Place, JoinerState, drained, giving, reading}
-use Rattle.unit_stream.specs.States.{opens_in, rest_of, ended_state, state_in}
+use Rattle.unit_stream.specs.Joining.{Place, drained}
+use Rattle.unit_stream.specs.States.{rest_of, ended_state, state_in}
 use Rattle.unit_stream.specs.declared.joining.UnderWay.{UnderWay}
 use Rattle.unit_stream.specs.declared.joining.Ended.{Ended}
 use Rattle.unit_stream.specs.declared.joining.Ended.TheVariants as how

@@ -4,7 +4,7 @@ use Rattle.ts_spec.specs.Form.{UnitForm}
 use Rattle.ts_spec.specs.Packet.{PacketFields}
 use Rattle.ts_spec.specs.Received.{Arrival}
 use Rattle.ts_spec.specs.Reassembly.{Outcome, outcome_of, bytes_from}
-use Rattle.ts_spec.specs.Events.{Event, unit_event, bad_check_event, delimit_event, bad_length_event, event_by, events_of}
+use Rattle.ts_spec.specs.Events.{Event, event_by, events_of}
 use Rattle.reassembly_law.specs.UnderWay.{Open, unless_told, open_units}
 use Rattle.reassembly_law.specs.Records.{last_bytes}
 use Rattle.reassembly_law.specs.Starts.{starts_from}

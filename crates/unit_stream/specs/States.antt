@@ -1,8 +1,8 @@
 -- What the parts of a joiner stand for.
-use Rattle.std.specs.Prelude.{◌≡◌, ◌≢◌, ◌⊎◌, ℕ, ◌+◌, ◌<◌, ◌≤◌, length, Bool, true, false, List, [], ◌∷◌, take, Option, Some, None}
+use Rattle.std.specs.Prelude.{◌≡◌, ◌≢◌, ◌⊎◌, ℕ, ◌+◌, ◌<◌, ◌≤◌, length, true, false, List, [], ◌∷◌, take, Option, Some, None}
 use Rattle.ts_spec.specs.Form.{UnitForm, stuffing, whole, bad}
 use Rattle.ts_spec.specs.Packet.{PacketFields, pointer, pointer_fits}
-use Rattle.ts_spec.specs.Reassembly.{Outcome, candidate, delimit, bad_length}
+use Rattle.ts_spec.specs.Reassembly.{candidate, delimit, bad_length}
 use Rattle.ts_spec.specs.Events.{Event, unit_event, bad_check_event, delimit_event, bad_length_event}
 use Rattle.reassembly_law.specs.UnderWay.{Open, is_told}
 use Rattle.unit_stream.specs.Joining.{Place, JoinerState, drained, reading, giving}

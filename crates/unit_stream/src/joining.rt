@@ -136,8 +136,10 @@ fn close<F: UnitForm>(buffer: &mut [u8], unit: UnderWay, rest: &[u8]) -> Ended
     match F::span(&buffer[..size]) {
         Span::Whole(whole) => {
             if whole == size && size - unit.size == rest.len() {
-                let moment = unit.moment;
-                Ended::Unit(UnderWay { moment, size })
+                Ended::Unit(UnderWay {
+                    moment: unit.moment,
+                    size: whole,
+                })
             } else {
                 Ended::Delimit
             }
@@ -219,7 +221,13 @@ pub(crate) fn take_packet<F: UnitForm>(
         Front::Misfit => State::Ended(Ended::Delimit, None),
         Front::Absent => take_middle::<F>(buffer, under_way, is_continuous, packet),
         Front::At(at) => {
-            take_start::<F>(buffer, under_way, is_continuous, packet, Position { moment, at })
+            take_start::<F>(
+                buffer,
+                under_way,
+                is_continuous,
+                packet,
+                Position { moment, at },
+            )
         }
     }
 }

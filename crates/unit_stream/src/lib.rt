@@ -11,6 +11,10 @@ mod form;
 mod joiner;
 mod joining;
 mod reading;
+#[cfg(test)]
+mod small;
+#[cfg(test)]
+mod tests;
 
 pub use form::{Span, UnitForm};
 pub use joiner::Joiner;

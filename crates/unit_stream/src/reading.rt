@@ -98,7 +98,10 @@ pub(crate) fn read_start<'u, F: UnitForm>(
                 moment,
                 at: position.at + size,
             };
-            (Some(checked::<F>(moment, &bytes[..size])), State::Reading(next))
+            (
+                Some(checked::<F>(moment, &bytes[..size])),
+                State::Reading(next),
+            )
         }
         Look::Beyond => {
             let size = bytes.len();

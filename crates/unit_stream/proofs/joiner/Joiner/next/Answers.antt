@@ -1,4 +1,4 @@
-use Rattle.std.proofs.Common.{◌≡◌, List, ℕ, ◌++◌, length, take, drop, refl, ap, sym, ◌∙◌, arith, option_map}
+use Rattle.std.proofs.Common.{◌≡◌, ◌++◌, length, take, drop, refl, ap, sym, ◌∙◌, arith, option_map}
 use Rattle.std.proofs.lemmas.List.{take_at}
 use Rattle.ts_packet.specs.Fields.{fields_in}
 use Rattle.unit_stream.specs.Joining.{reading}
@@ -10,9 +10,14 @@ use Rattle.unit_stream.proofs.joiner.Joiner.next.Goals as goal
 pub returns-in-Reading : goal.returns-in-Reading
 returns-in-Reading g c =
     let same : take c.self.inside.buffer.len (c.read_start-state.new.buffer ++ drop (length c.read_start-state.new.buffer) c.self.inside.buffer.items) ≡ c.read_start-state.new.buffer =
-        take_at c.read_start-state.new.buffer (drop (length c.read_start-state.new.buffer) c.self.inside.buffer.items) c.self.inside.buffer.len (omega arith) in
+    take_at c.read_start-state.new.buffer (drop (length c.read_start-state.new.buffer) c.self.inside.buffer.items) c.self.inside.buffer.len (omega arith) in
     let was : reading (place_of c.in-Reading.position) ≡ c.args.self.now =
-        ap (λ (s : State). state_in s c.self.inside.buffer.items) (sym c.in-Reading.is) ∙ c.self.view_is in
-    ((refl, λ _. tt,
-    answers_reading g.F.UnitForm.form c.args.self.now _ (fields_in c.args.packet.now) (place_of c.in-Reading.position) (option_map event_in c.read_start-state.result.0) was
-    (rw same c.read_start-state.ensures.read)), record { rests = tt })
+    ap (λ (s : State). state_in s c.self.inside.buffer.items) (sym c.in-Reading.is) ∙ c.self.view_is in (
+      (
+        refl,
+        λ _. tt,
+        answers_reading g.F.UnitForm.form c.args.self.now _ (fields_in c.args.packet.now) (place_of c.in-Reading.position) (option_map event_in c.read_start-state.result.0) was
+            (rw same c.read_start-state.ensures.read),
+      ),
+      record { rests = tt },
+    )

@@ -1,0 +1,79 @@
+// Packets by hand and the events that they give.
+use super::*;
+use crate::small::SmallForm;
+use std::alloc::Global;
+use std::fmt;
+use std::test::Fail;
+use ts_packet::{Link, Packet};
+
+/// Writes the next event, and answers whether there was one.
+fn write_next(
+    joiner: &mut Joiner<SmallForm, Global>,
+    packet: &Packet<'_>,
+    text: &mut String,
+) -> Result<bool, fmt::Error> {
+    match joiner.next(packet) {
+        None => return Ok(false),
+        Some(JoinEvent::Unit { moment, bytes }) => write!(text, "unit {moment} {bytes:?};")?,
+        Some(JoinEvent::BadCheck) => write!(text, "bad check;")?,
+        Some(JoinEvent::Delimit) => write!(text, "delimit;")?,
+        Some(JoinEvent::BadLength) => write!(text, "bad length;")?,
+    }
+    Ok(true)
+}
+
+/// The packets of one recording, each with its link, its start indicator, its payload and its events.
+#[test]
+fn packets_give_their_events_in_order(rt: HostRuntime) -> Result<(), Fail> {
+    let steps: [(Link, bool, &[u8], &str); 17] = [
+        (Link::First, true, &[0, 4, 7, 7], ""),
+        (Link::Next, false, &[8, 99], "unit 0 [4, 7, 7, 8];"),
+        (Link::Next, true, &[0, 4, 7, 7], ""),
+        (
+            Link::Next,
+            true,
+            &[1, 8, 3, 1, 1, 255],
+            "unit 2 [4, 7, 7, 8];unit 3 [3, 1, 1];",
+        ),
+        (Link::Next, true, &[0, 4, 7, 7], ""),
+        (Link::Next, true, &[2, 8, 8, 2, 5], "delimit;unit 5 [2, 5];"),
+        (Link::Next, true, &[0, 4, 7, 7], ""),
+        (Link::Next, true, &[9, 1], "delimit;"),
+        (Link::Next, true, &[0, 4, 7, 7], ""),
+        (Link::Gap, false, &[8, 99], "delimit;"),
+        (Link::Next, true, &[0, 4, 7, 7], ""),
+        (Link::Gap, true, &[9, 1], "delimit;"),
+        (Link::Next, true, &[0, 1, 2, 5], "bad length;"),
+        (
+            Link::Next,
+            true,
+            &[0, 2, 9, 3, 1, 1],
+            "bad check;unit 13 [3, 1, 1];",
+        ),
+        (Link::Next, true, &[0, 4, 7, 7], ""),
+        (Link::Repeat, true, &[0, 4, 7, 7], ""),
+        (Link::Next, false, &[8], "unit 14 [4, 7, 7, 8];"),
+    ];
+    let alloc = rt.alloc();
+    let mut joiner = Joiner::<SmallForm, Global>::over(vec![in alloc; 0u8; SmallForm::LONGEST]?);
+    for (place, step) in steps.iter().enumerate() {
+        let (link, starts, payload, want) = *step;
+        let moment = place as u64;
+        let packet = Packet {
+            pid: 256,
+            starts,
+            counter: 0,
+            broken: false,
+            payload,
+        };
+        let mut text = String::new(alloc);
+        joiner.feed(link, &packet, moment);
+        for _ in 0..10 {
+            if !write_next(&mut joiner, &packet, &mut text)? {
+                break;
+            }
+        }
+        assert_eq!(rt; text.as_str(), want, "in packet {moment}");
+    }
+    Ok(())
+}
