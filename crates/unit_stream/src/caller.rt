@@ -1,4 +1,4 @@
-// A caller of a joiner, by the contracts alone: it tells the events of each packet, and all of them in order.
+//! A caller of a joiner, by the contracts alone: it tells the events of each packet, and all of them in order.
 ghost use Rattle.std.specs.Prelude.{◌≡◌, ◌<◌, List, [], ◌∷◌, ◌++◌, length, true, false};
 ghost use Rattle.ts_spec.specs.Received.{Arrival, packet_of};
 ghost use Rattle.ts_spec.specs.Events.{Event, events_of};

@@ -1,4 +1,4 @@
-// A kind of unit that transport packets carry, as the code sees it.
+//! A kind of unit that transport packets carry, as the code sees it.
 ghost use Rattle.std.specs.Prelude.{◌≡◌, ℕ};
 ghost use Rattle.ts_spec.specs.Form.{UnitForm as Form, IsLawful};
 ghost use Rattle.unit_stream.specs.Form.{span_told};

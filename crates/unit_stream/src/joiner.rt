@@ -1,4 +1,4 @@
-// Reassembly of units: packets come in one after another, and what became of each unit goes out.
+//! Reassembly of units: packets come in one after another, and what became of each unit goes out.
 ghost use Rattle.std.specs.Prelude.{◌≡◌};
 
 use crate::form::UnitForm;

@@ -1,4 +1,4 @@
-// What a joiner holds, and the steps of reassembly over its buffer.
+//! What a joiner holds, and the steps of reassembly over its buffer.
 ghost use Rattle.std.specs.Prelude.{◌≡◌, ℕ, ◌+◌, ◌≤◌, ◌++◌, List, length, take, min, true, false, Option};
 ghost use Rattle.ts_spec.specs.Packet.{PacketFields, pointer_fits};
 ghost use Rattle.ts_packet.specs.Fields.{fields_in};

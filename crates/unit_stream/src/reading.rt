@@ -1,4 +1,4 @@
-// The units that start in a packet, read one place after another.
+//! The units that start in a packet, read one place after another.
 ghost use Rattle.std.specs.Prelude.{◌≡◌, ◌≤◌, ◌<◌, length, if◌then◌else◌, option_map};
 ghost use Rattle.ts_spec.specs.Events.{unit_event, bad_check_event};
 ghost use Rattle.ts_packet.specs.Fields.{fields_in};

@@ -1,4 +1,4 @@
-// A small kind of unit for tests: its first byte is its length, 2 to 254; FF is stuffing.
+//! A small kind of unit for tests: its first byte is its length, 2 to 254; FF is stuffing.
 ghost use Rattle.std.proofs.Common.{refl};
 ghost use Rattle.reassembly_law.specs.Examples.{small_form};
 ghost use Rattle.reassembly_law.proofs.Small.{small_stream};

@@ -1,4 +1,4 @@
-// Packets by hand and the events that they give.
+//! Packets by hand and the events that they give.
 use super::*;
 use crate::small::SmallForm;
 use std::alloc::Global;
