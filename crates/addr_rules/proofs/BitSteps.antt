@@ -1,5 +1,5 @@
 -- One byte of a comparison of bits, and the bytes behind it.
-use Rattle.std.proofs.Common.{◌≡◌, ⊎_elim, ℕ, suc, ◌+◌, ◌-◌, ◌/◌, ◌%◌, ◌^◌, ◌<◌, ◌≤◌, Bool, true, false, not, ◌&&◌, eqb, List, [], ◌∷◌, ◌++◌, length, get_or, take, drop, drop-cons, min, refl, ap, ap₂, sym, ◌∙◌, subst, arith}
+use Rattle.std.proofs.Common.{◌≡◌, ⊎_elim, ℕ, suc, ◌+◌, ◌-◌, ◌/◌, ◌%◌, ◌^◌, ◌<◌, ◌≤◌, Bool, true, false, not, ◌&&◌, eqb, List, ◌∷◌, ◌++◌, length, get_or, take, drop, drop-cons, min, refl, ap, ap₂, sym, ◌∙◌, subst, arith}
 use Rattle.std.specs.List.{list_all}
 use Rattle.std.proofs.lemmas.Bool.{cases_lt}
 use Rattle.std.proofs.lemmas.List.{take-append-le, drop-append-le}
@@ -45,32 +45,32 @@ same_high left x y xs ys below_x below_y l =
     ∙ same_bits-append (bits 8 x) (bits 8 y) (take (left - 8) (bits_of xs)) (take (left - 8) (bits_of ys)) (length-bits 8 x ∙ sym (length-bits 8 y))
     ∙ ap (λ (t : Bool). t && same_first_bits (left - 8) xs ys) (same_bits-bits 8 x y below_x below_y)
     ∙ (let one_x : x ≡ x / 2 ^ 0 = omega arith in
-      let one_y : y ≡ y / 2 ^ 0 = omega arith in
-      ap₂ (λ u v. eqb u v && same_first_bits (left - 8) xs ys) one_x one_y)
+    let one_y : y ≡ y / 2 ^ 0 = omega arith in
+    ap₂ (λ u v. eqb u v && same_first_bits (left - 8) xs ys) one_x one_y)
 
 -- n bits count in this byte
 pub same_first_bits-cons : (left n x y : ℕ) (xs ys : List ℕ) → x < 256 → y < 256 → n ≡ min left 8
     → same_first_bits left (x ∷ xs) (y ∷ ys) ≡ (eqb (x / 2 ^ (8 - n)) (y / 2 ^ (8 - n)) && same_first_bits (left - n) xs ys)
 same_first_bits-cons left n x y xs ys below_x below_y e =
     ⊎_elim
-      (λ (low : left < 8).
-        let m : left ≡ n = omega arith in
-        let rest : 0 ≡ left - n = omega arith in
-        same_low left x y xs ys below_x below_y (omega arith)
-        ∙ ap₂ (λ i j. eqb (x / 2 ^ (8 - i)) (y / 2 ^ (8 - i)) && same_first_bits j xs ys) m rest)
-      (λ (high : 8 ≤ left).
-        let none : 0 ≡ 8 - n = omega arith in
-        let rest : left - 8 ≡ left - n = omega arith in
-        same_high left x y xs ys below_x below_y high
-        ∙ ap₂ (λ i j. eqb (x / 2 ^ i) (y / 2 ^ i) && same_first_bits j xs ys) none rest)
-      (cases_lt left 8)
+    (λ (low : left < 8).
+    let m : left ≡ n = omega arith in
+    let rest : 0 ≡ left - n = omega arith in
+    same_low left x y xs ys below_x below_y (omega arith)
+    ∙ ap₂ (λ i j. eqb (x / 2 ^ (8 - i)) (y / 2 ^ (8 - i)) && same_first_bits j xs ys) m rest)
+    (λ (high : 8 ≤ left).
+    let none : 0 ≡ 8 - n = omega arith in
+    let rest : left - 8 ≡ left - n = omega arith in
+    same_high left x y xs ys below_x below_y high
+    ∙ ap₂ (λ i j. eqb (x / 2 ^ i) (y / 2 ^ i) && same_first_bits j xs ys) none rest)
+    (cases_lt left 8)
 
 zero_low : (left x : ℕ) (xs : List ℕ) → left ≤ 8 → is_zero_past left (x ∷ xs) ≡ (eqb (x % 2 ^ (8 - left)) 0 && is_zero_past 0 xs)
 zero_low left x xs l =
     let e : 8 ≡ left + (8 - left) = omega arith in
     ap (λ b. list_all not b) (drop-append-le left (bits 8 x) (bits_of xs) (omega (arith, length-bits 8 x))
-      ∙ ap (λ n. drop left (bits n x) ++ bits_of xs) e
-      ∙ ap (λ b. b ++ bits_of xs) (drop-bits left (8 - left) x))
+    ∙ ap (λ n. drop left (bits n x) ++ bits_of xs) e
+    ∙ ap (λ b. b ++ bits_of xs) (drop-bits left (8 - left) x))
     ∙ list_all-append (bits (8 - left) x) (bits_of xs)
     ∙ ap (λ (t : Bool). t && list_all not (bits_of xs)) (no_bit (8 - left) x)
 
@@ -86,20 +86,20 @@ pub is_zero_past-cons : (left n x : ℕ) (xs : List ℕ) → n ≡ min left 8
     → is_zero_past left (x ∷ xs) ≡ (eqb (x % 2 ^ (8 - n)) 0 && is_zero_past (left - n) xs)
 is_zero_past-cons left n x xs e =
     ⊎_elim
-      (λ (low : left < 8).
-        let m : left ≡ n = omega arith in
-        let rest : 0 ≡ left - n = omega arith in
-        zero_low left x xs (omega arith) ∙ ap₂ (λ i j. eqb (x % 2 ^ (8 - i)) 0 && is_zero_past j xs) m rest)
-      (λ (high : 8 ≤ left).
-        let none : 0 ≡ 8 - n = omega arith in
-        let rest : left - 8 ≡ left - n = omega arith in
-        zero_high left x xs high ∙ ap₂ (λ i j. eqb (x % 2 ^ i) 0 && is_zero_past j xs) none rest)
-      (cases_lt left 8)
+    (λ (low : left < 8).
+    let m : left ≡ n = omega arith in
+    let rest : 0 ≡ left - n = omega arith in
+    zero_low left x xs (omega arith) ∙ ap₂ (λ i j. eqb (x % 2 ^ (8 - i)) 0 && is_zero_past j xs) m rest)
+    (λ (high : 8 ≤ left).
+    let none : 0 ≡ 8 - n = omega arith in
+    let rest : left - 8 ≡ left - n = omega arith in
+    zero_high left x xs high ∙ ap₂ (λ i j. eqb (x % 2 ^ i) 0 && is_zero_past j xs) none rest)
+    (cases_lt left 8)
 
 -- the same at a place of the lists
 pub same_first_bits-at : (left n i : ℕ) (a b : List ℕ) → i < length a → i < length b → get_or a i 0 < 256 → get_or b i 0 < 256 → n ≡ min left 8
     → same_first_bits left (drop i a) (drop i b)
-      ≡ (eqb (get_or a i 0 / 2 ^ (8 - n)) (get_or b i 0 / 2 ^ (8 - n)) && same_first_bits (left - n) (drop (i + 1) a) (drop (i + 1) b))
+    ≡ (eqb (get_or a i 0 / 2 ^ (8 - n)) (get_or b i 0 / 2 ^ (8 - n)) && same_first_bits (left - n) (drop (i + 1) a) (drop (i + 1) b))
 same_first_bits-at left n i a b in_a in_b below_a below_b e =
     let one : suc i ≡ i + 1 = omega arith in
     ap₂ (λ (p q : List ℕ). same_first_bits left p q) (drop-cons a i 0 in_a) (drop-cons b i 0 in_b)

@@ -1,3 +1,10 @@
 pub mod BitLemmas
 pub mod BitSteps
 pub mod Cuts
+pub mod MacTexts
+pub mod TextLemmas
+pub mod GroupTexts
+pub mod ZerosBetween
+pub mod DoubleColons
+pub mod EightGroups
+pub mod RuleTexts

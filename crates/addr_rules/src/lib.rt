@@ -7,10 +7,18 @@
 mod bits;
 mod digits;
 mod filter;
+mod ipv4_text;
+mod ipv6_text;
+mod mac_text;
 mod macs;
 mod pieces;
 mod rules;
+#[cfg(test)]
+mod tests;
+mod texts;
 
 pub use filter::{Label, wants};
+pub use mac_text::parse_mac;
 pub use macs::{MacList, mac_of};
 pub use rules::{Rule, RuleList, matches};
+pub use texts::parse_rule;

@@ -19,7 +19,9 @@ pub fn mac_of(address: &IpAddress, unicast: [u8; 6]) -> [u8; 6]
     match address {
         IpAddress::V4([255, 255, 255, 255]) => BROADCAST,
         IpAddress::V4([224..=239, b, c, d]) => [1, 0, 0x5E, *b % 128, *c, *d],
-        IpAddress::V6([0xFF, _, _, _, _, _, _, _, _, _, _, _, m, n, o, p]) => [0x33, 0x33, *m, *n, *o, *p],
+        IpAddress::V6([0xFF, _, _, _, _, _, _, _, _, _, _, _, m, n, o, p]) => [
+            0x33, 0x33, *m, *n, *o, *p,
+        ],
         _ => unicast,
     }
 }
@@ -43,7 +45,9 @@ impl MacList {
     pub fn new(alloc: Global) -> MacList
         ensures written { result ≡ [] }
     {
-        MacList { macs: Vec::new(alloc) }
+        MacList {
+            macs: Vec::new(alloc),
+        }
     }
 
     /// Puts `mac` behind the others. Where memory is wanting the list stays as it was.
