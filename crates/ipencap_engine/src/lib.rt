@@ -1,6 +1,6 @@
 //! The engine: what the program does, over the objects of the outside that it is handed.
 //!
-//! Receiving: recording -> ts_record -> ts_packet -> ule_unit -> datagrams -> pcap_file -> rack.
+//! Receiving: recording -> ts_record -> ts_packet -> unit_stream -> ule_unit -> ule_extension -> pcap_file -> rack.
 //! Begin with `run`.
 #![tactic(auto)]
 

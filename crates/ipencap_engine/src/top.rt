@@ -8,7 +8,6 @@ ghost use Rattle.ipencap_engine.specs.Words.{AsksForUle, IsNoCommand};
 ghost use Rattle.ipencap_engine.specs.Reading.{most_records};
 ghost use Rattle.ipencap_engine.specs.Files.{AddsPart, AddsCapture, AddsPrefix, AddsFront};
 ghost use Rattle.ipencap_engine.specs.Loss.{CarriesUle, IsRecorded, KeepsIntact, KeepsPart};
-ghost use Rattle.ipencap_engine.specs.Outcome.{EndsWhole, EndsFront, EndsPart};
 ghost use Rattle.ipencap_engine.specs.Statuses.{CanCome, Complains, status_line};
 
 use crate::status::{Status, complain};
@@ -23,9 +22,9 @@ use std::alloc::Global;
 /// packets (RFC 4326), and writes the datagrams that they carry to the file `ule.pcap` of `rack`. No other words form a
 /// command yet, so nothing uses `shelf` and `output`.
 ///
-/// The loss law: whatever packets of the recording were dropped, repeated or damaged on their way, if no damaged SNDU
-/// passes its CRC-32, the file holds datagrams that were sent, unchanged, in order and each once, and among them each
-/// whose SNDU arrived intact.
+/// The loss law: whatever packets of the recording were dropped, repeated or damaged on their way, if no damaged or
+/// spliced SNDU passes its CRC-32, the file holds datagrams that were sent, unchanged, in order, that of each SNDU at
+/// most once, and among them each whose SNDU arrived intact.
 ///
 /// `Done`: the input was read to its end. Usage: the words form no command. SourceFault, RackFault: a count of that
 /// object's faults rose. TooLong: 2^32 records were read. OutOfMemory: memory for the file was wanting.

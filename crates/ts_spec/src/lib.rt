@@ -1,4 +1,4 @@
-//! Definitions of transport streams: packets, recordings, reassembly, packetization, SNDUs.
+//! Definitions of transport streams: packets, recordings, reassembly, packetization, SNDUs and their extension headers.
 //!
 //! Words for contracts, and no code but examples of them. They stand on wire_spec.
 //! Standards: ISO/IEC 13818-1 clauses 2.4.3 and 2.4.4, RFC 4326.

@@ -1,8 +1,7 @@
-//! Units in transport packets: packetization and reassembly (ISO/IEC 13818-1 clause 2.4.4, RFC 4326).
+//! Units in transport packets: their reassembly (ISO/IEC 13818-1 clause 2.4.4, RFC 4326 clause 7).
 //!
-//! Sending: section_codec or ule_unit -> [unit_stream] -> ts_packet.
-//! Receiving: ts_packet -> [unit_stream] -> section_codec or ule_unit.
-//! Begin with `Packer::next`, and with `Joiner::feed` and `Joiner::next`.
+//! Receiving: ts_packet -> [unit_stream] -> ule_unit.
+//! Begin with `Joiner::feed` and `Joiner::next`.
 #![tactic(auto)]
 
 #[cfg(test)]
