@@ -27,6 +27,43 @@ pub struct Case<'a> {
     pub want: &'a [Sndu],
 }
 
+// SNDUs of 44 bytes.
+pub const SHORT: Sndu = Sndu {
+    head: &[0x80, 0x28, 8, 0],
+    size: 36,
+    mark: 0,
+    crc: [0x8C, 0xCE, 0xB2, 0xA5],
+};
+
+pub const NEXT: Sndu = Sndu {
+    head: &[0x80, 0x28, 8, 0],
+    size: 36,
+    mark: 1,
+    crc: [0xE1, 0xE5, 0x84, 0x97],
+};
+
+pub const LAST: Sndu = Sndu {
+    head: &[0x80, 0x28, 8, 0],
+    size: 36,
+    mark: 2,
+    crc: [0xF8, 0x3A, 0x5C, 0x7A],
+};
+
+// SNDUs of 400 bytes, which take three packets.
+pub const LONG: Sndu = Sndu {
+    head: &[0x81, 0x8C, 8, 0],
+    size: 392,
+    mark: 3,
+    crc: [0x8A, 0x9D, 0x21, 0x56],
+};
+
+pub const OTHER: Sndu = Sndu {
+    head: &[0x81, 0x8C, 8, 0],
+    size: 392,
+    mark: 4,
+    crc: [0xDC, 0x6F, 0xD4, 0x45],
+};
+
 /// The head of a capture of raw IP datagrams.
 const CAPTURE_HEAD: [u8; 24] = [
     0xD4, 0xC3, 0xB2, 0xA1, 2, 0, 4, 0, 0, 0, 0, 0, 0, 0, 0, 0, 0, 0, 4, 0, 0x65, 0, 0, 0,
@@ -71,7 +108,7 @@ fn recording_of(alloc: Global, stream: &[u8], packets: &[Packet]) -> Result<Vec<
 }
 
 /// The capture of the datagrams that these SNDUs carry.
-fn capture_of(alloc: Global, sndus: &[Sndu]) -> Result<Vec<u8>, Fail> {
+pub fn capture_of(alloc: Global, sndus: &[Sndu]) -> Result<Vec<u8>, Fail> {
     let mut capture = Vec::from_slice(alloc, &CAPTURE_HEAD)?;
     for sndu in sndus {
         let [high, low] = sndu.size.to_be_bytes();
@@ -82,43 +119,47 @@ fn capture_of(alloc: Global, sndus: &[Sndu]) -> Result<Vec<u8>, Fail> {
     Ok(capture)
 }
 
-/// The file that a case must write.
-pub fn expected(alloc: Global, case: &Case<'_>) -> Result<Vec<u8>, Fail> {
-    capture_of(alloc, case.want)
-}
-
-/// The file that `ule 256` writes for the packets of a case.
-pub fn written(alloc: Global, case: &Case<'_>) -> Result<Vec<u8>, Fail> {
-    let stream = stream_of(alloc, case.stream)?;
-    let recording = recording_of(alloc, &stream, case.packets)?;
+/// The file that `ule 256` writes for the packets of a stream.
+pub fn written(alloc: Global, stream: &[Sndu], packets: &[Packet]) -> Result<Vec<u8>, Fail> {
+    let stream = stream_of(alloc, stream)?;
+    let recording = recording_of(alloc, &stream, packets)?;
     receive(alloc, &recording)
 }
 
 /// The file that `ule 256` writes for a recording: the one of the rack, and flushed.
-pub fn receive(alloc: Global, recording: &[u8]) -> Result<Vec<u8>, Fail> {
-    let mut shelf = MemShelf::new(alloc, "plan", &[], &[])?;
+fn receive(alloc: Global, recording: &[u8]) -> Result<Vec<u8>, Fail> {
     let mut input = MemSource::new(alloc, recording, 100, &[])?;
-    let mut output = MemSink::new(alloc, 0, &[])?;
     let mut rack = MemRack::new(alloc, 1, 10_000, &[])?;
+    if obey(alloc, &mut input, &mut rack)? != Status::Done {
+        Err("not done")?;
+    }
+    if rack.files() != 1 {
+        Err("not one file")?;
+    }
+    if rack.name(0) != "ule.pcap" || rack.flushed(0) != rack.file(0).len() {
+        Err("another name, or not flushed")?;
+    }
+    Ok(Vec::from_slice(alloc, rack.file(0))?)
+}
+
+/// Runs the program with the words `ule 256`.
+fn obey(alloc: Global, input: &mut MemSource, rack: &mut MemRack) -> Result<Status, Fail> {
+    let words = words(alloc)?;
+    let mut shelf = MemShelf::new(alloc, "plan", &[], &[])?;
+    let mut output = MemSink::new(alloc, 0, &[])?;
     let mut complaints = MemSink::new(alloc, 0, &[])?;
-    let words = vec![in alloc; "ule".to_string(alloc)?, "256".to_string(alloc)?]?;
-    let status = run(
+    Ok(run(
         alloc,
         &words,
         &mut shelf,
-        &mut input,
+        input,
         &mut output,
-        &mut rack,
+        rack,
         &mut complaints,
-    );
-    if status != Status::Done {
-        Err("not done")?;
-    }
-    if rack.files() != 1 || rack.name(0) != "ule.pcap" {
-        Err("not the one file")?;
-    }
-    if rack.flushed(0) != rack.file(0).len() {
-        Err("not flushed")?;
-    }
-    Ok(Vec::from_slice(alloc, rack.file(0))?)
+    ))
+}
+
+/// The words behind the program's name.
+fn words(alloc: Global) -> Result<Vec<String>, Fail> {
+    Ok(vec![in alloc; "ule".to_string(alloc)?, "256".to_string(alloc)?]?)
 }

@@ -6,4 +6,8 @@
 #[cfg(test)]
 mod by_hand;
 #[cfg(test)]
+mod damage_tests;
+#[cfg(test)]
+mod header_tests;
+#[cfg(test)]
 mod tests;
