@@ -7,7 +7,7 @@ ghost use Rattle.ts_spec.specs.Form.{IsLawful, IsUnit, whole};
 ghost use Rattle.ts_spec.specs.Sndu.{sndu_form, sndu_span, sndu_fields, sndu_bytes, is_sndu};
 ghost use Rattle.ule_unit.specs.Writable.{IsWritable};
 
-/// Two bytes of an SNDU tell its length, which is 8 to 32,771 bytes, or that there is none.
+/// SNDUs are a lawful kind of unit: four bytes tell their length, what is told stays, and none is longer than LONGEST.
 pub fn sndus_are_lawful()
     ensures lawful { IsLawful sndu_form }
 {}
