@@ -14,8 +14,8 @@ const FRONT: [u8; 33] = [
 /// The capture of its datagram: the file's head, the record's head, the datagram.
 const FILE: [u8; 60] = [
     0xD4, 0xC3, 0xB2, 0xA1, 2, 0, 4, 0, 0, 0, 0, 0, 0, 0, 0, 0, 0, 0, 4, 0, 0x65, 0, 0, 0, 0, 0, 0,
-    0, 0, 0, 0, 0, 0x14, 0, 0, 0, 0x14, 0, 0, 0, 0x45, 0, 0, 0x14, 0, 0, 0, 0, 0x40, 0x11, 0, 0, 0x0A,
-    0, 0, 1, 0xEF, 1, 2, 3,
+    0, 0, 0, 0, 0, 0x14, 0, 0, 0, 0x14, 0, 0, 0, 0x45, 0, 0, 0x14, 0, 0, 0, 0, 0x40, 0x11, 0, 0,
+    0x0A, 0, 0, 1, 0xEF, 1, 2, 3,
 ];
 
 /// The packet, on a PID of the lowest 8 bits and with a counter.
@@ -88,7 +88,10 @@ fn words_that_form_no_command_add_no_file(rt: HostRuntime) -> Result<(), Fail> {
         let ran = ran(rt.alloc(), words, &packet(0, 0), &[], &[])?;
         assert_eq!(rt; ran.status, Status::Usage);
         assert_eq!(rt; ran.rack.files(), 0);
-        assert_eq!(rt; ran.complaints.bytes(), "ipencap: usage: send SETTINGS, receive SETTINGS, ule PID, check SETTINGS, sample NUMBER\n".as_bytes());
+        assert_eq!(rt;
+            ran.complaints.bytes(),
+            "ipencap: usage: send SETTINGS, receive SETTINGS, ule PID, check SETTINGS, sample NUMBER\n".as_bytes()
+        );
     }
     Ok(())
 }

@@ -9,8 +9,8 @@ ghost use Rattle.ts_spec.specs.Sndu.{is_sndu, sndu_fields, has_right_length, snd
 ghost use Rattle.ule_unit.specs.Views.{fields_in, refusal};
 
 use crate::form::{ADDRESS, CRC, D, HEAD, NO_ADDRESS, has_its_crc, span_of};
-use unit_stream::Span;
 use crc_unit::crc32;
+use unit_stream::Span;
 
 /// An SNDU: its NPA address, its Type, and what stands behind these and before the CRC-32.
 #[derive(Clone, Copy, Debug, PartialEq, Eq)]
