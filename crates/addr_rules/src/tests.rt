@@ -3,7 +3,7 @@ use super::*;
 use ip_datagram::IpAddress;
 use std::test::Fail;
 
-/// 2001:db8::1 of RFC 4291 section 2.2, and ff0e::/16 of its section 2.7.
+/// 2001:db8::1, of the prefix for documentation (RFC 3849), and ff0e::/16 (RFC 4291 section 2.7).
 const DOCUMENTED: [u8; 16] = [0x20, 1, 0x0D, 0xB8, 0, 0, 0, 0, 0, 0, 0, 0, 0, 0, 0, 1];
 
 const GLOBAL: [u8; 16] = [0xFF, 0x0E, 0, 0, 0, 0, 0, 0, 0, 0, 0, 0, 0, 0, 0, 0];

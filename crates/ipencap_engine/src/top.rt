@@ -27,7 +27,8 @@ use std::alloc::Global;
 /// most once, and among them each whose SNDU arrived intact.
 ///
 /// `Done`: the input was read to its end. Usage: the words form no command. SourceFault, RackFault: a count of that
-/// object's faults rose. TooLong: 2^32 records were read. OutOfMemory: memory for the file was wanting.
+/// object's faults rose. TooLong: 2^32 records were read. OutOfMemory: memory was wanting; all is taken before the first
+/// record is read.
 pub fn run<S: Shelf, I: Source, O: Sink, R: Rack, E: Sink>(
     alloc: Global,
     words: &[String],
