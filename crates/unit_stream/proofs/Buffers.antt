@@ -1,6 +1,6 @@
 -- Bytes put behind others in a buffer.
-use Rattle.std.proofs.Common.{◌≡◌, ℕ, ◌+◌, ◌-◌, ◌≤◌, min, List, ◌++◌, length, take, ap, sym, ◌∙◌, arith}
-use Rattle.std.proofs.lemmas.List.{length-take-le, take_min, take_at}
+use Rattle.std.proofs.Common.{◌≡◌, ℕ, ◌+◌, ◌-◌, ◌≤◌, min, List, ◌∷◌, ◌++◌, length, take, drop, replicate, one-add, zero-add, ap, sym, ◌∙◌, arith}
+use Rattle.std.proofs.lemmas.List.{length-take-le, take_min, take_at, drop-replicate}
 use Rattle.std.proofs.lemmas.Slice.{take-put_mid}
 use Rattle.std.proofs.Math.Seq.{take-append-add}
 use borrow.Rule.Slice.PartMut.{put_mid}
@@ -21,3 +21,17 @@ append_is buffer piece put size count k fits is put_is =
 -- the front of a buffer into which bytes were copied
 pub copy_is : (put bytes behind : List ℕ) → put ≡ bytes → take (length bytes) (put ++ behind) ≡ bytes
 copy_is put bytes behind same = take_at put behind (length bytes) (ap length same) ∙ same
+
+-- bytes behind a pointer, and bytes FF behind them
+pub pointer_written : (pointer room : ℕ) (bytes : List ℕ)
+    → take 1 (pointer ∷ replicate room 0xFF) ++ (bytes ++ drop (1 + length bytes) (pointer ∷ replicate room 0xFF)) ≡ pointer ∷ (bytes ++ replicate (room - length bytes) 0xFF)
+pointer_written pointer room bytes =
+    ap (λ (n : ℕ). pointer ∷ (bytes ++ drop n (pointer ∷ replicate room 0xFF))) (one-add (length bytes))
+    ∙ ap (λ (t : List ℕ). pointer ∷ (bytes ++ t)) (drop-replicate (length bytes) room 0xFF)
+
+-- bytes, and bytes FF behind them
+pub bytes_written : (room : ℕ) (bytes : List ℕ)
+    → take 0 (replicate room 0xFF) ++ (bytes ++ drop (0 + length bytes) (replicate room 0xFF)) ≡ bytes ++ replicate (room - length bytes) 0xFF
+bytes_written room bytes =
+    ap (λ (n : ℕ). bytes ++ drop n (replicate room 0xFF)) (zero-add (length bytes))
+    ∙ ap (λ (t : List ℕ). bytes ++ t) (drop-replicate (length bytes) room 0xFF)

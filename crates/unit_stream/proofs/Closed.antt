@@ -9,7 +9,8 @@ use Rattle.reassembly_law.specs.UnderWay.{Open, is_told, nothing_given, given_ne
 use Rattle.reassembly_law.proofs.Outcomes.{leb_true, true_leb, false_leb}
 use Rattle.unit_stream.specs.Joining.{Place, giving, rest_events}
 use Rattle.unit_stream.specs.Steps.{Closes, pointed}
-use Rattle.unit_stream.proofs.Resumed.{eqb_false, eqb_true, leb_false, span-take}
+use Rattle.unit_stream.proofs.Resumed.{span-take}
+use Rattle.unit_stream.proofs.Numbers.{eqb_false, eqb_true, leb_false}
 
 -- what a unit under way and the pointer's bytes are together
 abbrev closed : List ℕ → List ℕ → Given

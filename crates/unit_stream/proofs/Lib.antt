@@ -1,3 +1,4 @@
+pub mod Numbers
 pub mod Buffers
 pub mod Resumed
 pub mod Closed
@@ -5,3 +6,11 @@ pub mod Started
 pub mod Fed
 pub mod Views
 pub mod Answered
+pub mod Between
+pub mod Filled
+pub mod Left
+pub mod Parts
+pub mod Written
+pub mod Edges
+pub mod Laid
+pub mod Carried

@@ -1,5 +1,5 @@
 -- What one packet makes of a unit under way, by the bytes that the buffer then holds.
-use Rattle.std.proofs.Common.{◌≡◌, ◌⊎◌, inl, inr, ℕ, ◌<◌, ◌≤◌, Bool, true, false, cond, not, ◌&&◌, min, leb, eqb, List, [], ◌∷◌, ◌++◌, length, take, drop, refl, ap, sym, ◌∙◌, subst, arith, None}
+use Rattle.std.proofs.Common.{◌≡◌, ◌⊎◌, inl, inr, ℕ, ◌<◌, ◌≤◌, Bool, true, false, cond, not, ◌&&◌, min, leb, List, [], ◌∷◌, ◌++◌, length, take, drop, refl, ap, sym, ◌∙◌, subst, arith, None}
 use Rattle.std.proofs.lemmas.List.{append-nil, take-append-drop, take_all, length-take, length-take-le, take-take}
 use Rattle.ts_spec.specs.Form.{UnitForm, Span, more, stuffing, whole, bad, IsLawful}
 use Rattle.ts_spec.specs.Packet.{PacketFields}
@@ -11,15 +11,6 @@ use Rattle.reassembly_law.proofs.Outcomes.{told_by, leb_true, true_leb, false_le
 use Rattle.reassembly_law.proofs.Room.{stays_unit}
 use Rattle.unit_stream.specs.Joining.{drained, giving}
 use Rattle.unit_stream.specs.Steps.{GoesOn}
-
-pub eqb_false : (a b : ℕ) → (a ≡ b → ⊥) → eqb a b ≡ false
-eqb_false a b apart = grind (arith, apart)
-
-pub eqb_true : (a b : ℕ) → a ≡ b → eqb a b ≡ true
-eqb_true a b same = grind arith
-
-pub leb_false : (a b : ℕ) → b < a → leb a b ≡ false
-leb_false a b less = grind arith
 
 module _ (form : UnitForm) (lawful : IsLawful form) where
   -- as many bytes as a buffer holds tell the same as all

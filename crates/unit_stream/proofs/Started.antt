@@ -9,14 +9,9 @@ use Rattle.reassembly_law.specs.UnderWay.{Open, is_told, unless_told, nothing_gi
 use Rattle.reassembly_law.specs.Starts.{starts_from}
 use Rattle.reassembly_law.proofs.OneByOne.{step}
 use Rattle.reassembly_law.proofs.Outcomes.{told_by, leb_true, told_outcome, untold_outcome}
+use Rattle.unit_stream.proofs.Numbers.{ltb_true, ltb_false}
 use Rattle.unit_stream.specs.Joining.{Place, drained, reading, open_from}
 use Rattle.unit_stream.specs.Steps.{Reads}
-
-ltb_true : (a b : ℕ) → a < b → ltb a b ≡ true
-ltb_true a b less = grind arith
-
-ltb_false : (a b : ℕ) → b ≤ a → ltb a b ≡ false
-ltb_false a b le = grind arith
 
 module _ (form : UnitForm) (lawful : IsLawful form) (packet : PacketFields) (place : Place) (bytes : List ℕ) (there : bytes ≡ drop place.at packet.payload) where
   abbrev event_there : ℕ → List Event

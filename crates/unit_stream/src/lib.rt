@@ -1,7 +1,8 @@
-//! Units in transport packets: their reassembly (ISO/IEC 13818-1 clause 2.4.4, RFC 4326 clause 7).
+//! Units in transport packets: packetization and reassembly (ISO/IEC 13818-1 clause 2.4.4, RFC 4326 sections 6 and 7).
 //!
+//! Sending: ule_unit -> [unit_stream] -> ts_packet.
 //! Receiving: ts_packet -> [unit_stream] -> ule_unit.
-//! Begin with `Joiner::feed` and `Joiner::next`.
+//! Begin with `Packer::next`, and with `Joiner::feed` and `Joiner::next`.
 #![tactic(auto)]
 
 #[cfg(test)]
@@ -9,6 +10,8 @@ mod caller;
 mod form;
 mod joiner;
 mod joining;
+mod laws;
+mod packer;
 mod reading;
 #[cfg(test)]
 mod small;
@@ -17,4 +20,6 @@ mod tests;
 
 pub use form::{Span, UnitForm};
 pub use joiner::Joiner;
+pub use laws::packetized_units_are_carried;
+pub use packer::{Packer, count_packets};
 pub use reading::JoinEvent;

@@ -77,3 +77,47 @@ fn packets_give_their_events_in_order(rt: HostRuntime) -> Result<(), Fail> {
     }
     Ok(())
 }
+
+/// Units of 4, 3 and 200 bytes: with packing they fill two packets, without it four.
+#[test]
+fn units_are_packetized(rt: HostRuntime) {
+    let mut bytes = [7u8; 207];
+    bytes[0] = 4;
+    bytes[4] = 3;
+    bytes[7] = 200;
+    let ends = [4, 7, 207];
+    let heads: [(bool, &[[u8; 7]]); 2] = [
+        (
+            true,
+            &[
+                [0x47, 0x41, 0, 0x10, 0, 4, 7],
+                [0x47, 0x01, 0, 0x11, 7, 7, 7],
+            ],
+        ),
+        (
+            false,
+            &[
+                [0x47, 0x41, 0, 0x10, 0, 4, 7],
+                [0x47, 0x41, 0, 0x11, 0, 3, 7],
+                [0x47, 0x41, 0, 0x12, 0, 200, 7],
+                [0x47, 0x01, 0, 0x13, 7, 7, 7],
+            ],
+        ),
+    ];
+    for (packing, wants) in heads {
+        let mut packer = Packer::<SmallForm>::new(256, packing);
+        let mut packet = [0; 188];
+        for want in wants {
+            assert!(rt; packer.next(&bytes, &ends, &mut packet));
+            assert!(rt; packet[..7] == want[..], "{packet:?}");
+        }
+        assert!(rt; !packer.next(&bytes, &ends, &mut packet));
+        assert_eq!(rt;
+            count_packets::<SmallForm>(&ends, packing),
+            wants.len() as u64
+        );
+        packer.again();
+        assert!(rt; packer.next(&bytes, &ends, &mut packet));
+        assert_eq!(rt; usize::from(packet[3]), 0x10 + wants.len());
+    }
+}

@@ -4,7 +4,8 @@ use Rattle.reassembly_law.specs.UnderWay.{is_told}
 use Rattle.unit_stream.specs.declared.form.Span.{Span}
 use Rattle.unit_stream.specs.Form.{span_told}
 use Rattle.unit_stream.specs.States.{open_in}
-use Rattle.unit_stream.proofs.Resumed.{goes_whole_in, goes_bad_in, goes_open_in, held_is, leb_false}
+use Rattle.unit_stream.proofs.Resumed.{goes_whole_in, goes_bad_in, goes_open_in, held_is}
+use Rattle.unit_stream.proofs.Numbers.{leb_false}
 use Rattle.unit_stream.proofs.joining.go_on.Goals as goal
 
 pub returns-then-whole-size-clause-goes : goal.returns-then-whole-size-clause-goes
