@@ -102,14 +102,15 @@ type Case<'a> = (&'a [(u8, u8)], usize, usize);
 #[test]
 fn recordings_give_their_datagrams(rt: HostRuntime) -> Result<(), Fail> {
     let alloc = rt.alloc();
-    let cases: [Case; 8] = [
+    let cases: [Case; 9] = [
         (&[], 0, 0),
         (&[], 187, 0),
         (&[(0, 0)], 0, 1),
         (&[(0, 0)], 100, 1),
         (&[(1, 0)], 0, 0),
-        // a duplicate; one with a packet of another PID before it, or 15 lost
+        // a duplicate, at once or behind another PID's packet: 15 packets may be lost between, and nothing tells
         (&[(0, 0), (0, 0)], 0, 1),
+        (&[(0, 0), (0, 0), (0, 0)], 0, 1),
         (&[(0, 0), (1, 0), (0, 0)], 0, 1),
         (&[(0, 0), (0, 1), (0, 2)], 0, 3),
     ];
@@ -127,6 +128,7 @@ fn recordings_give_their_datagrams(rt: HostRuntime) -> Result<(), Fail> {
         }
         let ran = ran(alloc, &["ule", "256"], &bytes, &[], &[])?;
         assert_eq!(rt; ran.status, Status::Done);
+        assert!(rt; ran.rack.files() == 1);
         assert_eq!(rt; ran.rack.name(0), "ule.pcap");
         assert_eq!(rt; ran.rack.file(0), file.as_slice());
         assert_eq!(rt; ran.rack.flushed(0), file.len());
@@ -158,6 +160,7 @@ fn faults_end_the_run_and_leave_a_front(rt: HostRuntime) -> Result<(), Fail> {
             rack_fails,
         )?;
         assert_eq!(rt; ran.status, status);
+        assert!(rt; ran.rack.files() == 1 && length <= FILE.len());
         assert_eq!(rt; ran.rack.file(0), &FILE[..length]);
         assert_eq!(rt; ran.rack.flushed(0), 0);
         assert_eq!(rt; ran.complaints.bytes(), line.as_bytes());
