@@ -5,6 +5,7 @@
 //! Begin with `crc32` and `crc8`; `crc32_step` goes on from a register, for a unit in pieces.
 #![tactic(auto)]
 
+mod eights;
 mod plain;
 mod register32;
 mod register8;

@@ -5,7 +5,7 @@ use Rattle.wire_spec.specs.Bytes.{AreBytes}
 use Rattle.crc_unit.specs.Entry.{crc32_entry}
 use Rattle.crc_unit.proofs.Entries.{after_8, after_16, after_24, after_32, after_40, after_48, after_56, after_64}
 use Rattle.crc_unit.proofs.ByEntries.{eight_run}
-use Rattle.crc_unit.proofs.register32.eight_step.Goals as goal
+use Rattle.crc_unit.proofs.eights.eight_step.Goals as goal
 
 pub returns : goal.returns
 returns c =
