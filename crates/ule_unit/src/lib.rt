@@ -2,7 +2,7 @@
 //!
 //! Sending: datagram -> [ule_unit] -> unit_stream -> ts_packet.
 //! Receiving: ts_packet -> unit_stream -> [ule_unit] -> ule_extension -> datagram.
-//! Begin with `read` and `write`; `UleForm` is their form for unit_stream.
+//! Begin with `read` (`read_checked` for a unit of reassembly) and `write`; `UleForm` is their form for unit_stream.
 #![tactic(auto)]
 
 mod form;
@@ -11,7 +11,7 @@ mod sndu;
 
 pub use form::UleForm;
 pub use laws::{a_written_sndu_reads_back, sndus_are_lawful, sndus_are_units};
-pub use sndu::{Sndu, UleFault, read, write};
+pub use sndu::{Sndu, UleFault, read, read_checked, write};
 
 #[cfg(test)]
 mod tests;

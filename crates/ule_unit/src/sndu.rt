@@ -3,7 +3,7 @@
 //! Reading: one whole unit comes in, and its fields go out, or why it is no SNDU.
 //! Writing: an address, a Type and a PDU come in, and the unit goes into the caller's bytes.
 
-ghost use Rattle.std.specs.Prelude.{◌≡◌, ◌≤◌, ◌+◌, ◌++◌, length, take, drop, IfOk, is_ok};
+ghost use Rattle.std.specs.Prelude.{◌≡◌, ◌≤◌, ◌+◌, ◌++◌, length, take, drop, true, IfOk, IfSome, is_ok, is_some};
 ghost use Rattle.std.specs.Result.{result_err};
 ghost use Rattle.ts_spec.specs.Sndu.{is_sndu, sndu_fields, has_right_length, sndu_bytes, sndu_front, address_bytes, head_number};
 ghost use Rattle.ule_unit.specs.Views.{fields_in, refusal};
@@ -58,21 +58,47 @@ pub fn read(unit: &[u8]) -> Result<Sndu<'_>, UleFault>
     if !has_its_crc(unit) {
         return Err(UleFault::Crc);
     }
+    Ok(fields_of(unit))
+}
+
+/// Reads one whole SNDU whose CRC-32 was compared before, as that of each unit is that reassembly gives: it is not
+/// compared again.
+///
+/// None: the bytes are not as many as Length says, Length has no room for the address and the CRC-32, or there is an
+/// End Indicator.
+pub fn read_checked(unit: &[u8]) -> Option<Sndu<'_>>
+    ensures only { is_some result ≡ has_right_length unit.now }
+    ensures read { IfSome result (λ s. fields_in s ≡ sndu_fields unit.now) }
+    ensures within { IfSome result (λ s. length s.bytes.now ≤ length unit.now) }
+{
+    if is_whole(unit) {
+        Some(fields_of(unit))
+    } else {
+        None
+    }
+}
+
+/// The fields of bytes that are as many as Length says.
+fn fields_of(unit: &[u8]) -> Sndu<'_>
+    requires { has_right_length unit.now ≡ true }
+    ensures read { fields_in result ≡ sndu_fields unit.now }
+    ensures within { length result.bytes.now ≤ length unit.now }
+{
     let end = unit.len() - CRC;
     let first_type = u16::from(unit[2]) * 256 + u16::from(unit[3]);
     if unit[0] >= NO_ADDRESS {
-        return Ok(Sndu {
+        return Sndu {
             npa: None,
             first_type,
             bytes: &unit[HEAD..end],
-        });
+        };
     }
     let npa = [unit[4], unit[5], unit[6], unit[7], unit[8], unit[9]];
-    Ok(Sndu {
+    Sndu {
         npa: Some(npa),
         first_type,
         bytes: &unit[HEAD + ADDRESS..end],
-    })
+    }
 }
 
 /// Writes the SNDU with this address, Type and datagram to the front of `into`; answers its length.

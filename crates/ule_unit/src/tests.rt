@@ -1,6 +1,6 @@
 //! SNDUs from outside: the example of RFC 4326 appendix B, and one whose CRC-32 an independent program gave.
 
-use crate::{Sndu, UleFault, UleForm, read, write};
+use crate::{Sndu, UleFault, UleForm, read, read_checked, write};
 use unit_stream::{Span, UnitForm};
 
 /// RFC 4326 appendix B: an IPv6 datagram with an NPA address.
@@ -55,6 +55,8 @@ fn fields_are_read_and_each_fault_is_named(rt: HostRuntime) {
     for (unit, want) in cases {
         assert_eq!(rt; read(unit), want);
     }
+    assert_eq!(rt; read_checked(&WITH_ADDRESS), Some(with));
+    assert_eq!(rt; read_checked(&long), None);
 }
 
 /// The same SNDUs are written of their fields, and no byte behind them.
