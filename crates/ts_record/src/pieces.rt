@@ -12,6 +12,7 @@ pub(crate) fn fill_both<S: Source>(
     packet: &mut [u8; 188],
 ) -> Result<usize, Failed>
     requires { length stamp.old ≤ 8 }
+    ensures size { length packet.new ≡ 188 }
     ensures bound { IfOk result (λ n. n ≤ length stamp.new + 188) }
     ensures read { IfOk result (λ n.
         Consumes (S.left source.old) (S.left source.new) (take n (stamp.new ++ packet.new))) }

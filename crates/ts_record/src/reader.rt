@@ -92,19 +92,23 @@ impl RecordReader {
         }
         let size = stamp_size(self.recording);
         let mut stamp = [0; 8];
-        let mut bytes = [0; 188];
-        let Ok(count) = fill_both(source, &mut stamp[..size], &mut bytes) else {
+        let mut record = Record {
+            moment: None,
+            bytes: [0; 188],
+        };
+        let Ok(count) = fill_both(source, &mut stamp[..size], &mut record.bytes) else {
             self.is_open = false;
             return Err(RecordFault::Failed);
         };
-        if count < size + bytes.len() {
+        if count < size + record.bytes.len() {
             self.tail = count as u32;
             return Ok(None);
         }
         let moment = moment_of(self.recording, self.before, &stamp);
         self.count += 1;
         self.before = moment;
-        Ok(Some(Record { moment, bytes }))
+        record.moment = moment;
+        Ok(Some(record))
     }
 
     /// How many bytes, fewer than a record has, stood before the end of the input: 0 until `next` answers None.
