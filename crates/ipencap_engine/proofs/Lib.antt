@@ -8,3 +8,4 @@ pub mod Cuts
 pub mod Commands
 pub mod Lines
 pub mod Losses
+pub mod Checked

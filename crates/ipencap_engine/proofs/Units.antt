@@ -23,13 +23,9 @@ whole_of n more e = absurd (cc)
 whole_of n stuffing e = absurd (cc)
 whole_of n bad e = absurd (cc)
 
-both_left : (a b : Bool) → (a && b) ≡ true → a ≡ true
-both_left true b e = refl
-both_left false b e = e
-
--- an SNDU has 32,771 bytes at most
-pub sndu_is_short : (unit : List ℕ) → is_sndu unit ≡ true → length unit ≤ 32771
-sndu_is_short unit e = sndu_lawful.whole_most unit (length unit) (whole_of (length unit) (sndu_span unit) (both_left (has_right_length unit) (has_right_crc unit) e))
+-- what has the length that it tells has 32,771 bytes at most
+pub whole_is_short : (unit : List ℕ) → has_right_length unit ≡ true → length unit ≤ 32771
+whole_is_short unit e = sndu_lawful.whole_most unit (length unit) (whole_of (length unit) (sndu_span unit) e)
 
 -- the datagram of an event, of which only the CRC-32 is known to be right
 abbrev carried_plainly : Event → List (List ℕ)

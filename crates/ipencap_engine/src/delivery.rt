@@ -4,7 +4,7 @@ ghost use Rattle.wire_spec.specs.Causes.{HasCause};
 ghost use Rattle.wire_spec.specs.Content.{File, PutsInFile};
 ghost use Rattle.ts_spec.specs.Received.{Arrival, packet_of};
 ghost use Rattle.ts_spec.specs.Events.{Event, events_of};
-ghost use Rattle.ts_spec.specs.Sndu.{sndu_form};
+ghost use Rattle.ts_spec.specs.Sndu.{sndu_form, has_right_crc};
 ghost use Rattle.ts_packet.specs.Fields.{fields_in};
 ghost use Rattle.unit_stream.specs.Joining.{Stands, IsLinked, packets_with, steps_left};
 ghost use Rattle.pcap_file.specs.Capture.{capture_record};
@@ -15,7 +15,7 @@ use pcap_file::record_head;
 use std::alloc::Allocator;
 use ts_packet::{Link, Packet};
 use ule_extension::datagram;
-use ule_unit::{UleForm, read};
+use ule_unit::{UleForm, read_checked};
 use unit_stream::{JoinEvent, Joiner};
 
 /// Feeds a packet to the reassembly of its PID, and writes the datagrams of all units that end in it.
@@ -80,10 +80,10 @@ fn put_event<A: Allocator, R: Rack>(
     }
 }
 
-/// Writes the datagram that a unit carries, where it carries one.
+/// Writes the datagram that a unit carries, where it carries one. Its CRC-32 was compared before.
 fn put_unit<R: Rack>(unit: &[u8], rack: &mut R, at: u32) -> Result<(), Failed>
     requires { at < R.count rack.old }
-    ensures written { PutsInFile result (R.files rack.old) (R.files rack.new) at (records_text (carried_by unit.now)) }
+    ensures written { has_right_crc unit.now ≡ true → PutsInFile result (R.files rack.old) (R.files rack.new) at (records_text (carried_by unit.now)) }
     ensures count { R.count rack.new ≡ R.count rack.old }
     ensures cause { HasCause (R.faults rack.old) (R.faults rack.new) result }
 {
@@ -93,18 +93,18 @@ fn put_unit<R: Rack>(unit: &[u8], rack: &mut R, at: u32) -> Result<(), Failed>
     }
 }
 
-/// The datagram that a unit carries behind its extension headers.
-#[tactic(auto, using(crate::proofs::Units::sndu_is_short))]
+/// The datagram that a unit carries behind its extension headers. Its CRC-32 was compared before.
+#[tactic(auto, using(crate::proofs::Units::whole_is_short))]
 fn datagram_in(unit: &[u8]) -> Option<&[u8]>
-    ensures read { option_to_list (option_copied result) ≡ carried_by unit.now }
+    ensures read { has_right_crc unit.now ≡ true → option_to_list (option_copied result) ≡ carried_by unit.now }
     ensures small { IfSome result (λ datagram. length datagram.now ≤ 32771) }
 {
-    match read(unit) {
-        Ok(sndu) => match datagram(sndu.first_type, sndu.bytes) {
+    match read_checked(unit) {
+        Some(sndu) => match datagram(sndu.first_type, sndu.bytes) {
             Ok(datagram) => Some(datagram),
             Err(_) => None,
         },
-        Err(_) => None,
+        None => None,
     }
 }
 

@@ -2,11 +2,11 @@
 ghost use Rattle.std.specs.Prelude.{◌≡◌, ◌≢◌, ℕ, ◌*◌, ◌<◌, ◌⊎◌, true, List, Some, map, string_bytes};
 ghost use Rattle.std.specs.Io.KnownBytes.{IsAtEnd};
 ghost use Rattle.wire_spec.specs.Causes.{Rose, RoseBy, raised};
-ghost use Rattle.pcap_file.specs.Capture.{capture_head};
+ghost use Rattle.wire_spec.specs.Content.{Stays};
 ghost use Rattle.ts_spec.specs.Recording.{Record};
 ghost use Rattle.ipencap_engine.specs.Words.{AsksForUle, IsNoCommand};
 ghost use Rattle.ipencap_engine.specs.Reading.{most_records};
-ghost use Rattle.ipencap_engine.specs.Files.{AddsPart, AddsCapture, AddsPrefix, AddsFront};
+ghost use Rattle.ipencap_engine.specs.Files.{AddsCapture, AddsPrefix, AddsFront};
 ghost use Rattle.ipencap_engine.specs.Loss.{CarriesUle, IsRecorded, KeepsIntact, KeepsPart};
 ghost use Rattle.ipencap_engine.specs.Statuses.{CanCome, Complains, status_line};
 
@@ -28,7 +28,7 @@ use std::alloc::Global;
 ///
 /// `Done`: the input was read to its end. Usage: the words form no command. SourceFault, RackFault: a count of that
 /// object's faults rose. TooLong: 2^32 records were read. OutOfMemory: memory was wanting; all is taken before the first
-/// record is read.
+/// record is read and before a file is added, so the input and the files are as they were.
 pub fn run<S: Shelf, I: Source, O: Sink, R: Rack, E: Sink>(
     alloc: Global,
     words: &[String],
@@ -67,7 +67,7 @@ pub fn run<S: Shelf, I: Source, O: Sink, R: Rack, E: Sink>(
         → result ≡ Status.TooLong → AddsFront pid most_records bytes (I.left input.new) (R.files rack.old) (R.files rack.new) }
     ensures other { (pid : ℕ) (bytes : List ℕ) → AsksForUle (map (λ word. string_bytes word) words.now) pid → I.left input.old ≡ Some bytes
         → result ≢ Status.Done → AddsPrefix pid bytes (R.files rack.old) (R.files rack.new) }
-    ensures memory { result ≡ Status.OutOfMemory → AddsPart (R.files rack.old) (R.files rack.new) capture_head }
+    ensures memory { result ≡ Status.OutOfMemory → (input.new ≡ input.old) × (R.count rack.new ≡ R.count rack.old) × Stays (R.files rack.old) (R.files rack.new) }
 
     // The input was read to its end, and has fewer than 2^32 records.
     ensures read { result ≡ Status.Done → (I.ended input.new ≡ true) × IsAtEnd (I.left input.new) }
@@ -104,7 +104,7 @@ fn obey<I: Source, R: Rack>(alloc: Global, words: &[String], input: &mut I, rack
         → result ≡ Status.TooLong → AddsFront pid most_records bytes (I.left input.new) (R.files rack.old) (R.files rack.new) }
     ensures other { (pid : ℕ) (bytes : List ℕ) → AsksForUle (map (λ word. string_bytes word) words.now) pid → I.left input.old ≡ Some bytes
         → result ≢ Status.Done → AddsPrefix pid bytes (R.files rack.old) (R.files rack.new) }
-    ensures memory { result ≡ Status.OutOfMemory → AddsPart (R.files rack.old) (R.files rack.new) capture_head }
+    ensures memory { result ≡ Status.OutOfMemory → (input.new ≡ input.old) × (R.count rack.new ≡ R.count rack.old) × Stays (R.files rack.old) (R.files rack.new) }
     ensures read { result ≡ Status.Done → (I.ended input.new ≡ true) × IsAtEnd (I.left input.new) }
     ensures fewer { result ≡ Status.Done → (n : ℕ) × (n < 188 * most_records) × (I.taken input.new ≡ raised (I.taken input.old) n) }
     ensures complete { (pid : ℕ) → AsksForUle (map (λ word. string_bytes word) words.now) pid

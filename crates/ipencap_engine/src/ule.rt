@@ -26,7 +26,7 @@ const FILE_NAME: &str = "ule.pcap";
 
 /// Writes the datagrams that a plain recording delivers on one PID of a ULE service to `ule.pcap`.
 ///
-/// All memory is taken before the first record is read.
+/// All memory is taken before the first record is read; where it is wanting, nothing was read and no file was added.
 pub fn ule<I: Source, R: Rack>(alloc: Global, pid: u16, input: &mut I, rack: &mut R) -> Status
     ensures done { result ≡ Status.Done → EndsWhole pid (I.left input.old) (I.left input.new) (R.files rack.old) (R.files rack.new) }
     ensures read { result ≡ Status.Done → I.ended input.new ≡ true }
@@ -34,7 +34,7 @@ pub fn ule<I: Source, R: Rack>(alloc: Global, pid: u16, input: &mut I, rack: &mu
     ensures front { result ≡ Status.SourceFault → EndsFront pid (I.left input.old) (I.left input.new) (R.files rack.old) (R.files rack.new) }
     ensures limit { result ≡ Status.TooLong → EndsAtLimit pid (I.left input.old) (I.left input.new) (R.files rack.old) (R.files rack.new) }
     ensures other { result ≢ Status.Done → EndsPart pid (I.left input.old) (I.left input.new) (R.files rack.old) (R.files rack.new) }
-    ensures memory { result ≡ Status.OutOfMemory → AddsPart (R.files rack.old) (R.files rack.new) capture_head }
+    ensures memory { result ≡ Status.OutOfMemory → (input.new ≡ input.old) × (R.count rack.new ≡ R.count rack.old) × Stays (R.files rack.old) (R.files rack.new) }
     ensures source { result ≡ Status.SourceFault → Rose (I.faults input.old) (I.faults input.new) }
     ensures file { result ≡ Status.RackFault → Rose (R.faults rack.old) (R.faults rack.new) }
     ensures too_long { result ≡ Status.TooLong → RoseBy (I.taken input.old) (I.taken input.new) (188 * most_records) }
@@ -64,7 +64,7 @@ fn write_capture<I: Source, A: Allocator, R: Rack>(
     ensures front { result ≡ Status.SourceFault → EndsFront pid (I.left input.old) (I.left input.new) (R.files rack.old) (R.files rack.new) }
     ensures limit { result ≡ Status.TooLong → EndsAtLimit pid (I.left input.old) (I.left input.new) (R.files rack.old) (R.files rack.new) }
     ensures other { result ≢ Status.Done → EndsPart pid (I.left input.old) (I.left input.new) (R.files rack.old) (R.files rack.new) }
-    ensures memory { result ≡ Status.OutOfMemory → AddsPart (R.files rack.old) (R.files rack.new) capture_head }
+    ensures memory { result ≡ Status.OutOfMemory → (input.new ≡ input.old) × (R.count rack.new ≡ R.count rack.old) × Stays (R.files rack.old) (R.files rack.new) }
     ensures source { result ≡ Status.SourceFault → Rose (I.faults input.old) (I.faults input.new) }
     ensures file { result ≡ Status.RackFault → Rose (R.faults rack.old) (R.faults rack.new) }
     ensures too_long { result ≡ Status.TooLong → RoseBy (I.taken input.old) (I.taken input.new) (188 * most_records) }
@@ -98,7 +98,7 @@ fn add_capture<R: Rack>(alloc: Global, rack: &mut R) -> Result<u32, AddFault>
     ensures place { IfOk result (λ at. (at ≡ R.count rack.old) × (at < R.count rack.new)) }
     ensures written { OnOk result (AddsFile (R.files rack.old) (R.files rack.new) (file_of capture_head 0)) }
     ensures failed { IsErrOf result AddFault.Failed → AddsPart (R.files rack.old) (R.files rack.new) capture_head }
-    ensures memory { IsErrOf result AddFault.OutOfMemory → Stays (R.files rack.old) (R.files rack.new) }
+    ensures memory { IsErrOf result AddFault.OutOfMemory → (R.count rack.new ≡ R.count rack.old) × Stays (R.files rack.old) (R.files rack.new) }
     ensures cause { HasAddCause (R.faults rack.old) (R.faults rack.new) result }
 {
     let at = match rack.add(alloc, FILE_NAME) {

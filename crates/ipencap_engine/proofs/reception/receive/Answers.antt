@@ -67,6 +67,14 @@ returns-in-Err-TooLong-clause-limit g c = λ e.
     c.records.invariant.0 c.records.reader c.records.invariant.1.form c.records.invariant.1.stands (c.in-Err-TooLong.ensures.too_long.0 (ap (λ f. Err f) c.in-Err-TooLong.field-0-is))
     (rw (c.in-Err-TooLong.ensures.unchanged (ap (λ f. Err f) c.in-Err-TooLong.field-0-is)) c.records.invariant.1.consumed) c.records.invariant.1.file
 
+pub returns-in-Err-TooLong-clause-front : goal.returns-in-Err-TooLong-clause-front
+returns-in-Err-TooLong-clause-front g c = λ e.
+    let limit : ReadsToLimit c.args.pid (g.I.Source.left c.args.input.now) (g.I.Source.left c.next.new.source) (g.R.Rack.files c.args.rack.now) (g.R.Rack.files c.records.rack) c.args.at =
+    limit_at c.args.pid (g.I.Source.left c.args.input.now) (g.I.Source.left c.next.new.source) (g.R.Rack.files c.args.rack.now) (g.R.Rack.files c.records.rack) c.args.at
+    c.records.invariant.0 c.records.reader c.records.invariant.1.form c.records.invariant.1.stands (c.in-Err-TooLong.ensures.too_long.0 (ap (λ f. Err f) c.in-Err-TooLong.field-0-is))
+    (rw (c.in-Err-TooLong.ensures.unchanged (ap (λ f. Err f) c.in-Err-TooLong.field-0-is)) c.records.invariant.1.consumed) c.records.invariant.1.file in
+    limit.reads
+
 pub returns-in-Err-TooLong-clause-part : goal.returns-in-Err-TooLong-clause-part
 returns-in-Err-TooLong-clause-part g c =
     let limit : ReadsToLimit c.args.pid (g.I.Source.left c.args.input.now) (g.I.Source.left c.next.new.source) (g.R.Rack.files c.args.rack.now) (g.R.Rack.files c.records.rack) c.args.at =

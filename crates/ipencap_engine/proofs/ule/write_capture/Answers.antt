@@ -10,7 +10,7 @@ returns-in-Err-Failed-clause-other g c = λ e.
 pub returns-in-Err-OutOfMemory-clause-other : goal.returns-in-Err-OutOfMemory-clause-other
 returns-in-Err-OutOfMemory-clause-other g c = λ e.
     ends_head c.args.pid (g.I.Source.left c.args.input.now) (g.R.Rack.files c.args.rack.now) (g.R.Rack.files c.add_capture.new.rack)
-    (inl (c.in-Err-OutOfMemory.ensures.memory (ap (λ f. Err f) c.in-Err-OutOfMemory.field-0-is)))
+    (inl (c.in-Err-OutOfMemory.ensures.memory (ap (λ f. Err f) c.in-Err-OutOfMemory.field-0-is)).1)
 
 pub returns-in-Ok-flush-clause-done : goal.returns-in-Ok-flush-clause-done
 returns-in-Ok-flush-clause-done g c = λ e.
