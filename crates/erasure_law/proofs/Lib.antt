@@ -1,0 +1,5 @@
+pub mod Rows
+pub mod Sums
+pub mod Unique
+pub mod Elimination
+pub mod Tables

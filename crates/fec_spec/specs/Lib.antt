@@ -1,0 +1,4 @@
+pub mod Field
+pub mod Codeword
+pub mod Row
+pub mod Table
