@@ -1,0 +1,6 @@
+pub mod Steps
+pub mod Filling
+pub mod Changes
+pub mod Runs
+pub mod Corrections
+pub mod Decoding

@@ -1,0 +1,14 @@
+use Rattle.std.proofs.Common.{ℕ, ◌≡◌, ◌+◌, ◌-◌, ◌<◌, ◌≤◌, drop, length}
+use Rattle.erasure_law.specs.Roots.{combined, root_polynomial}
+use Rattle.rs_erasure.specs.Columns.{cell}
+use Rattle.rs_erasure.proofs.elimination.eliminate.Given as goal
+
+abbrev pub invariant-loop-left : goal.invariant-loop-left
+invariant-loop-left l = record {
+  is : (r : ℕ) → l.fn.run.from ≤ r → r < l.fn.run.to → (j : ℕ) → j < 64
+      → cell l.fn.run.rows l.work j r ≡ combined (root_polynomial (drop (l.left + (length l.roots - l.left - j)) l.roots)) (λ m. cell l.fn.run.rows l.fn.work m r) (j - (length l.roots - l.left));
+  within : l.left ≤ length l.roots;
+}
+
+abbrev pub decreases-loop-left : goal.decreases-loop-left
+decreases-loop-left l = l.left

@@ -1,0 +1,4 @@
+pub mod Fill
+pub mod Columns
+pub mod Marks
+pub mod Correction

@@ -1,0 +1,94 @@
+//! Buffers of columns of one length, and a step on one of their columns, in the rows of a run.
+
+ghost use Rattle.fec_spec.specs.Field.{field_product, field_sum};
+ghost use Rattle.rs_erasure.specs.Columns.{IsColumnChanged, cell};
+ghost use Rattle.std.specs.Prelude.{◌+◌, ◌*◌, ◌<◌, ◌≡◌, ◌≤◌, ℕ, length, slice_index};
+
+use gf256::{Gf, horner_step, mul_add};
+
+/// The rows `from` up to but not including `to` of columns of `rows` bytes.
+#[derive(Clone, Copy)]
+pub struct Run {
+    pub rows: usize,
+    pub from: usize,
+    pub to: usize,
+}
+
+/// Makes a column 0.
+pub fn clear_column(run: Run, buffer: &mut [u8], column: usize)
+    requires order { run.from ≤ run.to }
+    requires within { run.to ≤ run.rows }
+    requires room { (column + 1) * run.rows ≤ length buffer.old }
+    ensures { IsColumnChanged run.rows run.from run.to column (λ r. 0) buffer.old buffer.new }
+{
+    let start = column * run.rows;
+    buffer[start + run.from..start + run.to].fill(0);
+}
+
+/// One step of Horner's rule: a column of `work` becomes itself times `root` plus a column of the table.
+pub fn step_column(root: Gf, run: Run, table: &[u8], column: usize, work: &mut [u8], into: usize)
+    requires order { run.from ≤ run.to }
+    requires within { run.to ≤ run.rows }
+    requires table_room { (column + 1) * run.rows ≤ length table.now }
+    requires room { (into + 1) * run.rows ≤ length work.old }
+    ensures { IsColumnChanged run.rows run.from run.to into (λ r. field_sum (field_product (cell run.rows work.old into r) root.0) (cell run.rows table.now column r)) work.old work.new }
+{
+    let there = column * run.rows;
+    let here = into * run.rows;
+    horner_step(
+        root,
+        &table[there + run.from..there + run.to],
+        &mut work[here + run.from..here + run.to],
+    );
+}
+
+/// Adds `factor` times a column of `work` to a column of the table.
+pub fn add_to_table(factor: Gf, run: Run, work: &[u8], column: usize, table: &mut [u8], into: usize)
+    requires order { run.from ≤ run.to }
+    requires within { run.to ≤ run.rows }
+    requires work_room { (column + 1) * run.rows ≤ length work.now }
+    requires room { (into + 1) * run.rows ≤ length table.old }
+    ensures { IsColumnChanged run.rows run.from run.to into (λ r. field_sum (cell run.rows table.old into r) (field_product factor.0 (cell run.rows work.now column r))) table.old table.new }
+{
+    let there = column * run.rows;
+    let here = into * run.rows;
+    mul_add(
+        factor,
+        &work[there + run.from..there + run.to],
+        &mut table[here + run.from..here + run.to],
+    );
+}
+
+/// Adds `factor` times a column to a later one.
+pub fn add_to_later(factor: Gf, run: Run, work: &mut [u8], column: usize, into: usize)
+    requires order { run.from ≤ run.to }
+    requires within { run.to ≤ run.rows }
+    requires later { column < into }
+    requires room { (into + 1) * run.rows ≤ length work.old }
+    ensures { IsColumnChanged run.rows run.from run.to into (λ r. field_sum (cell run.rows work.old into r) (field_product factor.0 (cell run.rows work.old column r))) work.old work.new }
+{
+    let (before, after) = work.split_at_mut(into * run.rows);
+    let there = column * run.rows;
+    mul_add(
+        factor,
+        &before[there + run.from..there + run.to],
+        &mut after[run.from..run.to],
+    );
+}
+
+/// Adds `factor` times a column to an earlier one.
+pub fn add_to_earlier(factor: Gf, run: Run, work: &mut [u8], column: usize, into: usize)
+    requires order { run.from ≤ run.to }
+    requires within { run.to ≤ run.rows }
+    requires earlier { into < column }
+    requires room { (column + 1) * run.rows ≤ length work.old }
+    ensures { IsColumnChanged run.rows run.from run.to into (λ r. field_sum (cell run.rows work.old into r) (field_product factor.0 (cell run.rows work.old column r))) work.old work.new }
+{
+    let (before, after) = work.split_at_mut(column * run.rows);
+    let here = into * run.rows;
+    mul_add(
+        factor,
+        &after[run.from..run.to],
+        &mut before[here + run.from..here + run.to],
+    );
+}
