@@ -1,0 +1,17 @@
+//! Sections (ISO/IEC 13818-1 clause 2.4.4), read and written.
+//!
+//! Sending: mpe_section or int_table -> [section_codec] -> unit_stream -> ts_packet.
+//! Receiving: ts_packet -> unit_stream -> [section_codec] -> mpe_section or int_table.
+//! Begin with `parse` and `write`; `SectionForm` is their form for unit_stream.
+#![tactic(auto)]
+
+mod form;
+mod laws;
+mod section;
+
+pub use form::SectionForm;
+pub use laws::{a_written_section_reads_back, sections_are_lawful, sections_are_units};
+pub use section::{SectionFault, SectionRef, parse, write, write_in_two};
+
+#[cfg(test)]
+mod tests;

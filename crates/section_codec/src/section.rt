@@ -1,0 +1,119 @@
+//! Sections (ISO/IEC 13818-1 clause 2.4.4): the bytes of one, its table_id and its body.
+//!
+//! Reading: one whole unit comes in, and its fields go out, or why it is no section.
+//! Writing: a table_id, the upper half of byte 1 and a body come in, and the section goes into the caller's bytes.
+
+ghost use Rattle.std.specs.Prelude.{◌≡◌, ◌≤◌, ◌+◌, ◌++◌, length, take, drop, IfOk, is_ok};
+ghost use Rattle.std.specs.Result.{result_err};
+ghost use Rattle.section_spec.specs.Section.{IsWritableSection, is_section, has_right_length, section_bytes, section_fields, section_front};
+ghost use Rattle.section_codec.specs.Views.{fields_in, refusal};
+
+use crate::form::{CRC, HEAD, LEAST, MOST, SYNTAX, has_its_crc, length_of};
+use crc_unit::crc32;
+
+/// A section: its table_id, and what stands between section_length and the CRC_32.
+#[derive(Clone, Copy, Debug, PartialEq, Eq)]
+pub struct SectionRef<'a> {
+    /// Which table the section is of.
+    pub table_id: u8,
+    /// Byte 3 of the section up to its CRC_32; of a section that was read, 5 to 4,089 bytes.
+    pub body: &'a [u8],
+}
+
+/// Why bytes are no section, in the order of the tests.
+#[derive(Clone, Copy, Debug, PartialEq, Eq)]
+pub enum SectionFault {
+    /// Fewer than the 3 bytes up to section_length.
+    Short = 1,
+    /// section_length is below 9 or above 4,093, or the bytes are not as many as it says.
+    Length = 2,
+    /// section_syntax_indicator is 0: there is no CRC_32.
+    Syntax = 3,
+    /// The CRC_32 differs.
+    Crc = 4,
+}
+
+/// Whether the bytes are as many as section_length says, and a section can have so many.
+fn is_whole(bytes: &[u8]) -> bool
+    requires { 3 ≤ length bytes.now }
+    ensures whole { result ≡ has_right_length bytes.now }
+{
+    let length = length_of(bytes);
+    LEAST <= length && length <= MOST && bytes.len() == HEAD + length
+}
+
+/// Reads one whole section, from its table_id to the end of its CRC_32.
+pub fn parse(bytes: &[u8]) -> Result<SectionRef<'_>, SectionFault>
+    ensures only { is_ok result ≡ is_section bytes.now }
+    ensures read { IfOk result (λ s. fields_in s ≡ section_fields bytes.now) }
+    ensures refused { refusal bytes.now ≡ result_err result }
+    ensures within { IfOk result (λ s. length s.body.now + 7 ≡ length bytes.now) }
+{
+    if bytes.len() < HEAD {
+        return Err(SectionFault::Short);
+    }
+    if !is_whole(bytes) {
+        return Err(SectionFault::Length);
+    }
+    if bytes[1] < SYNTAX {
+        return Err(SectionFault::Syntax);
+    }
+    if !has_its_crc(bytes) {
+        return Err(SectionFault::Crc);
+    }
+    Ok(SectionRef {
+        table_id: bytes[0],
+        body: &bytes[HEAD..bytes.len() - CRC],
+    })
+}
+
+/// Writes the section with this table_id, upper half of byte 1 and body to the front of `into`; answers its length.
+///
+/// `top` has section_syntax_indicator and the three bits behind it, and four bits 0. A body has 5 to 4,089 bytes.
+/// What stands behind in `into` stays.
+pub fn write(table_id: u8, top: u8, body: &[u8], into: &mut [u8]) -> usize
+    requires writable { IsWritableSection table_id top body.now }
+    requires room { length body.now + 7 ≤ length into.old }
+    ensures size { result ≡ length (section_bytes table_id top body.now) }
+    ensures written { into.new ≡ section_bytes table_id top body.now ++ drop result into.old }
+{
+    write_in_two(table_id, top, &[], body, into)
+}
+
+/// The same for a body that stands in two pieces.
+pub fn write_in_two(table_id: u8, top: u8, head: &[u8], rest: &[u8], into: &mut [u8]) -> usize
+    requires writable { IsWritableSection table_id top (head.now ++ rest.now) }
+    requires room { length head.now + length rest.now + 7 ≤ length into.old }
+    ensures size { result ≡ length (section_bytes table_id top (head.now ++ rest.now)) }
+    ensures written { into.new ≡ section_bytes table_id top (head.now ++ rest.now) ++ drop result into.old }
+{
+    let end = write_front(table_id, top, head, rest, into);
+    let sum = crc32(&into[..end]);
+    put(into, end, &sum.to_be_bytes());
+    end + CRC
+}
+
+/// Writes all before the CRC_32; answers where it ends.
+fn write_front(table_id: u8, top: u8, head: &[u8], rest: &[u8], into: &mut [u8]) -> usize
+    requires writable { IsWritableSection table_id top (head.now ++ rest.now) }
+    requires room { length head.now + length rest.now + 7 ≤ length into.old }
+    ensures size { result ≡ length (section_front table_id top (head.now ++ rest.now)) }
+    ensures most { result ≡ length head.now + length rest.now + 3 }
+    ensures written { into.new ≡ section_front table_id top (head.now ++ rest.now) ++ drop result into.old }
+{
+    let length = head.len() + rest.len() + CRC;
+    let number = u16::from(top) * 256 + length as u16;
+    put(into, 0, &[table_id]);
+    put(into, 1, &number.to_be_bytes());
+    put(into, HEAD, head);
+    put(into, HEAD + head.len(), rest);
+    HEAD + head.len() + rest.len()
+}
+
+/// Puts `piece` into `into`, from byte `at` on.
+fn put(into: &mut [u8], at: usize, piece: &[u8])
+    requires { at + length piece.now ≤ length into.old }
+    ensures put { into.new ≡ take at into.old ++ (piece.now ++ drop (at + length piece.now) into.old) }
+{
+    into[at..at + piece.len()].copy_from_slice(piece);
+}
