@@ -1,0 +1,17 @@
+//! The report of a reception: what was counted of the stream, of each service and of the address table, as lines of text.
+//!
+//! Receiving: counts -> [loss_report] -> output.
+//! Begin with `Report::new`, add services, the table and its rules, and end with `text`.
+#![tactic(auto)]
+
+mod address_text;
+mod counts;
+mod lines;
+mod parts;
+mod report;
+mod service_part;
+#[cfg(test)]
+mod tests;
+
+pub use counts::{ServiceCounts, StreamCounts};
+pub use report::Report;
