@@ -1,0 +1,4 @@
+pub mod Descriptors
+pub mod Table
+pub mod Reading
+pub mod Examples
