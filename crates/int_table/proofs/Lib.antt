@@ -1,0 +1,14 @@
+pub mod Parts
+pub mod GroupLemmas
+pub mod EntryLemmas
+pub mod Puts
+pub mod PieceLemmas
+pub mod DescriptorLemmas
+pub mod LoopLemmas
+pub mod CutLemmas
+pub mod PairLemmas
+pub mod OperationalLemmas
+pub mod CarriedLemmas
+pub mod ReadingLemmas
+pub mod WrittenRules
+pub mod WrittenTables
