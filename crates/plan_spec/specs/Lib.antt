@@ -1,0 +1,10 @@
+pub mod Plan
+pub mod Checks
+pub mod Keys
+pub mod Settings
+pub mod Signalling
+pub mod Refusal
+pub mod Valid
+pub mod Route
+pub mod Offered
+pub mod Examples
