@@ -1,0 +1,140 @@
+-- The readable packets of a service's PID are the packets of the service.
+use Rattle.std.proofs.Common.{◌≡◌, ℕ, zero, suc, ◌+◌, ◌/◌, ◌<◌, ◌≤◌, Bool, true, false, cond, eqb, get_or, List, [], ◌∷◌, ◌++◌, length, map, replicate, refl, sym, ap, subst, ◌∙◌, arith, Option, Some, None}
+use Rattle.std.specs.Prelude.{slice_index, slice_index_or}
+use Rattle.std.specs.List.{cons_option, filter_map, range_with_len, list_any}
+use Rattle.std.specs.Option.{unwrap_or}
+use Rattle.std.proofs.lemmas.List.{length-map}
+use Rattle.std.proofs.lemmas.List.FromFn.{fill_by_all}
+use Rattle.ts_spec.specs.Packet.{PacketFields, fields_of, is_packet, packet_bytes, null_packet}
+use Rattle.ts_spec.specs.Packetized.{no_packet, packet_at}
+use Rattle.ts_spec.specs.Recording.{records_of}
+use Rattle.ts_packet.specs.Fields.{written_fields}
+use Rattle.carriage_spec.specs.Carried.{packets_sent}
+use Rattle.plan_spec.specs.Plan.{mpe, ServiceFields, IntFields, PlanFields, pid_of, table_pids, service_pids, kinds}
+use Rattle.plan_spec.specs.Checks.{has_pair}
+use Rattle.plan_spec.specs.Signalling.{table_packets}
+use Rattle.stream_spec.specs.Services.{kind_at}
+use Rattle.stream_spec.specs.Slots.{Slot, of_table, of_service, empty, kept_for_table, IsSlotCount}
+use Rattle.stream_spec.specs.Stream.{packets_from, service_packets, packet_counts, packet_in, slot_in, records_of_slots}
+use Rattle.stream_law.specs.Words.{number_of}
+use Rattle.stream_law.proofs.Turns.{carried_within, out_is}
+use Rattle.stream_law.proofs.Ends.{all_out, table_keeps_none, table_leaves_slots}
+use Rattle.stream_law.proofs.Packets.{IsOn}
+use Rattle.stream_law.proofs.Records.{read_of, AllHave, pieces_have, sent_is_read}
+use Rattle.stream_law.proofs.Pids.{same_pid, neither, none_meets, services_differ}
+use Rattle.stream_law.proofs.Sent.{numbered_packets, slots_read, place_on, read_own, read_other, read_null, read_table}
+
+-- what accepted settings say of the PIDs and of the slots
+pub record IsSendable (plan : PlanFields) : Type 0 where
+  pub differ : has_pair same_pid (table_pids plan.table ++ service_pids plan) ≡ false
+  pub table_most : (pid : ℕ) → table_pids plan.table ≡ pid ∷ [] → pid ≤ 8190
+  pub service_most : (k pid : ℕ) → k < length (kinds plan) → pid_of (kind_at plan k) ≡ Some pid → pid ≤ 8190
+  pub leaves : table_packets plan < plan.cycle
+
+pub length-packets_from : (datagrams : ℕ → List (List ℕ)) (i : ℕ) (services : List ServiceFields) → length (packets_from i services datagrams) ≡ length services
+length-packets_from datagrams i [] = refl
+length-packets_from datagrams i (service ∷ services) = ap suc (length-packets_from datagrams (i + 1) services)
+
+-- how many packets a service has
+pub count_of : (lists : List (List PacketFields)) (j : ℕ) → slice_index (packet_counts lists) j ≡ length (slice_index_or lists j [])
+count_of [] j = refl
+count_of (list ∷ lists) zero = refl
+count_of (list ∷ lists) (suc j) = count_of lists j
+
+-- the PIDs of the services differ from each other, and from the INT's
+behind_table : (table : Option IntFields) (pids : List ℕ) → has_pair same_pid (table_pids table ++ pids) ≡ false → has_pair same_pid pids ≡ false
+behind_table None pids e = e
+behind_table (Some int) pids e = (neither (list_any (same_pid int.pid) pids) (has_pair same_pid pids) e).1
+
+pub table_meets_none : (table : Option IntFields) (pids : List ℕ) → has_pair same_pid (table_pids table ++ pids) ≡ false
+    → (other : ℕ) → table_pids table ≡ other ∷ [] → list_any (same_pid other) pids ≡ false
+table_meets_none None pids e other is = absurd (cc)
+table_meets_none (Some int) pids e other is =
+    let same : int.pid ≡ other = ap (λ (l : List ℕ). get_or l 0 0) is in
+    ap (λ (p : ℕ). list_any (same_pid p) pids) (sym same) ∙ (neither (list_any (same_pid int.pid) pids) (has_pair same_pid pids) e).0
+
+module _ (readable : (pid : ℕ) (starts : Bool) (counter : ℕ) (payload : List ℕ) → counter ≤ 15 → pid ≤ 8191 → length payload ≡ 184 → is_packet (packet_bytes pid starts counter payload) ≡ true)
+    (fields : (pid : ℕ) (starts : Bool) (counter : ℕ) (payload : List ℕ) → counter ≤ 15 → pid ≤ 8191 → fields_of (packet_bytes pid starts counter payload) ≡ written_fields pid starts counter payload)
+    (null_fields : fields_of null_packet ≡ written_fields 0x1FFF false 0 (replicate 184 0xFF))
+    (plan : PlanFields) (sendable : IsSendable plan) (datagrams : ℕ → List (List ℕ)) (k pid : ℕ) (known : k < length plan.services) (pid_is : pid_of (kind_at plan k) ≡ Some pid) where
+  abbrev services : List (List PacketFields)
+  services = service_packets plan datagrams
+
+  abbrev packets : List PacketFields
+  packets = slice_index_or services k []
+
+  abbrev slot : ℕ → Slot
+  slot s = slot_in plan services s
+
+  abbrev bytes : ℕ → List ℕ
+  bytes s = packet_in plan services (s / plan.cycle) (slot s)
+
+  within_kinds : (j : ℕ) → j < length plan.services → j < length (kinds plan)
+  within_kinds j less = omega (arith, less, length-map plan.services (λ (service : ServiceFields). service.kind))
+
+  most : pid ≤ 8190
+  most = sendable.service_most k pid (within_kinds k known) pid_is
+
+  counts_at : (j : ℕ) → slice_index (packet_counts services) j ≡ length (slice_index_or services j [])
+  counts_at j = count_of services j
+
+  -- what one slot gives
+  slot_read : (s : ℕ) → read_of pid (bytes s ∷ []) ≡ numbered_packets pid k packets (slot s ∷ [])
+  slot_read s = by_slot (slot s) (carried_within (kept_for_table plan.cycle (table_packets plan)) (packet_counts services) (table_keeps_none plan.cycle (table_packets plan)) s)
+    where
+      of_own : (j n : ℕ) → j ≡ k → n < length (slice_index_or services j []) → read_of pid (packet_in plan services (s / plan.cycle) (of_service j n) ∷ []) ≡ packet_at packets n ∷ []
+      of_own j n same less =
+          let on : (other : ℕ) × (pid_of (kind_at plan j) ≡ Some other) × IsOn other (packet_at (slice_index_or services j []) n) × (j < length plan.services)
+          = place_on datagrams plan.services 0 j n less in
+          let known_pid : Some on.0 ≡ Some pid = sym on.1 ∙ ap (λ (i : ℕ). pid_of (kind_at plan i)) same ∙ pid_is in
+          let its_pid : on.0 ≡ pid = ap (λ (o : Option ℕ). unwrap_or o 0) known_pid in
+          read_own readable fields null_fields pid (packet_at (slice_index_or services j []) n) (omega (arith, most)) (subst (λ (p : ℕ). IsOn p (packet_at (slice_index_or services j []) n)) its_pid on.2)
+          ∙ ap (λ (i : ℕ). packet_at (slice_index_or services i []) n ∷ []) same
+
+      of_other : (j n : ℕ) → eqb j k ≡ false → n < length (slice_index_or services j []) → read_of pid (packet_in plan services (s / plan.cycle) (of_service j n) ∷ []) ≡ []
+      of_other j n apart less =
+          let on : (other : ℕ) × (pid_of (kind_at plan j) ≡ Some other) × IsOn other (packet_at (slice_index_or services j []) n) × (j < length plan.services)
+          = place_on datagrams plan.services 0 j n less in
+          let differs : eqb on.0 pid ≡ false
+          = services_differ (mpe 0) (kinds plan) (behind_table plan.table (service_pids plan) sendable.differ) j k on.0 pid apart
+          (within_kinds j on.3) (within_kinds k known) on.1 pid_is in
+          let below : on.0 ≤ 8190 = sendable.service_most j on.0 (within_kinds j on.3) on.1 in
+          read_other readable fields null_fields pid on.0 (packet_at (slice_index_or services j []) n) (omega (arith, below)) differs on.2
+
+      by_service : (j n : ℕ) → n < length (slice_index_or services j []) → (same : Bool) → eqb j k ≡ same
+          → read_of pid (packet_in plan services (s / plan.cycle) (of_service j n) ∷ [])
+          ≡ map (packet_at packets) (cons_option (cond same (Some n) None) [])
+      by_service j n less true e = of_own j n (grind (arith, e)) less
+      by_service j n less false e = of_other j n e less
+
+      by_slot : (it : Slot) → ((j n : ℕ) → it ≡ of_service j n → (j < length (packet_counts services)) × (n < slice_index (packet_counts services) j))
+          → read_of pid (packet_in plan services (s / plan.cycle) it ∷ []) ≡ numbered_packets pid k packets (it ∷ [])
+      by_slot (of_table n) within =
+          read_table readable fields null_fields pid plan plan.table (s / plan.cycle) n (λ other is. (
+            omega (arith, sendable.table_most other is),
+            none_meets (same_pid other) (mpe 0) (kinds plan) (table_meets_none plan.table (service_pids plan) sendable.differ other is) k pid (within_kinds k known) pid_is,
+          ))
+      by_slot (of_service j n) within = by_service j n (omega (arith, (within j n refl).1, counts_at j)) (eqb j k) refl
+      by_slot empty within = read_null readable fields null_fields pid most
+
+  all_packets : map (packet_at packets) (range_with_len 0 (length packets)) ≡ packets
+  all_packets = sym (fill_by_all (packet_at packets) packets (length packets) no_packet refl (λ i less. refl))
+
+  pub sent_are : (slots : ℕ) → IsSlotCount slot slots → AllHave plan.recording plan.packet_rate (range_with_len 0 slots)
+      → packets_sent pid (records_of plan.recording (records_of_slots plan services slots)) ≡ packets
+  sent_are slots count have =
+      sent_is_read pid (records_of plan.recording (records_of_slots plan services slots)) (map bytes (range_with_len 0 slots))
+      (pieces_have plan.recording plan.packet_rate bytes (range_with_len 0 slots) have)
+      ∙ slots_read pid k packets bytes slot slot_read (range_with_len 0 slots)
+      ∙ ap (map (packet_at packets)) out_all
+      ∙ all_packets
+    where
+      counts_size : k < length (packet_counts services)
+      counts_size = omega (arith, length-map services (λ (list : List PacketFields). length list), length-packets_from datagrams 0 plan.services, known)
+
+      out_all : filter_map (number_of k) (map slot (range_with_len 0 slots)) ≡ range_with_len 0 (length packets)
+      out_all =
+          out_is (kept_for_table plan.cycle (table_packets plan)) (packet_counts services) (table_keeps_none plan.cycle (table_packets plan)) k counts_size slots
+          ∙ ap (range_with_len 0)
+          (all_out (kept_for_table plan.cycle (table_packets plan)) (packet_counts services) (table_leaves_slots plan.cycle (table_packets plan) sendable.leaves) slots count k counts_size
+          ∙ counts_at k)

@@ -1,0 +1,157 @@
+-- The units of a service carry the datagrams that it takes.
+use Rattle.std.proofs.Common.{◌≡◌, ℕ, zero, suc, ◌+◌, ◌<◌, ◌≤◌, Bool, true, false, cond, ◌&&◌, leb, eqb, get_or, List, [], ◌∷◌, ◌++◌, length, map, refl, sym, ap, subst, ◌∙◌, arith, Option, Some, None}
+use Rattle.std.specs.Prelude.{◌↔◌, filter, slice_index_or, flat_map, option_to_list, option_map, All}
+use Rattle.wire_spec.specs.Bytes.{AreBytes}
+use Rattle.wire_spec.specs.Datagram.{IsDatagram}
+use Rattle.ts_spec.specs.Form.{UnitForm, IsLawful, IsUnit}
+use Rattle.ts_spec.specs.Recording.{Record}
+use Rattle.ts_spec.specs.Packet.{PacketFields}
+use Rattle.ts_spec.specs.Packetized.{unit_at, Packetizes}
+use Rattle.ts_spec.specs.Sndu.{sndu_form, is_sndu, sndu_bytes, sndu_fields, SnduFields}
+use Rattle.ts_spec.specs.Chain.{chain_end, datagram_at}
+use Rattle.section_spec.specs.Section.{section_form, section_fields}
+use Rattle.section_spec.specs.Mpe.{MpeFields, IsWritableMpe, mpe_to_write, mpe_bytes, mpe_of}
+use Rattle.unit_stream.specs.Packing.{packetized}
+use Rattle.carriage_spec.specs.Carried.{packets_sent}
+use Rattle.carriage_spec.specs.Delivered.{carried_by_sndu}
+use Rattle.ule_unit.specs.Writable.{IsAddress, IsWritable}
+use Rattle.plan_spec.specs.Plan.{KindFields, ule, mpe, fec, gse, ServiceFields, PlanFields}
+use Rattle.plan_spec.specs.Route.{longest_of}
+use Rattle.stream_spec.specs.Units.{mac_for, ether_type_of, sndu_of, section_of, packets_of_kind}
+use Rattle.stream_spec.specs.Stream.{packets_from}
+use Rattle.stream_spec.specs.Services.{carried_by_section, carried_by_unit, form_of_kind, CarriesOn}
+use Rattle.plan_spec.specs.Offered.{datagrams as datagrams_of, service_of_datagram, is_offered_to, offered}
+use Rattle.stream_spec.specs.Services.{kind_at}
+use Rattle.stream_law.specs.Words.{IsMac, IsByteDatagram, is_of_units}
+use Rattle.stream_law.proofs.Datagrams.{type_below, chain_gives, mac_for_is}
+
+-- a datagram that a service of this kind takes
+pub record IsTaken (kind : KindFields) (datagram : List ℕ) : Type 0 where
+  pub is : IsDatagram datagram
+  pub bytes : AreBytes datagram
+  pub size : length datagram ≤ longest_of kind
+
+abbrev pub AreTaken : KindFields → List (List ℕ) → Type 0
+AreTaken kind [] = Unit {0}
+AreTaken kind (datagram ∷ datagrams) = IsTaken kind datagram × AreTaken kind datagrams
+
+-- the packets of the service at a place
+pub packets_at : (datagrams : ℕ → List (List ℕ)) (services : List ServiceFields) (i k at : ℕ) → at ≡ i + k → k < length services
+    → slice_index_or (packets_from i services datagrams) k []
+    ≡ packets_of_kind (get_or (map (λ (service : ServiceFields). service.kind) services) k (mpe 0)) (get_or (map (λ (service : ServiceFields). service.unicast) services) k []) (datagrams at)
+packets_at datagrams [] i k at e less = absurd (omega arith)
+packets_at datagrams (service ∷ services) i zero at e less =
+    let here : i ≡ at = omega (arith, e) in ap (λ (n : ℕ). packets_of_kind service.kind service.unicast (datagrams n)) here
+packets_at datagrams (service ∷ services) i (suc k) at e less = packets_at datagrams services (i + 1) k at (omega (arith, e)) (omega arith)
+
+-- with the laws of packetization, of SNDUs and of datagram_sections
+module _ (packetizes : (form : UnitForm) (packing : Bool) (pid counter : ℕ) (units : List (List ℕ)) → IsLawful form → ((n : ℕ) → n < length units → IsUnit form (unit_at units n))
+    → (begin : ℕ → ℕ) × Packetizes form units (packetized form packing pid counter units) begin)
+    (sndu_lawful : IsLawful sndu_form)
+    (sndu_units : (unit : List ℕ) → (is_sndu unit ≡ true) ↔ IsUnit sndu_form unit)
+    (sndu_is : (npa : Option (List ℕ)) (first_type : ℕ) (pdu : List ℕ) → IsWritable npa first_type pdu → is_sndu (sndu_bytes npa first_type pdu) ≡ true)
+    (sndu_read : (npa : Option (List ℕ)) (first_type : ℕ) (pdu : List ℕ) → IsWritable npa first_type pdu
+    → sndu_fields (sndu_bytes npa first_type pdu) ≡ record { npa = npa; first_type = first_type; bytes = pdu })
+    (section_lawful : IsLawful section_form)
+    (mpe_unit : (m : MpeFields) → IsWritableMpe m → IsUnit section_form (mpe_bytes m))
+    (mpe_read : (m : MpeFields) → IsWritableMpe m → mpe_of (section_fields (mpe_bytes m)) ≡ Some m)
+    (mpe_can : (mac datagram : List ℕ) → AreBytes mac → length mac ≡ 6 → IsDatagram datagram → length datagram ≤ 4080 → IsWritableMpe (mpe_to_write mac None datagram))
+    (unicast : List ℕ) (is_mac : IsMac unicast) where
+  -- SNDUs
+  writable : (address : Bool) (datagram : List ℕ) → IsDatagram datagram → AreBytes datagram → length datagram ≤ 32757
+      → IsWritable (cond address (Some (mac_for unicast datagram)) None) (ether_type_of datagram) datagram
+  writable address datagram is bytes size = record { address = by_address address; sixteen_bits = type_below datagram is; size = size }
+    where
+      by_address : (a : Bool) → IsAddress (cond a (Some (mac_for unicast datagram)) None)
+      by_address true = (mac_for_is unicast datagram bytes is_mac).size
+      by_address false = tt
+
+  sndu_unit : (address : Bool) (datagram : List ℕ) → IsDatagram datagram → AreBytes datagram → length datagram ≤ 32757 → IsUnit sndu_form (sndu_of address unicast datagram)
+  sndu_unit address datagram is bytes size =
+      (sndu_units (sndu_of address unicast datagram)).0
+      (sndu_is (cond address (Some (mac_for unicast datagram)) None) (ether_type_of datagram) datagram (writable address datagram is bytes size))
+
+  sndu_carries : (address : Bool) (datagram : List ℕ) → IsDatagram datagram → AreBytes datagram → length datagram ≤ 32757
+      → carried_by_sndu (sndu_of address unicast datagram) ≡ datagram ∷ []
+  sndu_carries address datagram is bytes size =
+      ap (λ (f : SnduFields). option_to_list (datagram_at (chain_end f.first_type f.bytes)))
+      (sndu_read (cond address (Some (mac_for unicast datagram)) None) (ether_type_of datagram) datagram (writable address datagram is bytes size))
+      ∙ ap option_to_list (chain_gives datagram is)
+
+  -- datagram_sections
+  can_write : (datagram : List ℕ) → IsDatagram datagram → AreBytes datagram → length datagram ≤ 4080 → IsWritableMpe (mpe_to_write (mac_for unicast datagram) None datagram)
+  can_write datagram is bytes size =
+      mpe_can (mac_for unicast datagram) datagram (mac_for_is unicast datagram bytes is_mac).bytes (mac_for_is unicast datagram bytes is_mac).size is size
+
+  section_carries : (datagram : List ℕ) → IsDatagram datagram → AreBytes datagram → length datagram ≤ 4080 → carried_by_section (section_of unicast datagram) ≡ datagram ∷ []
+  section_carries datagram is bytes size =
+      ap (λ (o : Option MpeFields). option_to_list (option_map (λ (m : MpeFields). m.datagram) o))
+      (mpe_read (mpe_to_write (mac_for unicast datagram) None datagram) (can_write datagram is bytes size))
+
+  -- one unit of each datagram
+  are_units : (form : UnitForm) (kind : KindFields) (unit : List ℕ → List ℕ) → ((datagram : List ℕ) → IsTaken kind datagram → IsUnit form (unit datagram))
+      → (datagrams : List (List ℕ)) → AreTaken kind datagrams → (n : ℕ) → n < length (map unit datagrams) → IsUnit form (unit_at (map unit datagrams) n)
+  are_units form kind unit each [] taken n less = absurd (omega arith)
+  are_units form kind unit each (datagram ∷ datagrams) taken zero less = each datagram taken.0
+  are_units form kind unit each (datagram ∷ datagrams) taken (suc n) less = are_units form kind unit each datagrams taken.1 n (omega arith)
+
+  are_carried : (kind : KindFields) (unit : List ℕ → List ℕ) → ((datagram : List ℕ) → IsTaken kind datagram → carried_by_unit kind (unit datagram) ≡ datagram ∷ [])
+      → (datagrams : List (List ℕ)) → AreTaken kind datagrams → datagrams ≡ flat_map (carried_by_unit kind) (map unit datagrams)
+  are_carried kind unit each [] taken = refl
+  are_carried kind unit each (datagram ∷ datagrams) taken =
+      ap (λ (t : List (List ℕ)). datagram ∷ t) (are_carried kind unit each datagrams taken.1)
+      ∙ ap (λ (t : List (List ℕ)). t ++ flat_map (carried_by_unit kind) (map unit datagrams)) (sym (each datagram taken.0))
+
+  carries_units : (kind : KindFields) (pid counter : ℕ) (packing : Bool) (unit : List ℕ → List ℕ) (sent : List Record) (datagrams : List (List ℕ)) → IsLawful (form_of_kind kind)
+      → ((datagram : List ℕ) → IsTaken kind datagram → IsUnit (form_of_kind kind) (unit datagram))
+      → ((datagram : List ℕ) → IsTaken kind datagram → carried_by_unit kind (unit datagram) ≡ datagram ∷ [])
+      → AreTaken kind datagrams → (own : ℕ) → packets_sent pid sent ≡ packetized (form_of_kind kind) packing own counter (map unit datagrams)
+      → CarriesOn kind pid sent datagrams
+  carries_units kind pid counter packing unit sent datagrams lawful is_unit carries taken own sent_are =
+      let found : (begin : ℕ → ℕ) × Packetizes (form_of_kind kind) (map unit datagrams) (packetized (form_of_kind kind) packing own counter (map unit datagrams)) begin
+      = packetizes (form_of_kind kind) packing own counter (map unit datagrams) lawful (are_units (form_of_kind kind) kind unit is_unit datagrams taken) in
+      record {
+        units = map unit datagrams;
+        begin = found.0;
+        packetized = subst (λ (ps : List PacketFields). Packetizes (form_of_kind kind) (map unit datagrams) ps found.0) (sym sent_are) found.1;
+        carried = are_carried kind unit carries datagrams taken;
+      }
+
+  pub carries_on : (kind : KindFields) (pid : ℕ) (sent : List Record) (datagrams : List (List ℕ)) → is_of_units kind ≡ true → AreTaken kind datagrams
+      → packets_sent pid sent ≡ packets_of_kind kind unicast datagrams → CarriesOn kind pid sent datagrams
+  carries_on (ule own address packing) pid sent datagrams built taken sent_are =
+      carries_units (ule own address packing) pid 0 packing (sndu_of address unicast) sent datagrams sndu_lawful
+      (λ datagram of_it. sndu_unit address datagram of_it.is of_it.bytes of_it.size)
+      (λ datagram of_it. sndu_carries address datagram of_it.is of_it.bytes of_it.size)
+      taken own sent_are
+  carries_on (mpe own) pid sent datagrams built taken sent_are =
+      carries_units (mpe own) pid 0 true (section_of unicast) sent datagrams section_lawful
+      (λ datagram of_it. mpe_unit (mpe_to_write (mac_for unicast datagram) None datagram) (can_write datagram of_it.is of_it.bytes of_it.size))
+      (λ datagram of_it. section_carries datagram of_it.is of_it.bytes of_it.size)
+      taken own sent_are
+  carries_on (fec own rows parity window) pid sent datagrams built taken sent_are = absurd (cc)
+  carries_on (gse isi address) pid sent datagrams built taken sent_are = absurd (cc)
+
+-- What is offered to a service is what it takes.
+taken_of : (kind : KindFields) (test : List ℕ → Bool) → ((datagram : List ℕ) → test datagram ≡ true → length datagram ≤ longest_of kind)
+    → (datagrams : List (List ℕ)) → All IsByteDatagram datagrams → AreTaken kind (filter test datagrams)
+taken_of kind test fits [] all = tt
+taken_of kind test fits (datagram ∷ datagrams) all =
+    by_test (test datagram) refl (taken_of kind test fits datagrams (λ n d less. all (suc n) d (omega (arith, less))))
+  where
+    by_test : (is : Bool) → test datagram ≡ is → AreTaken kind (filter test datagrams) → AreTaken kind (cond is (datagram ∷ filter test datagrams) (filter test datagrams))
+    by_test true e later = (record { is = (all 0 [] (omega arith)).is; bytes = (all 0 [] (omega arith)).bytes; size = fits datagram e }, later)
+    by_test false e later = later
+
+pub offered_taken : (plan : PlanFields) (records : List (Option (List ℕ))) (k : ℕ) → All IsByteDatagram (datagrams_of records) → AreTaken (kind_at plan k) (offered plan records k)
+offered_taken plan records k all =
+    taken_of (kind_at plan k) (λ datagram. is_offered_to plan (service_of_datagram plan datagram) k datagram)
+    (λ datagram e. fits_it datagram (service_of_datagram plan datagram) e) (datagrams_of records) all
+  where
+    no_longer : (a : Bool) (m n : ℕ) → (a && leb m n) ≡ true → m ≤ n
+    no_longer true m n e = grind (arith, e)
+    no_longer false m n e = absurd (cc)
+
+    fits_it : (datagram : List ℕ) (o : Option ℕ) → is_offered_to plan o k datagram ≡ true → length datagram ≤ longest_of (kind_at plan k)
+    fits_it datagram None e = absurd (cc)
+    fits_it datagram (Some taker) e = no_longer (eqb taker k) (length datagram) (longest_of (kind_at plan k)) e

@@ -1,0 +1,39 @@
+//! Captures: what they give is carried.
+ghost use Rattle.std.specs.Prelude.{◌≡◌, ℕ, List, Option, true, All};
+ghost use Rattle.std.specs.List.{list_all};
+ghost use Rattle.wire_spec.specs.Bytes.{AreBytes};
+ghost use Rattle.ts_spec.specs.Recording.{records_of};
+ghost use Rattle.pcap_file.specs.Told.{Tells};
+ghost use Rattle.pcap_file.specs.declared.faults.CaptureFault.{CaptureFault};
+ghost use Rattle.plan_spec.specs.Plan.{PlanFields, kinds};
+ghost use Rattle.plan_spec.specs.Valid.{is_plan};
+ghost use Rattle.plan_spec.specs.Offered.{datagrams as datagrams_of, offered};
+ghost use Rattle.stream_spec.specs.Stream.{IsStream};
+ghost use Rattle.stream_spec.specs.Services.{Carries};
+ghost use Rattle.stream_law.specs.Words.{is_of_units, IsOfBytes, IsByteDatagram, IsWithinLimits};
+ghost use Rattle.stream_law.specs.Captures.{given_by};
+
+use crate::carried::a_stream_carries_what_was_offered;
+use ip_datagram::a_front_is_one_datagram;
+
+/// A capture gives datagrams of bytes, no more than its limits.
+pub fn a_capture_gives_datagrams()
+    ensures are { (capture : List ℕ) (told : List (List ℕ)) (fault : Option CaptureFault) → AreBytes capture → Tells capture told fault
+        → All IsByteDatagram (datagrams_of (given_by capture told)) }
+    ensures limits { (capture : List ℕ) (told : List (List ℕ)) (fault : Option CaptureFault) → AreBytes capture → Tells capture told fault
+        → IsWithinLimits (datagrams_of (given_by capture told)) }
+{
+    a_front_is_one_datagram();
+}
+
+/// For all settings that are accepted, of services of SNDUs and datagram_sections, and all captures:
+/// the stream carries of each service what was offered to it.
+pub fn a_capture_is_carried()
+    ensures carries { (plan : PlanFields) → is_plan plan ≡ true → IsOfBytes plan → list_all is_of_units (kinds plan) ≡ true
+        → (capture : List ℕ) (told : List (List ℕ)) (fault : Option CaptureFault) → AreBytes capture → Tells capture told fault
+        → (records : List (List ℕ)) → IsStream plan (offered plan (given_by capture told)) records
+        → Carries plan (records_of plan.recording records) (offered plan (given_by capture told)) }
+{
+    a_capture_gives_datagrams();
+    a_stream_carries_what_was_offered();
+}

@@ -1,0 +1,28 @@
+//! What the sender's stream carries: the datagrams that were offered.
+//!
+//! Laws over definitions alone: each is a function that does nothing, whose contract is the law.
+//! They stand on stream_spec; what sends stands on them. Begin with `a_capture_is_carried`.
+#![tactic(auto)]
+
+mod appended;
+mod captures;
+mod carried;
+mod slots;
+mod stream;
+mod table;
+
+pub use appended::packetizations_go_on;
+pub use captures::{a_capture_gives_datagrams, a_capture_is_carried};
+pub use carried::a_stream_carries_what_was_offered;
+pub use slots::{
+    a_transmission_ends_where_all_packets_are_out, packets_go_out_in_order_and_each_once,
+    there_is_one_slot_count,
+};
+pub use stream::{
+    a_stream_is_cut_into_its_records, records_have_moments,
+    the_packets_of_a_service_are_on_its_pid, there_is_one_stream,
+};
+pub use table::{
+    a_cycle_carries_the_table, a_stream_carries_the_table, a_table_goes_out_in_each_cycle,
+    the_table_of_a_plan_can_be_written, the_table_reads_back_to_the_rules,
+};

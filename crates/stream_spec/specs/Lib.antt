@@ -1,0 +1,5 @@
+pub mod Units
+pub mod Slots
+pub mod Stream
+pub mod Services
+pub mod Examples

@@ -1,0 +1,25 @@
+//! Definitions of a sender's stream: the units and packets of each service, the slots that carry these, the records.
+//!
+//! Words for contracts, and no code but examples of them. They stand on plan_spec, section_spec and carriage_spec.
+//! Standards: EN 301 192 clauses 7 and 8, RFC 4326; the order of slots is our own.
+#![tactic(auto)]
+
+ghost use Rattle.std.specs.Prelude.{◌≡◌, [], ◌∷◌};
+ghost use Rattle.ts_spec.specs.Recording.{m2ts};
+ghost use Rattle.stream_spec.specs.Slots.{of_table, of_service, empty, IsSlotCount};
+ghost use Rattle.stream_spec.specs.Stream.{stamp_bytes};
+ghost use Rattle.stream_spec.specs.Examples.{small_slot, small_slots, idle_slot};
+
+/// Two services by turns, the table at the head of each cycle, and null packets behind the last.
+pub fn small_transmissions()
+    ensures slots { small_slots ≡ of_table 0 ∷ of_service 0 0 ∷ of_service 1 0 ∷ of_service 0 1 ∷ of_service 0 2 ∷ of_table 0 ∷ empty ∷ empty ∷ [] }
+    ensures count { IsSlotCount small_slot 5 }
+    ensures nothing { IsSlotCount idle_slot 0 }
+{}
+
+/// Stamps of an m2ts recording at 10,000 packets per second: slot 397,683 is the first behind a turn of its 30 bits.
+pub fn stamps_of_m2ts()
+    ensures early { stamp_bytes m2ts 10000 1201 ≡ 0x00 ∷ 0x31 ∷ 0x7A ∷ 0xCC ∷ [] }
+    ensures last { stamp_bytes m2ts 10000 397682 ≡ 0x3F ∷ 0xFF ∷ 0xFE ∷ 0x58 ∷ [] }
+    ensures behind { stamp_bytes m2ts 10000 397683 ≡ 0x00 ∷ 0x00 ∷ 0x08 ∷ 0xE4 ∷ [] }
+{}
