@@ -5,6 +5,7 @@ pub mod Settings
 pub mod Signalling
 pub mod Refusal
 pub mod Valid
+pub mod Given
 pub mod Route
 pub mod Offered
 pub mod Examples

@@ -13,7 +13,8 @@ ghost use Rattle.plan_spec.specs.Refusal.{IsRefused, IsAccepted};
 ghost use Rattle.plan_spec.specs.Keys.{SettingsFault, missing, wrong_type, out_of_range, unknown_key};
 ghost use Rattle.plan_spec.specs.Settings.{tables_fault, plan_of};
 ghost use Rattle.plan_spec.specs.Signalling.{table_packets};
-ghost use Rattle.plan_spec.specs.Valid.{is_plan_of_settings};
+ghost use Rattle.plan_spec.specs.Valid.{is_plan_of_settings, is_plan_of_pid};
+ghost use Rattle.plan_spec.specs.Given.{plan_of_pid, sample_plan};
 ghost use Rattle.plan_spec.specs.Route.{route_of};
 ghost use Rattle.plan_spec.specs.Examples.{both, files, number, plan_with, with_speed};
 
@@ -51,6 +52,14 @@ pub fn edges_of_a_plan()
     ensures longest { has_long_cycle (plan_with 1500 409599) ≡ false }
     ensures plan { is_plan_of_settings (plan_with 1500 20000) ≡ true }
     ensures refused { is_plan_of_settings (plan_with 386 20000) ≡ false }
+{}
+
+/// The sample job's plan is that of its settings; it and that of one PID are plans.
+pub fn plans_without_settings()
+    ensures sample { plan_with 1500 4000 ≡ sample_plan }
+    ensures settings { is_plan_of_settings sample_plan ≡ true }
+    ensures pid { is_plan_of_pid (plan_of_pid 17) ≡ true }
+    ensures none { is_plan_of_settings (plan_of_pid 17) ≡ false }
 {}
 
 /// The first service with a rule that matches takes the datagrams of an address.
