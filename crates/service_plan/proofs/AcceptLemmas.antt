@@ -1,0 +1,280 @@
+-- What the checks of a plan that was read say of its settings.
+use Rattle.std.proofs.Common.{◌≡◌, ◌⊎◌, inl, inr, ℕ, Bool, true, false, not, ◌||◌, List, [], ◌∷◌, ◌++◌, length, map, sum_by, le-leb, Option, Some, None, MatchOption, suc, codes, if◌then◌else◌, refl, sym, ap, ◌∙◌}
+use Rattle.std.specs.List.{list_all}
+use Rattle.std.proofs.lemmas.Bool.{and_parts}
+use Rattle.std.proofs.lemmas.List.Sums.{sum_by-cons}
+use Rattle.toml.specs.Data.{Members}
+use Rattle.addr_rules.specs.Texts.{bit_count}
+use Rattle.addr_rules.specs.declared.rules.Rule.{Rule}
+use Rattle.plan_spec.specs.Plan.{KindFields, ServiceFields, PlanFields, services_with, with_rules, rule_lists}
+use Rattle.plan_spec.specs.Checks.{has_wrong_carrier, has_same_name, has_same_pid, has_no_rule, has_too_many_rules, has_wrong_count, needs_stamps, has_wrong_window, has_short_gap, has_long_cycle}
+use Rattle.plan_spec.specs.Keys.{SettingsFault, wrong_carrier, same_name, same_pid, wrong_rules, no_stamps, wrong_window, short_gap, long_cycle, KeyRule, key_fault, keys_fault, unknown_fault, first_of, table_at, tables_at}
+use Rattle.plan_spec.specs.Settings.{top_keys, value_keys, int_key, service_key, int_fault, services_fault, tables_fault, plan_of, rule_texts}
+use Rattle.plan_spec.specs.Signalling.{table_packets}
+use Rattle.plan_spec.specs.Refusal.{AreRules, AreRuleLists, IsPlan, HasNoRule, Fails, whole_checks, IsFirst, NoneFails, IsRefusedTable}
+use Rattle.plan_spec.specs.Valid.{is_valid_rule, has_valid_values, is_valid_service, is_in_range, is_consistent, is_plan_of_settings, is_plan}
+use Rattle.service_plan.specs.Parts.{service_seen}
+use Rattle.service_plan.specs.Drafts.{services_seen, rules_seen, HaveRulesOf}
+use Rattle.service_plan.specs.Plans.{parts_fault, draft_seen, IsDraftOf}
+use Rattle.service_plan.specs.Order.{first_met, whole_fault}
+use Rattle.service_plan.specs.declared.service.Service.{Service}
+use Rattle.service_plan.specs.declared.tables.Draft.{Draft}
+use Rattle.plan_spec.specs.Keys.{no_document}
+use Rattle.plan_spec.specs.Refusal.{IsDocument, IsNoDocument, IsAccepted, IsRefused}
+use Rattle.plan_spec.proofs.OneAnswer.{acceptance_is_no_refusal}
+use Rattle.service_plan.specs.Keys.{fault_seen, Faults, OnFault}
+use Rattle.service_plan.specs.Accepted.{IsAcceptedTable}
+use Rattle.service_plan.specs.declared.fault.PlanError.{PlanError}
+use Rattle.service_plan.specs.declared.fault.PlanError.TheVariants as error
+
+-- the tables, part by part
+first_joined : (a b c d : Option SettingsFault) → d ≡ first_of b c → first_of a d ≡ first_of (first_of a b) c
+first_joined None b c d same = same
+first_joined (Some f) b c d same = refl
+
+keys_append : (xs ys : List KeyRule) (m : Members) → keys_fault (xs ++ ys) m ≡ first_of (keys_fault xs m) (keys_fault ys m)
+keys_append [] ys m = refl
+keys_append (x ∷ xs) ys m = first_joined (key_fault x m) (keys_fault xs m) (keys_fault ys m) (keys_fault (xs ++ ys) m) (keys_append xs ys m)
+
+parts_are : (u v i s rest : Option SettingsFault) → first_of (first_of u (first_of v (first_of i (first_of s None)))) rest ≡ first_of u (first_of v (first_of i (first_of s rest)))
+parts_are (Some f) v i s rest = refl
+parts_are None (Some f) i s rest = refl
+parts_are None None (Some f) s rest = refl
+parts_are None None None (Some f) rest = refl
+parts_are None None None None rest = refl
+
+pub tables_parts : (top : Members) → tables_fault top ≡ parts_fault top
+unfolding tables_fault
+tables_parts top =
+    let unknown : Option SettingsFault = unknown_fault (map (λ (rule : KeyRule). rule.name) (top_keys top)) top in
+    let rest : Option SettingsFault = first_of (int_fault (table_at (codes "int") top)) (services_fault (tables_at (codes "service") top)) in
+    ap (λ (k : Option SettingsFault). first_of (first_of unknown k) rest) (keys_append value_keys (int_key ∷ service_key top ∷ []) top)
+    ∙ parts_are unknown (keys_fault value_keys top) (key_fault int_key top) (key_fault (service_key top) top) rest
+
+-- a test tells whether a check fails
+abbrev pub Tells : Bool → Type 0 → Type 0
+Tells b F = (b ≡ true → F) × (b ≡ false → ¬ F)
+
+tells_same : (b c : Bool) → b ≡ c → Tells b (c ≡ true)
+tells_same b c same = (λ on. sym same ∙ on, λ off h. different (sym off ∙ same ∙ h))
+  where
+    different : ¬ (false ≡ true)
+    different e = cc
+
+first_step : (fails : SettingsFault → Type 0) (check : SettingsFault) (checks : List SettingsFault) (f : SettingsFault) (b : Bool) (rest : Option SettingsFault) → Tells b (fails check)
+    → (b ≡ false → rest ≡ Some f → IsFirst fails checks f) → (if b then Some check else rest) ≡ Some f → IsFirst fails (check ∷ checks) f
+first_step fails check checks f true rest tells more e = inl (tells.0 refl, let h = e in cc)
+first_step fails check checks f false rest tells more e = inr (tells.1 refl, more refl e)
+
+none_step : (fails : SettingsFault → Type 0) (check : SettingsFault) (checks : List SettingsFault) (b : Bool) (rest : Option SettingsFault) → Tells b (fails check)
+    → (b ≡ false → rest ≡ None → NoneFails fails checks) → (if b then Some check else rest) ≡ None → NoneFails fails (check ∷ checks)
+none_step fails check checks true rest tells more e = absurd (let h = e in cc)
+none_step fails check checks false rest tells more e = (tells.1 refl, more refl e)
+
+whole_first : (fails : SettingsFault → Type 0) (f : SettingsFault) (a b c d e w g l : Bool) → Tells a (fails wrong_carrier) → Tells b (fails same_name) → Tells c (fails same_pid) → Tells d (fails wrong_rules) → Tells e (fails no_stamps) → (d ≡ false → Tells w (fails wrong_window)) → Tells g (fails short_gap) → Tells l (fails long_cycle) → first_met a b c d e w g l ≡ Some f → IsFirst fails whole_checks f
+unfolding first_met
+whole_first fails f a b c d e w g l ta tb tc td te tw tg tl met = first_step fails wrong_carrier (same_name ∷ same_pid ∷ wrong_rules ∷ no_stamps ∷ wrong_window ∷ short_gap ∷ long_cycle ∷ []) f a _ ta (λ n_a r_a. first_step fails same_name (same_pid ∷ wrong_rules ∷ no_stamps ∷ wrong_window ∷ short_gap ∷ long_cycle ∷ []) f b _ tb (λ n_b r_b. first_step fails same_pid (wrong_rules ∷ no_stamps ∷ wrong_window ∷ short_gap ∷ long_cycle ∷ []) f c _ tc (λ n_c r_c. first_step fails wrong_rules (no_stamps ∷ wrong_window ∷ short_gap ∷ long_cycle ∷ []) f d _ td (λ n_d r_d. first_step fails no_stamps (wrong_window ∷ short_gap ∷ long_cycle ∷ []) f e _ te (λ n_e r_e. first_step fails wrong_window (short_gap ∷ long_cycle ∷ []) f w _ (tw n_d) (λ n_w r_w. first_step fails short_gap (long_cycle ∷ []) f g _ tg (λ n_g r_g. first_step fails long_cycle [] f l _ tl (λ n_l r_l. cc) r_g) r_w) r_e) r_d) r_c) r_b) r_a) met
+
+whole_none : (fails : SettingsFault → Type 0) (a b c d e w g l : Bool) → Tells a (fails wrong_carrier) → Tells b (fails same_name) → Tells c (fails same_pid) → Tells d (fails wrong_rules) → Tells e (fails no_stamps) → (d ≡ false → Tells w (fails wrong_window)) → Tells g (fails short_gap) → Tells l (fails long_cycle) → first_met a b c d e w g l ≡ None → NoneFails fails whole_checks
+unfolding first_met
+whole_none fails a b c d e w g l ta tb tc td te tw tg tl met = none_step fails wrong_carrier (same_name ∷ same_pid ∷ wrong_rules ∷ no_stamps ∷ wrong_window ∷ short_gap ∷ long_cycle ∷ []) a _ ta (λ n_a r_a. none_step fails same_name (same_pid ∷ wrong_rules ∷ no_stamps ∷ wrong_window ∷ short_gap ∷ long_cycle ∷ []) b _ tb (λ n_b r_b. none_step fails same_pid (wrong_rules ∷ no_stamps ∷ wrong_window ∷ short_gap ∷ long_cycle ∷ []) c _ tc (λ n_c r_c. none_step fails wrong_rules (no_stamps ∷ wrong_window ∷ short_gap ∷ long_cycle ∷ []) d _ td (λ n_d r_d. none_step fails no_stamps (wrong_window ∷ short_gap ∷ long_cycle ∷ []) e _ te (λ n_e r_e. none_step fails wrong_window (short_gap ∷ long_cycle ∷ []) w _ (tw n_d) (λ n_w r_w. none_step fails short_gap (long_cycle ∷ []) g _ tg (λ n_g r_g. none_step fails long_cycle [] l _ tl (λ n_l r_l. tt) r_g) r_w) r_e) r_d) r_c) r_b) r_a) met
+
+-- the checks that do not look at rules
+kinds_with : (services : List ServiceFields) (lists : List (List Rule)) → map (λ (s : ServiceFields). s.kind) (services_with services lists) ≡ map (λ (s : ServiceFields). s.kind) services
+kinds_with [] lists = refl
+kinds_with (s ∷ services) [] = refl
+kinds_with (s ∷ services) (rules ∷ lists) = ap (λ (rest : List KindFields). s.kind ∷ rest) (kinds_with services lists)
+
+names_with : (services : List ServiceFields) (lists : List (List Rule)) → map (λ (s : ServiceFields). s.name) (services_with services lists) ≡ map (λ (s : ServiceFields). s.name) services
+names_with [] lists = refl
+names_with (s ∷ services) [] = refl
+names_with (s ∷ services) (rules ∷ lists) = ap (λ (rest : List (List ℕ)). s.name ∷ rest) (names_with services lists)
+
+carrier_with : (plan : PlanFields) (lists : List (List Rule)) → has_wrong_carrier (with_rules plan lists) ≡ has_wrong_carrier plan
+carrier_with plan lists = rw (kinds_with plan.services lists)
+
+pid_with : (plan : PlanFields) (lists : List (List Rule)) → has_same_pid (with_rules plan lists) ≡ has_same_pid plan
+pid_with plan lists = rw (kinds_with plan.services lists)
+
+stamps_with : (plan : PlanFields) (lists : List (List Rule)) → needs_stamps (with_rules plan lists) ≡ needs_stamps plan
+stamps_with plan lists = rw (kinds_with plan.services lists)
+
+gap_with : (plan : PlanFields) (lists : List (List Rule)) → has_short_gap (with_rules plan lists) ≡ has_short_gap plan
+gap_with plan lists = rw (kinds_with plan.services lists)
+
+delta_with : (plan : PlanFields) (lists : List (List Rule)) → has_long_cycle (with_rules plan lists) ≡ has_long_cycle plan
+delta_with plan lists = rw (kinds_with plan.services lists)
+
+name_with : (plan : PlanFields) (lists : List (List Rule)) → has_same_name (with_rules plan lists) ≡ has_same_name plan
+name_with plan lists = rw (names_with plan.services lists)
+
+-- as many rules as texts
+same_length : (texts : List (List ℕ)) (rules : List Rule) → AreRules texts rules → length texts ≡ length rules
+same_length [] [] are = refl
+same_length [] (rule ∷ rules) are = absurd are
+same_length (text ∷ texts) [] are = absurd are
+same_length (text ∷ texts) (rule ∷ rules) are = ap suc (same_length texts rules are.1)
+
+same_none : (texts : List (List (List ℕ))) (lists : List (List Rule)) → AreRuleLists texts lists → has_no_rule texts ≡ has_no_rule lists
+same_none [] [] are = refl
+same_none [] (rules ∷ lists) are = absurd are
+same_none (text ∷ texts) [] are = absurd are
+same_none (text ∷ texts) (rules ∷ lists) are = rw (same_length text rules are.0, same_none texts lists are.1)
+
+same_sum : (texts : List (List (List ℕ))) (lists : List (List Rule)) → AreRuleLists texts lists → sum_by length texts ≡ sum_by length lists
+same_sum [] [] are = refl
+same_sum [] (rules ∷ lists) are = absurd are
+same_sum (text ∷ texts) [] are = absurd are
+same_sum (text ∷ texts) (rules ∷ lists) are =
+    sum_by-cons length text texts ∙ rw (same_length text rules are.0, same_sum texts lists are.1) (sym (sum_by-cons length rules lists))
+
+same_count : (texts : List (List (List ℕ))) (lists : List (List Rule)) → AreRuleLists texts lists → has_wrong_count lists ≡ has_wrong_count texts
+same_count texts lists are = rw (same_none texts lists are, same_sum texts lists are)
+
+lists_are : (services : List Service) → map (λ (s : ServiceFields). s.rules) (services_seen services) ≡ rules_seen services
+lists_are [] = refl
+lists_are (s ∷ services) = ap (λ (rest : List (List Rule)). s.rules ∷ rest) (lists_are services)
+
+fails_not : (top : Members) (rules : List (List Rule)) (count : Bool) → (true ≡ true → AreRuleLists (rule_texts top) rules) → count ≡ has_wrong_count (rule_texts top) → count ≡ false
+    → ¬ (HasNoRule (rule_texts top) ⊎ (has_wrong_count (rule_texts top) ≡ true))
+fails_not top rules count all counted off (inl none) = none rules (all refl)
+fails_not top rules count all counted off (inr wrong) = let h = sym off ∙ counted ∙ wrong in cc
+
+no_rule_tells : (top : Members) (rules : List (List Rule)) (spelled : Bool) → HaveRulesOf (rule_texts top) rules spelled → (count : Bool) → count ≡ has_wrong_count rules
+    → Tells (not spelled || count) (Fails top wrong_rules)
+no_rule_tells top rules false have count same = (λ on. inl (λ others are. let h = (have.only others are).0 in cc), λ off. absurd (let h = off in cc))
+no_rule_tells top rules true have count same =
+    let counted : count ≡ has_wrong_count (rule_texts top) = same ∙ same_count (rule_texts top) rules (have.all refl) in
+    (λ on. inr (sym counted ∙ on), λ off fails. fails_not top rules count have.all counted off fails)
+
+-- windows, where the rules are spelled
+one_plan : (top : Members) (draft : Draft) → IsDraftOf top draft → (plan : PlanFields) → IsPlan top plan → plan ≡ draft_seen draft
+one_plan top draft is plan gives =
+    let same : gives.rules ≡ rules_seen draft.services = (is.rules.only gives.rules gives.spelled).1 in
+    gives.values ∙ ap (with_rules (plan_of top)) same ∙ sym is.seen
+
+window_tells : (top : Members) (draft : Draft) → IsDraftOf top draft → draft.spelled ≡ true
+    → Tells (has_wrong_window (table_packets (draft_seen draft)) (draft_seen draft)) (Fails top wrong_window)
+window_tells top draft is spelled = (
+  λ on. (draft_seen draft, record { rules = rules_seen draft.services; spelled = is.rules.all spelled; values = is.seen }, on),
+  λ off fails. let same : fails.0 ≡ draft_seen draft = one_plan top draft is fails.0 fails.1 in let h = sym off ∙ rw same at fails.2 in cc,
+)
+
+spelled_of : (spelled count : Bool) → (not spelled || count) ≡ false → spelled ≡ true
+spelled_of true count off = refl
+spelled_of false count off = absurd (let h = off in cc)
+
+-- the draft is refused for the first check that fails, or passes all
+pub refused_whole : (top : Members) (draft : Draft) (f : SettingsFault) → IsDraftOf top draft → whole_fault draft.spelled (draft_seen draft) ≡ Some f → IsFirst (Fails top) whole_checks f
+unfolding whole_fault
+refused_whole top draft f is met =
+    let rules = no_rule_tells top (rules_seen draft.services) draft.spelled is.rules (has_wrong_count (rule_lists (draft_seen draft))) (ap has_wrong_count (lists_are draft.services)) in
+    whole_first (Fails top) f _ _ _ _ _ _ _ _ (tells_same _ _ (ap has_wrong_carrier is.seen ∙ carrier_with (plan_of top) (rules_seen draft.services))) (tells_same _ _ (ap has_same_name is.seen ∙ name_with (plan_of top) (rules_seen draft.services))) (tells_same _ _ (ap has_same_pid is.seen ∙ pid_with (plan_of top) (rules_seen draft.services))) rules (tells_same _ _ (ap needs_stamps is.seen ∙ stamps_with (plan_of top) (rules_seen draft.services))) (λ off. window_tells top draft is (spelled_of draft.spelled _ off)) (tells_same _ _ (ap has_short_gap is.seen ∙ gap_with (plan_of top) (rules_seen draft.services))) (tells_same _ _ (ap has_long_cycle is.seen ∙ delta_with (plan_of top) (rules_seen draft.services))) met
+
+pub passed_whole : (top : Members) (draft : Draft) → IsDraftOf top draft → whole_fault draft.spelled (draft_seen draft) ≡ None → NoneFails (Fails top) whole_checks
+unfolding whole_fault
+passed_whole top draft is met =
+    let rules = no_rule_tells top (rules_seen draft.services) draft.spelled is.rules (has_wrong_count (rule_lists (draft_seen draft))) (ap has_wrong_count (lists_are draft.services)) in
+    whole_none (Fails top) _ _ _ _ _ _ _ _ (tells_same _ _ (ap has_wrong_carrier is.seen ∙ carrier_with (plan_of top) (rules_seen draft.services))) (tells_same _ _ (ap has_same_name is.seen ∙ name_with (plan_of top) (rules_seen draft.services))) (tells_same _ _ (ap has_same_pid is.seen ∙ pid_with (plan_of top) (rules_seen draft.services))) rules (tells_same _ _ (ap needs_stamps is.seen ∙ stamps_with (plan_of top) (rules_seen draft.services))) (λ off. window_tells top draft is (spelled_of draft.spelled _ off)) (tells_same _ _ (ap has_short_gap is.seen ∙ gap_with (plan_of top) (rules_seen draft.services))) (tells_same _ _ (ap has_long_cycle is.seen ∙ delta_with (plan_of top) (rules_seen draft.services))) met
+
+-- a rule that is spelled is one of a plan
+rules_valid : (texts : List (List ℕ)) (rules : List Rule) → AreRules texts rules → list_all is_valid_rule rules ≡ true
+rules_valid [] [] are = refl
+rules_valid [] (rule ∷ rules) are = absurd are
+rules_valid (text ∷ texts) [] are = absurd are
+rules_valid (text ∷ texts) (rule ∷ rules) are = rw (le-leb rule.slash (bit_count rule.address) are.0.range, are.0.clear, rules_valid texts rules are.1)
+
+services_valid : (texts : List (List (List ℕ))) (services : List Service) → AreRuleLists texts (rules_seen services)
+    → list_all (has_valid_values 32) (services_seen services) ≡ true → list_all (is_valid_service 32) (services_seen services) ≡ true
+services_valid [] [] are valid = refl
+services_valid [] (s ∷ services) are valid = absurd are
+services_valid (text ∷ texts) [] are valid = absurd are
+services_valid (text ∷ texts) (s ∷ services) are valid =
+    let (first, others) = and_parts (has_valid_values 32 (service_seen s)) (list_all (has_valid_values 32) (services_seen services)) valid in
+    rw (first, rules_valid text s.rules are.0, services_valid texts services are.1 others)
+
+-- a test that is not met, and the tests behind it
+not_met : (b : Bool) (check : SettingsFault) (rest : Option SettingsFault) → (if b then Some check else rest) ≡ None → (b ≡ false) × (rest ≡ None)
+not_met true check rest e = absurd (let h = e in cc)
+not_met false check rest e = (refl, e)
+
+pub record NoneMet (a b c d e w g l : Bool) : Type 0 where
+  pub carrier : a ≡ false
+  pub name : b ≡ false
+  pub pid : c ≡ false
+  pub rules : d ≡ false
+  pub stamps : e ≡ false
+  pub window : w ≡ false
+  pub gap : g ≡ false
+  pub delta : l ≡ false
+
+none_met : (a b c d e w g l : Bool) → first_met a b c d e w g l ≡ None → NoneMet a b c d e w g l
+unfolding first_met
+none_met a b c d e w g l met =
+    let na = not_met a wrong_carrier _ met in
+    let nb = not_met b same_name _ na.1 in
+    let nc = not_met c same_pid _ nb.1 in
+    let nd = not_met d wrong_rules _ nc.1 in
+    let ne = not_met e no_stamps _ nd.1 in
+    let nw = not_met w wrong_window _ ne.1 in
+    let ng = not_met g short_gap _ nw.1 in
+    let nl = not_met l long_cycle _ ng.1 in
+    record { carrier = na.0; name = nb.0; pid = nc.0; rules = nd.0; stamps = ne.0; window = nw.0; gap = ng.0; delta = nl.0 }
+
+none_of_three : (a b c : Bool) → (not a || (b || c)) ≡ false → (a ≡ true) × ((b ≡ false) × (c ≡ false))
+none_of_three true false false e = (refl, (refl, refl))
+none_of_three true true c e = absurd (let h = e in cc)
+none_of_three true false true e = absurd (let h = e in cc)
+none_of_three false b c e = absurd (let h = e in cc)
+
+-- such a plan passes all checks
+pub passed_is_plan : (top : Members) (draft : Draft) → IsDraftOf top draft → whole_fault draft.spelled (draft_seen draft) ≡ None → is_plan (draft_seen draft) ≡ true
+unfolding whole_fault is_in_range is_consistent is_plan_of_settings
+passed_is_plan top draft is met =
+    let none = none_met _ _ _ _ _ _ _ _ met in
+    let (spelled, counts) = none_of_three draft.spelled (has_no_rule (rule_lists (draft_seen draft))) (has_too_many_rules (rule_lists (draft_seen draft))) none.rules in
+    rw (is.top_valid, services_valid (rule_texts top) draft.services (is.rules.all spelled) is.services_valid, none.carrier, none.name, none.pid, counts.1, none.stamps, none.window, none.gap, none.delta, counts.0)
+
+pub accepted_table : (top : Members) (draft : Draft) → IsDraftOf top draft → parts_fault top ≡ None → whole_fault draft.spelled (draft_seen draft) ≡ None → IsAcceptedTable top (draft_seen draft)
+unfolding whole_fault
+accepted_table top draft is tables met =
+    let none = none_met _ _ _ _ _ _ _ _ met in
+    let (spelled, counts) = none_of_three draft.spelled (has_no_rule (rule_lists (draft_seen draft))) (has_too_many_rules (rule_lists (draft_seen draft))) none.rules in
+    record {
+      tables = tables_parts top ∙ tables;
+      whole = passed_whole top draft is met;
+      gives = record { rules = rules_seen draft.services; spelled = is.rules.all spelled; values = is.seen };
+    }
+
+-- what is wrong with the tables, or with the whole
+refused_by : (o : Option SettingsFault) (fails : SettingsFault → Type 0) (f : SettingsFault) → o ≡ Some f → MatchOption o (IsFirst fails whole_checks f) (λ first. f ≡ first)
+refused_by None fails f e = absurd (let h = e in cc)
+refused_by (Some g) fails f e = let h = e in cc
+
+refused_behind : (o : Option SettingsFault) (fails : SettingsFault → Type 0) (f : SettingsFault) → o ≡ None → IsFirst fails whole_checks f → MatchOption o (IsFirst fails whole_checks f) (λ first. f ≡ first)
+refused_behind None fails f e first = first
+refused_behind (Some g) fails f e first = absurd (let h = e in cc)
+
+pub refused_tables : (top : Members) (e : PlanError) → Faults e (parts_fault top) → OnFault e (IsRefusedTable top)
+refused_tables top (error.Fault f) wrong = refused_by (tables_fault top) (Fails top) (fault_seen f) (tables_parts top ∙ wrong)
+refused_tables top error.OutOfMemory wrong = tt
+
+pub refused_table : (top : Members) (draft : Draft) (f : SettingsFault) → IsDraftOf top draft → parts_fault top ≡ None → whole_fault draft.spelled (draft_seen draft) ≡ Some f → IsRefusedTable top f
+refused_table top draft f is tables met = refused_behind (tables_fault top) (Fails top) f (tables_parts top ∙ tables) (refused_whole top draft f is met)
+
+-- the settings
+pub refused_text : (bytes : List ℕ) (e : PlanError) → OnFault e (λ f. (f ≡ no_document) × IsNoDocument bytes) → OnFault e (IsRefused bytes)
+refused_text bytes (error.Fault f) wrong = inl (wrong.1, wrong.0)
+refused_text bytes error.OutOfMemory wrong = tt
+
+pub refused_settings : (bytes : List ℕ) (top : Members) (e : PlanError) → IsDocument bytes top → OnFault e (IsRefusedTable top) → OnFault e (IsRefused bytes)
+refused_settings bytes top (error.Fault f) is wrong = inr (top, is, wrong)
+refused_settings bytes top error.OutOfMemory is wrong = tt
+
+pub accepted_settings : (bytes : List ℕ) (top : Members) (plan : PlanFields) → IsDocument bytes top → IsAcceptedTable top plan → IsAccepted bytes plan
+accepted_settings bytes top plan is accepted = record { top = top; document = is; tables = accepted.tables; whole = accepted.whole; gives = accepted.gives }
+
+-- accepted settings want memory alone
+pub only_memory : (bytes : List ℕ) (plan : PlanFields) (e : PlanError) → OnFault e (IsRefused bytes) → IsAccepted bytes plan → e ≡ error.OutOfMemory
+only_memory bytes plan (error.Fault f) refused accepted = absurd (acceptance_is_no_refusal bytes plan (fault_seen f) accepted refused)
+only_memory bytes plan error.OutOfMemory refused accepted = refl

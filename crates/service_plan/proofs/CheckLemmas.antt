@@ -1,0 +1,174 @@
+-- Services against each other.
+use Rattle.std.proofs.Common.{◌≡◌, lit≤, sum_by, option_map, not, if◌then◌else◌, ℕ, ◌+◌, ◌<◌, ◌≤◌, Bool, true, false, ◌||◌, ◌&&◌, ◌==◌, nat_le, ◌++◌, List, [], ◌∷◌, length, map, get_or, drop, Option, Some, None, nat_lt, is_some, refl, ap, sym, ◌∙◌, arith}
+use Rattle.std.specs.List.{list_any, list_all, filter_map, cons_option}
+use Rattle.std.proofs.lemmas.List.{drop_more, drop_all}
+use Rattle.std.proofs.lemmas.Bool.Decides.{nat_tests}
+use Rattle.plan_spec.specs.Plan.{is_baseband, KindFields, ServiceFields, IntFields, PlanFields, SlicedFields, sliced_of, pid_of, isi_of, table_pids}
+use Rattle.plan_spec.specs.Checks.{has_pair, is_wrong_window, overlaps, is_gse, is_plain, is_between}
+use Rattle.plan_spec.specs.Keys.{holds}
+use Rattle.service_plan.specs.Parts.{kind_seen, int_seen}
+use Rattle.service_plan.specs.Drafts.{services_seen}
+use Rattle.service_plan.specs.Wholes.{has_slices, ids_seen, int_shares, is_small_gap}
+use Rattle.service_plan.specs.declared.service.Service.{Service}
+use Rattle.service_plan.specs.declared.plan.IntPlan.{IntPlan}
+use Rattle.ts_spec.specs.Recording.{RecordingForm}
+use Rattle.addr_rules.specs.declared.rules.Rule.{Rule}
+use Rattle.plan_spec.specs.Valid.{has_valid_top, is_valid_frame_size, is_valid_int, most_services}
+use Rattle.std.proofs.lemmas.List.Sums.{sum_by-cons}
+use Rattle.std.proofs.lemmas.Bool.{and_parts}
+
+abbrev pub kinds_seen : List Service → List KindFields
+kinds_seen services = map (λ (s : ServiceFields). s.kind) (services_seen services)
+
+-- a test of what is found among the services
+any_option : {X : Type 0} (p : X → Bool) (o : Option X) (xs : List X) → list_any p (cons_option o xs) ≡ (holds p o || list_any p xs)
+any_option p None xs = refl
+any_option p (Some x) xs = refl
+
+pub any_found : {X : Type 0} (p : X → Bool) (f : Service → Option X) (services : List Service) → list_any p (filter_map f services) ≡ list_any (λ s. holds p (f s)) services
+any_found p f [] = refl
+any_found p f (s ∷ services) = any_option p (f s) (filter_map f services) ∙ rw (any_found p f services)
+
+-- pairs of what is found from a place on
+pair_option : {X : Type 0} (related : X → X → Bool) (o : Option X) (x : X) (xs : List X) → o ≡ Some x → has_pair related (cons_option o xs) ≡ (list_any (related x) xs || has_pair related xs)
+pair_option related o x xs is = rw is
+
+pub pairs_more : {X : Type 0} (related : X → X → Bool) (f : Service → Option X) (services : List Service) (i : ℕ) (v : Service) (x : X) (b : Bool) → i < length services → v ≡ get_or services i v
+    → f v ≡ Some x → b ≡ list_any (λ s. holds (related x) (f s)) (drop (i + 1) services)
+    → has_pair related (filter_map f (drop i services)) ≡ (b || has_pair related (filter_map f (drop (i + 1) services)))
+pairs_more related f services i v x b within is found any =
+    rw (drop_more services i v within, ← is) (pair_option related (f v) x (filter_map f (drop (i + 1) services)) found ∙ rw (any_found (related x) f (drop (i + 1) services), ← any))
+
+pub pairs_same : {X : Type 0} (related : X → X → Bool) (f : Service → Option X) (services : List Service) (i : ℕ) (v : Service) → i < length services → v ≡ get_or services i v
+    → f v ≡ None → has_pair related (filter_map f (drop i services)) ≡ has_pair related (filter_map f (drop (i + 1) services))
+pairs_same related f services i v within is none = rw (drop_more services i v within, ← is, none)
+
+pub pairs_end : {X : Type 0} (related : X → X → Bool) (f : Service → Option X) (services : List Service) (i : ℕ) → length services ≤ i → has_pair related (filter_map f (drop i services)) ≡ false
+pairs_end related f services i past = rw (drop_all i services past)
+
+-- the names and kinds of services, as definitions and as the code see them
+pub names_found : (services : List Service) → map (λ (s : ServiceFields). s.name) (services_seen services) ≡ filter_map (λ s. Some s.name) services
+names_found [] = refl
+names_found (s ∷ services) = ap (λ rest. s.name ∷ rest) (names_found services)
+
+pub kinds_found : {X : Type 0} (f : KindFields → Option X) (services : List Service) → filter_map f (kinds_seen services) ≡ filter_map (λ s. f (kind_seen s.kind)) services
+kinds_found f [] = refl
+kinds_found f (s ∷ services) = ap (λ rest. cons_option (f (kind_seen s.kind)) rest) (kinds_found f services)
+
+pub any_kind : (p : KindFields → Bool) (services : List Service) → list_any p (kinds_seen services) ≡ list_any (λ s. p (kind_seen s.kind)) services
+any_kind p [] = refl
+any_kind p (s ∷ services) = rw (any_kind p services)
+
+pub all_kinds : (p : KindFields → Bool) (services : List Service) → list_all p (kinds_seen services) ≡ list_all (λ s. p (kind_seen s.kind)) services
+all_kinds p [] = refl
+all_kinds p (s ∷ services) = rw (all_kinds p services)
+
+-- some service is sliced
+some_option : (o : Option SlicedFields) (xs : List SlicedFields) → nat_lt 0 (length (cons_option o xs)) ≡ (is_some o || nat_lt 0 (length xs))
+some_option None xs = refl
+some_option (Some x) xs = grind (arith, nat_tests)
+
+pub sliced_found : (services : List Service) → nat_lt 0 (length (filter_map (λ s. sliced_of (kind_seen s.kind)) services)) ≡ list_any (λ s. has_slices (kind_seen s.kind)) services
+sliced_found [] = refl
+sliced_found (s ∷ services) = some_option (sliced_of (kind_seen s.kind)) _ ∙ rw (sliced_found services)
+
+-- PIDs with the INT's
+pid_pairs : (table : Option IntFields) (pids : List ℕ) → has_pair (λ a b. a == b) (table_pids table ++ pids) ≡ (int_shares table pids || has_pair (λ a b. a == b) pids)
+pid_pairs None pids = refl
+pid_pairs (Some int) pids = refl
+
+or_assoc : (a b c : Bool) → (a || (b || c)) ≡ ((a || b) || c)
+or_assoc true b c = refl
+or_assoc false b c = refl
+
+pub pid_checked : (table : Option IntFields) (services : List Service) (r int pids isis : Bool) → r ≡ (int || (pids || isis)) → int ≡ int_shares table (ids_seen false services)
+    → pids ≡ has_pair (λ a b. a == b) (ids_seen false services) → isis ≡ has_pair (λ a b. a == b) (ids_seen true services)
+    → r ≡ (has_pair (λ a b. a == b) (table_pids table ++ filter_map pid_of (kinds_seen services)) || has_pair (λ a b. a == b) (filter_map isi_of (kinds_seen services)))
+pid_checked table services r int pids isis all i p q =
+    rw (kinds_found pid_of services, kinds_found isi_of services, pid_pairs table (ids_seen false services), ← i, ← p, ← q) (all ∙ or_assoc int pids isis)
+
+-- the checks of windows
+pub window_checked : (t : ℕ) (plan : PlanFields) (services : List Service) (r wrong overlap : Bool) → r ≡ (nat_le plan.cycle t || (wrong || overlap))
+    → wrong ≡ list_any (λ (s : Service). holds (is_wrong_window t plan) (sliced_of (kind_seen s.kind))) services
+    → overlap ≡ has_pair overlaps (filter_map (λ (s : Service). sliced_of (kind_seen s.kind)) services)
+    → r ≡ (nat_le plan.cycle t || (list_any (is_wrong_window t plan) (filter_map sliced_of (kinds_seen services)) || has_pair overlaps (filter_map sliced_of (kinds_seen services))))
+window_checked t plan services r wrong overlap all w o =
+    rw (kinds_found sliced_of services, any_found (is_wrong_window t plan) (λ (s : Service). sliced_of (kind_seen s.kind)) services, ← w, ← o) all
+
+pub gap_checked : (plan : PlanFields) (services : List Service) (r : Bool) → r ≡ list_any (λ (s : Service). holds (is_small_gap plan) (sliced_of (kind_seen s.kind))) services
+    → r ≡ list_any (is_small_gap plan) (filter_map sliced_of (kinds_seen services))
+gap_checked plan services r all = rw (kinds_found sliced_of services, any_found (is_small_gap plan) (λ (s : Service). sliced_of (kind_seen s.kind)) services) all
+
+pub sliced_and : (services : List Service) (r some other test : Bool) → r ≡ (some && other) → some ≡ list_any (λ (s : Service). has_slices (kind_seen s.kind)) services → other ≡ test
+    → r ≡ (nat_lt 0 (length (filter_map sliced_of (kinds_seen services))) && test)
+sliced_and services r some other test all s t = rw (kinds_found sliced_of services, sliced_found services, ← s, ← t) all
+
+-- the carrier
+some_mapped : {X Y : Type 0} (f : X → Y) (o : Option X) → is_some (option_map f o) ≡ is_some o
+some_mapped f None = refl
+some_mapped f (Some x) = refl
+
+pub frames_checked : (frame : Option ℕ) (table : Option IntPlan) (form : RecordingForm) (services : List Service) (r gse there plain : Bool) → true ≡ is_some frame
+    → r ≡ (not gse || (there || not plain)) → gse ≡ list_all (λ (s : Service). is_gse (kind_seen s.kind)) services → there ≡ is_some table → plain ≡ is_plain form
+    → r ≡ (if is_some frame then (not (list_all is_gse (kinds_seen services)) || (is_some (option_map int_seen table) || not (is_plain form))) else list_any is_gse (kinds_seen services))
+frames_checked frame table form services r gse there plain bb all g t p =
+    rw (← bb, all_kinds is_gse services, some_mapped int_seen table, ← g, ← t, ← p) all
+
+pub packets_checked : (frame : Option ℕ) (table : Option IntPlan) (form : RecordingForm) (services : List Service) (r : Bool) → false ≡ is_some frame
+    → r ≡ list_any (λ (s : Service). is_gse (kind_seen s.kind)) services
+    → r ≡ (if is_some frame then (not (list_all is_gse (kinds_seen services)) || (is_some (option_map int_seen table) || not (is_plain form))) else list_any is_gse (kinds_seen services))
+packets_checked frame table form services r ts any = rw (← ts, any_kind is_gse services) any
+
+-- the rules
+abbrev pub lists_seen : List Service → List (List Rule)
+lists_seen services = map (λ (s : ServiceFields). s.rules) (services_seen services)
+
+any_rules : (services : List Service) → list_any (λ rules. length rules == 0) (lists_seen services) ≡ list_any (λ (s : Service). length s.rules == 0) services
+any_rules [] = refl
+any_rules (s ∷ services) = rw (any_rules services)
+
+sum_rules : (services : List Service) → sum_by length (lists_seen services) ≡ sum_by (λ (s : Service). length s.rules) services
+sum_rules [] = refl
+sum_rules (s ∷ services) = sum_by-cons length s.rules (lists_seen services) ∙ ap (λ n. length s.rules + n) (sum_rules services) ∙ sym (sum_by-cons (λ (s : Service). length s.rules) s services)
+
+pub rules_checked : (services : List Service) (r spelled none many : Bool) → r ≡ (not spelled || (none || many)) → none ≡ list_any (λ (s : Service). length s.rules == 0) services
+    → many ≡ nat_lt 128 (sum_by (λ (s : Service). length s.rules) services)
+    → r ≡ (not spelled || (list_any (λ rules. length rules == 0) (lists_seen services) || nat_lt 128 (sum_by length (lists_seen services))))
+rules_checked services r spelled none many all n m = rw (any_rules services, sum_rules services, ← n, ← m) all
+
+pub sum_more : (services : List Service) (i : ℕ) (v : Service) → i < length services → v ≡ get_or services i v
+    → sum_by (λ (s : Service). length s.rules) (drop i services) ≡ length v.rules + sum_by (λ (s : Service). length s.rules) (drop (i + 1) services)
+sum_more services i v within is = rw (drop_more services i v within, ← is) (sum_by-cons (λ (s : Service). length s.rules) v (drop (i + 1) services))
+
+pub sum_end : (services : List Service) (i : ℕ) → length services ≤ i → sum_by (λ (s : Service). length s.rules) (drop i services) ≡ 0
+sum_end services i past = rw (drop_all i services past)
+
+pub not_too_many : (a b c : Bool) → false ≡ (a || (b || c)) → c ≡ false
+not_too_many true b c e = absurd (let h = e in cc)
+not_too_many false true c e = absurd (let h = e in cc)
+not_too_many false false c e = sym e
+
+-- what the ranges of the top table say
+between_least : (least most n : ℕ) → is_between least most n ≡ true → least ≤ n
+between_least least most n h = let (low, high) = and_parts (nat_le least n) (nat_le n most) h in grind (arith, nat_tests)
+
+between_most : (least most n : ℕ) → is_between least most n ≡ true → n ≤ most
+between_most least most n h = let (low, high) = and_parts (nat_le least n) (nat_le n most) h in grind (arith, nat_tests)
+
+pub rate_is_some : (plan : PlanFields) → has_valid_top plan ≡ true → 1 ≤ plan.packet_rate
+unfolding has_valid_top
+rate_is_some plan valid = between_least 1 1000000 plan.packet_rate (and_parts (is_between 1 1000000 plan.packet_rate) _ valid).0
+
+most_is_64 : (b : Bool) → most_services b ≤ 64
+most_is_64 true = lit≤ tt
+most_is_64 false = lit≤ tt
+
+pub services_are_few : (plan : PlanFields) → has_valid_top plan ≡ true → length plan.services ≤ 64
+unfolding has_valid_top
+services_are_few plan valid =
+    let rest = (and_parts (is_between 1 1000000 plan.packet_rate) _ valid).1 in
+    let frames = (and_parts (is_between 100 1000000 plan.cycle) _ rest).1 in
+    let ints = (and_parts (is_valid_frame_size plan.frame_bytes) _ frames).1 in
+    let count = (and_parts (is_valid_int plan.table) _ ints).1 in
+    let few = between_most 1 (most_services (is_baseband plan)) (length plan.services) count in
+    omega (arith, most_is_64 (is_baseband plan), few)

@@ -1,0 +1,32 @@
+-- What is wrong with settings, in errors; the carrier and the INT's table.
+use Rattle.std.proofs.Common.{◌≡◌, ℕ, Bool, List, Option, Some, None, bytes_eq, codes, refl}
+use Rattle.toml.specs.Data.{Members}
+use Rattle.plan_spec.specs.Keys.{SettingsFault, first_of, table_fault, text_or}
+use Rattle.plan_spec.specs.Settings.{says_baseband, int_fault, int_keys}
+use Rattle.service_plan.specs.Keys.{fault_seen, Faults}
+use Rattle.service_plan.specs.declared.fault.PlanError.{PlanError}
+use Rattle.service_plan.specs.declared.fault.PlanError.TheVariants as error
+pub use Rattle.settings_text.proofs.KeyLemmas.{fault_absent, no_fault_absent, fault_typed, fault_ranged, no_fault_there, number_absent, number_there, flag_absent, flag_there, text_absent, text_there, address_absent, address_there, first_here, first_later, held, natural_there, natural_within, natural_outside, table_absent, table_there, between_both, items_absent, same_text}
+
+pub baseband_said : (top : Members) (word : List ℕ) (b : Bool) → word ≡ text_or (codes "ts") (codes "carrier") top → b ≡ bytes_eq word (codes "bb")
+    → b ≡ says_baseband top
+unfolding says_baseband
+baseband_said top word b is said = rw (← is) said
+
+-- the table of the INT, or none
+pub int_fault_there : (int : Members) → int_fault (Some int) ≡ table_fault int_keys int
+unfolding int_fault
+int_fault_there int = refl
+
+pub int_fault_absent : int_fault None ≡ None
+unfolding int_fault
+int_fault_absent = refl
+
+-- a fault, where the error is one, of two that may be
+pub error_here : (e : PlanError) (a b : Option SettingsFault) → Faults e a → Faults e (first_of a b)
+error_here (error.Fault f) a b here = first_here a b (fault_seen f) here
+error_here error.OutOfMemory a b here = tt
+
+pub error_later : (e : PlanError) (a b : Option SettingsFault) → a ≡ None → Faults e b → Faults e (first_of a b)
+error_later (error.Fault f) a b none later = first_later a b (Some (fault_seen f)) none later
+error_later error.OutOfMemory a b none later = tt

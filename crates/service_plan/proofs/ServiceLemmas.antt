@@ -1,0 +1,108 @@
+-- A service of a table: its kind, its filter, and what is wrong with it.
+use Rattle.std.proofs.Common.{◌≡◌, ℕ, Bool, true, false, List, [], Option, Some, None, codes, bytes_eq, if◌then◌else◌, Result, sym, ◌∙◌, ap, subst}
+use Rattle.std.specs.List.{filter_map}
+use Rattle.toml.specs.Data.{Data, Members}
+use Rattle.addr_rules.specs.Texts.{mac_of_text}
+use Rattle.plan_spec.specs.Plan.{ServiceFields, ule, mpe, fec, gse}
+use Rattle.plan_spec.specs.Checks.{is_service_name}
+use Rattle.plan_spec.specs.Keys.{SettingsFault, key_fault, table_fault, number_or, flag_or, text_or, items_at, texts_at}
+use Rattle.plan_spec.specs.Settings.{kind_key, mode_key, ule_keys, mpe_keys, indexed_keys, sliced_keys, gse_keys, kind_text, is_sliced_mode, kind_fault, fec_fault, service_fault, kind_of}
+use Rattle.plan_spec.specs.Valid.{is_valid_kind, has_valid_values}
+use Rattle.service_plan.specs.Parts.{kind_seen}
+use Rattle.settings_text.specs.Lists.{macs_of}
+use Rattle.service_plan.specs.Reading.{AnswersOrWants}
+use Rattle.service_plan.specs.declared.fault.PlanError.{PlanError}
+use Rattle.service_plan.specs.Services.{IsEnded, IsServiceOf}
+use Rattle.service_plan.specs.declared.service.Kind.{Kind}
+use Rattle.service_plan.specs.declared.draft.ServiceDraft.{ServiceDraft}
+
+-- the kinds
+pub kind_of_ule : (m : Members) (pid : ℕ) (address packing : Bool) → kind_text m ≡ codes "ule" → pid ≡ number_or 0 (codes "pid") m
+    → address ≡ flag_or true (codes "address") m → packing ≡ flag_or true (codes "packing") m → ule pid address packing ≡ kind_of m
+unfolding kind_of
+kind_of_ule m pid address packing word p a k = rw (word, ← p, ← a, ← k)
+
+pub kind_of_mpe : (m : Members) (pid : ℕ) → kind_text m ≡ codes "mpe" → pid ≡ number_or 0 (codes "pid") m → mpe pid ≡ kind_of m
+unfolding kind_of
+kind_of_mpe m pid word p = rw (word, ← p)
+
+pub kind_of_indexed : (m : Members) (pid rows parity : ℕ) → kind_text m ≡ codes "fec" → is_sliced_mode m ≡ false → pid ≡ number_or 0 (codes "pid") m
+    → rows ≡ number_or 1024 (codes "rows") m → parity ≡ number_or 64 (codes "parity") m → fec pid rows parity None ≡ kind_of m
+unfolding kind_of
+kind_of_indexed m pid rows parity word mode p r q = rw (word, mode, ← p, ← r, ← q)
+
+pub kind_of_sliced : (m : Members) (pid rows parity start length : ℕ) → kind_text m ≡ codes "fec" → is_sliced_mode m ≡ true → pid ≡ number_or 0 (codes "pid") m
+    → rows ≡ number_or 1024 (codes "rows") m → parity ≡ number_or 64 (codes "parity") m → start ≡ number_or 0 (codes "window_start") m
+    → length ≡ number_or 0 (codes "window_length") m → fec pid rows parity (Some (record { start = start; length = length })) ≡ kind_of m
+unfolding kind_of
+kind_of_sliced m pid rows parity start length word mode p r q s l = rw (word, mode, ← p, ← r, ← q, ← s, ← l)
+
+pub kind_of_gse : (m : Members) (isi : ℕ) (address : Bool) → bytes_eq (kind_text m) (codes "ule") ≡ false → bytes_eq (kind_text m) (codes "mpe") ≡ false
+    → bytes_eq (kind_text m) (codes "fec") ≡ false → isi ≡ number_or 0 (codes "isi") m → address ≡ flag_or true (codes "address") m → gse isi address ≡ kind_of m
+unfolding kind_of
+kind_of_gse m isi address u p f i a = rw (u, p, f, ← i, ← a)
+
+-- the filter: frames have none
+abbrev pub filter_of : Members → List (List ℕ)
+filter_of m = if bytes_eq (kind_text m) (codes "fec") then [] else filter_map mac_of_text (texts_at (codes "filter") m)
+
+pub filter_of_ule : (m : Members) (list : List (List ℕ)) → kind_text m ≡ codes "ule" → list ≡ macs_of (items_at (codes "filter") m) → list ≡ filter_of m
+filter_of_ule m list word is = rw word is
+
+pub filter_of_mpe : (m : Members) (list : List (List ℕ)) → kind_text m ≡ codes "mpe" → list ≡ macs_of (items_at (codes "filter") m) → list ≡ filter_of m
+filter_of_mpe m list word is = rw word is
+
+pub filter_of_gse : (m : Members) (list : List (List ℕ)) → bytes_eq (kind_text m) (codes "fec") ≡ false → list ≡ macs_of (items_at (codes "filter") m) → list ≡ filter_of m
+filter_of_gse m list word is = rw word is
+
+pub filter_of_fec : (m : Members) (list : List (List ℕ)) → kind_text m ≡ codes "fec" → list ≡ [] → list ≡ filter_of m
+filter_of_fec m list word is = rw word is
+
+-- a service that was read to its end
+pub ended_is_service : (m : Members) (place : ℕ) (name : List ℕ) (kind : Kind) (items : List Data) (filter : List (List ℕ)) (draft : ServiceDraft)
+    → IsEnded m place name kind items filter draft → name ≡ text_or [] (codes "name") m → kind_seen kind ≡ kind_of m → items ≡ items_at (codes "rules") m
+    → filter ≡ filter_of m → is_service_name name ≡ true → is_valid_kind 32 (kind_seen kind) ≡ true → IsServiceOf m place draft
+ended_is_service m place name kind items filter draft ended n k i f named valid =
+    let id : draft.service.service_id ≡ number_or 1 (codes "service_id") m = ap (λ (s : ServiceFields). s.service_id) ended.seen in
+    let tag : draft.service.component_tag ≡ number_or place (codes "component_tag") m = ap (λ (s : ServiceFields). s.component_tag) ended.seen in
+    record {
+      seen = ended.seen ∙ rw (← n, ← k, ← f);
+      rules = rw i at ended.rules;
+      valid = subst (λ (s : ServiceFields). has_valid_values 32 s ≡ true) (sym ended.seen) (rw (named, valid, rw id at ended.id_in_range, rw tag at ended.tag_in_range));
+    }
+
+-- an answer about one fault is one about an equal fault
+pub answers_for : {T : Type 0} (result : Result T PlanError) (a b : Option SettingsFault) (P : T → Type 0) → a ≡ b → AnswersOrWants result b P → AnswersOrWants result a P
+answers_for result a b P same answers = subst (λ (fault : Option SettingsFault). AnswersOrWants result fault P) (sym same) answers
+
+-- what is wrong with a service, by its kind
+pub service_fault_ule : (m : Members) → key_fault kind_key m ≡ None → kind_text m ≡ codes "ule" → service_fault m ≡ table_fault ule_keys m
+unfolding service_fault kind_fault
+service_fault_ule m none word = rw (none, word)
+
+pub service_fault_mpe : (m : Members) → key_fault kind_key m ≡ None → kind_text m ≡ codes "mpe" → service_fault m ≡ table_fault mpe_keys m
+unfolding service_fault kind_fault
+service_fault_mpe m none word = rw (none, word)
+
+pub service_fault_fec : (m : Members) → key_fault kind_key m ≡ None → kind_text m ≡ codes "fec" → service_fault m ≡ fec_fault m
+unfolding service_fault kind_fault
+service_fault_fec m none word = rw (none, word)
+
+pub service_fault_gse : (m : Members) → key_fault kind_key m ≡ None → bytes_eq (kind_text m) (codes "ule") ≡ false → bytes_eq (kind_text m) (codes "mpe") ≡ false
+    → bytes_eq (kind_text m) (codes "fec") ≡ false → service_fault m ≡ table_fault gse_keys m
+unfolding service_fault kind_fault
+service_fault_gse m none u p f = rw (none, u, p, f)
+
+pub service_fault_here : (m : Members) (f : SettingsFault) → key_fault kind_key m ≡ Some f → service_fault m ≡ Some f
+unfolding service_fault
+service_fault_here m f here = rw here
+
+pub sliced_said : (m : Members) (word : List ℕ) (b : Bool) → word ≡ text_or (codes "indexed") (codes "mode") m → b ≡ bytes_eq word (codes "sliced") → is_sliced_mode m ≡ b
+unfolding is_sliced_mode
+sliced_said m word b is said = rw (← is) (sym said)
+
+pub fec_fault_sliced : (m : Members) → key_fault mode_key m ≡ None → is_sliced_mode m ≡ true → fec_fault m ≡ table_fault sliced_keys m
+fec_fault_sliced m none mode = rw (none, mode)
+
+pub fec_fault_indexed : (m : Members) → key_fault mode_key m ≡ None → is_sliced_mode m ≡ false → fec_fault m ≡ table_fault indexed_keys m
+fec_fault_indexed m none mode = rw (none, mode)

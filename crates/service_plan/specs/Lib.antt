@@ -1,0 +1,12 @@
+pub mod Keys
+pub mod Parts
+pub mod Reading
+pub mod Top
+pub mod Services
+pub mod Drafts
+pub mod Plans
+pub mod Wholes
+pub mod Order
+pub mod PlanView
+pub mod Accepted
+pub mod Sizes

@@ -1,0 +1,249 @@
+//! The table of a service, by its kind.
+ghost use Rattle.std.specs.Prelude.{◌≡◌, ◌≤◌, true, false, codes, None, bytes_eq};
+ghost use Rattle.toml.specs.View.{table_view};
+ghost use Rattle.plan_spec.specs.Keys.{key_fault, table_fault};
+ghost use Rattle.plan_spec.specs.Settings.{kind_key, mode_key, kind_text, is_sliced_mode, ule_keys, mpe_keys, indexed_keys, sliced_keys, gse_keys, fec_fault, service_fault};
+ghost use Rattle.service_plan.specs.Reading.{AnswersOrWants};
+ghost use Rattle.service_plan.specs.Services.{IsServiceOf};
+
+use crate::draft::{ServiceDraft, filter, finish};
+use crate::fault::PlanError;
+use crate::service::Kind;
+use addr_rules::MacList;
+use settings_text::{
+    Key, flag, kind_word, name_text, number, pid, refuse_unknown, rows, rule_items, word,
+};
+use std::alloc::Global;
+use toml::Table;
+
+/// The keys of a ULE service.
+const ULE_KEYS: [Key; 10] = [
+    Key::Name,
+    Key::Kind,
+    Key::Pid,
+    Key::Address,
+    Key::Packing,
+    Key::Rules,
+    Key::Filter,
+    Key::Unicast,
+    Key::ServiceId,
+    Key::ComponentTag,
+];
+
+/// The keys of an MPE service.
+const MPE_KEYS: [Key; 8] = [
+    Key::Name,
+    Key::Kind,
+    Key::Pid,
+    Key::Rules,
+    Key::Filter,
+    Key::Unicast,
+    Key::ServiceId,
+    Key::ComponentTag,
+];
+
+/// The keys of a service with indexed frames.
+const INDEXED_KEYS: [Key; 10] = [
+    Key::Name,
+    Key::Kind,
+    Key::Pid,
+    Key::Mode,
+    Key::Rows,
+    Key::Parity,
+    Key::Rules,
+    Key::Unicast,
+    Key::ServiceId,
+    Key::ComponentTag,
+];
+
+/// The keys of a service with sliced frames.
+const SLICED_KEYS: [Key; 12] = [
+    Key::Name,
+    Key::Kind,
+    Key::Pid,
+    Key::Mode,
+    Key::Rows,
+    Key::Parity,
+    Key::WindowStart,
+    Key::WindowLength,
+    Key::Rules,
+    Key::Unicast,
+    Key::ServiceId,
+    Key::ComponentTag,
+];
+
+/// The keys of a GSE service.
+const GSE_KEYS: [Key; 9] = [
+    Key::Name,
+    Key::Kind,
+    Key::Isi,
+    Key::Address,
+    Key::Rules,
+    Key::Filter,
+    Key::Unicast,
+    Key::ServiceId,
+    Key::ComponentTag,
+];
+
+/// Reads a ULE service.
+#[tactic(auto, using(settings_text::proofs::KeyLemmas::first_here, settings_text::proofs::KeyLemmas::first_later, crate::proofs::KeyLemmas::error_here, crate::proofs::KeyLemmas::error_later))]
+fn ule(alloc: Global, place: u8, table: &Table) -> Result<ServiceDraft, PlanError>
+    requires word { kind_text (table_view table.now) ≡ codes "ule" }
+    requires kind { key_fault kind_key (table_view table.now) ≡ None }
+    ensures read { AnswersOrWants result (table_fault ule_keys (table_view table.now)) (IsServiceOf (table_view table.now) place) }
+{
+    refuse_unknown(table, &ULE_KEYS)?;
+    let name = name_text(table)?;
+    let pid = pid(table)?;
+    let address = flag(table, Key::Address)?;
+    let packing = flag(table, Key::Packing)?;
+    let items = rule_items(table)?;
+    let filter = filter(alloc, table)?;
+    let kind = Kind::Ule {
+        pid,
+        address,
+        packing,
+    };
+    match finish(alloc, place, table, name, kind, items, filter) {
+        Ok(draft) => Ok(draft),
+        Err(error) => Err(error),
+    }
+}
+
+/// Reads an MPE service.
+#[tactic(auto, using(settings_text::proofs::KeyLemmas::first_here, settings_text::proofs::KeyLemmas::first_later, crate::proofs::KeyLemmas::error_here, crate::proofs::KeyLemmas::error_later))]
+fn mpe(alloc: Global, place: u8, table: &Table) -> Result<ServiceDraft, PlanError>
+    requires word { kind_text (table_view table.now) ≡ codes "mpe" }
+    requires kind { key_fault kind_key (table_view table.now) ≡ None }
+    ensures read { AnswersOrWants result (table_fault mpe_keys (table_view table.now)) (IsServiceOf (table_view table.now) place) }
+{
+    refuse_unknown(table, &MPE_KEYS)?;
+    let name = name_text(table)?;
+    let pid = pid(table)?;
+    let items = rule_items(table)?;
+    let filter = filter(alloc, table)?;
+    let kind = Kind::Mpe { pid };
+    match finish(alloc, place, table, name, kind, items, filter) {
+        Ok(draft) => Ok(draft),
+        Err(error) => Err(error),
+    }
+}
+
+/// Reads a service with indexed frames.
+#[tactic(auto, using(settings_text::proofs::KeyLemmas::first_here, settings_text::proofs::KeyLemmas::first_later, crate::proofs::KeyLemmas::error_here, crate::proofs::KeyLemmas::error_later))]
+fn indexed(alloc: Global, place: u8, table: &Table) -> Result<ServiceDraft, PlanError>
+    requires word { kind_text (table_view table.now) ≡ codes "fec" }
+    requires kind { key_fault kind_key (table_view table.now) ≡ None }
+    requires mode { key_fault mode_key (table_view table.now) ≡ None }
+    requires indexed { is_sliced_mode (table_view table.now) ≡ false }
+    ensures read { AnswersOrWants result (table_fault indexed_keys (table_view table.now)) (IsServiceOf (table_view table.now) place) }
+{
+    refuse_unknown(table, &INDEXED_KEYS)?;
+    let name = name_text(table)?;
+    let pid = pid(table)?;
+    let rows = rows(table)?;
+    let parity = number(table, Key::Parity, 1, 64, Some(64))?;
+    let items = rule_items(table)?;
+    let filter = MacList::new(alloc);
+    let kind = Kind::Fec {
+        pid,
+        rows,
+        parity: parity as u8,
+        window: None,
+    };
+    match finish(alloc, place, table, name, kind, items, filter) {
+        Ok(draft) => Ok(draft),
+        Err(error) => Err(error),
+    }
+}
+
+/// Reads a service with sliced frames.
+#[tactic(auto, using(settings_text::proofs::KeyLemmas::first_here, settings_text::proofs::KeyLemmas::first_later, crate::proofs::KeyLemmas::error_here, crate::proofs::KeyLemmas::error_later))]
+fn sliced(alloc: Global, place: u8, table: &Table) -> Result<ServiceDraft, PlanError>
+    requires word { kind_text (table_view table.now) ≡ codes "fec" }
+    requires kind { key_fault kind_key (table_view table.now) ≡ None }
+    requires mode { key_fault mode_key (table_view table.now) ≡ None }
+    requires sliced { is_sliced_mode (table_view table.now) ≡ true }
+    ensures read { AnswersOrWants result (table_fault sliced_keys (table_view table.now)) (IsServiceOf (table_view table.now) place) }
+{
+    refuse_unknown(table, &SLICED_KEYS)?;
+    let name = name_text(table)?;
+    let pid = pid(table)?;
+    let rows = rows(table)?;
+    let parity = number(table, Key::Parity, 1, 64, Some(64))?;
+    let start = number(table, Key::WindowStart, 0, 999_999, None)?;
+    let length = number(table, Key::WindowLength, 1, 1_000_000, None)?;
+    let items = rule_items(table)?;
+    let filter = MacList::new(alloc);
+    let kind = Kind::Fec {
+        pid,
+        rows,
+        parity: parity as u8,
+        window: Some((start, length)),
+    };
+    match finish(alloc, place, table, name, kind, items, filter) {
+        Ok(draft) => Ok(draft),
+        Err(error) => Err(error),
+    }
+}
+
+/// Reads a GSE service.
+#[tactic(auto, using(settings_text::proofs::KeyLemmas::first_here, settings_text::proofs::KeyLemmas::first_later, crate::proofs::KeyLemmas::error_here, crate::proofs::KeyLemmas::error_later))]
+fn gse(alloc: Global, place: u8, table: &Table) -> Result<ServiceDraft, PlanError>
+    requires not_ule { bytes_eq (kind_text (table_view table.now)) (codes "ule") ≡ false }
+    requires not_mpe { bytes_eq (kind_text (table_view table.now)) (codes "mpe") ≡ false }
+    requires not_fec { bytes_eq (kind_text (table_view table.now)) (codes "fec") ≡ false }
+    requires kind { key_fault kind_key (table_view table.now) ≡ None }
+    ensures read { AnswersOrWants result (table_fault gse_keys (table_view table.now)) (IsServiceOf (table_view table.now) place) }
+{
+    refuse_unknown(table, &GSE_KEYS)?;
+    let name = name_text(table)?;
+    let isi = number(table, Key::Isi, 0, 255, None)?;
+    let address = flag(table, Key::Address)?;
+    let items = rule_items(table)?;
+    let filter = filter(alloc, table)?;
+    let kind = Kind::Gse {
+        isi: isi as u8,
+        address,
+    };
+    match finish(alloc, place, table, name, kind, items, filter) {
+        Ok(draft) => Ok(draft),
+        Err(error) => Err(error),
+    }
+}
+
+/// Reads a service with frames.
+#[tactic(auto, using(settings_text::proofs::KeyLemmas::first_here))]
+fn fec(alloc: Global, place: u8, table: &Table) -> Result<ServiceDraft, PlanError>
+    requires word { kind_text (table_view table.now) ≡ codes "fec" }
+    requires kind { key_fault kind_key (table_view table.now) ≡ None }
+    ensures read { AnswersOrWants result (fec_fault (table_view table.now)) (IsServiceOf (table_view table.now) place) }
+{
+    let mode = word(table, Key::Mode, "indexed")?;
+    if mode == "sliced" {
+        return sliced(alloc, place, table);
+    }
+    indexed(alloc, place, table)
+}
+
+/// Reads a service at a place of the list.
+#[tactic(auto, using(crate::proofs::ServiceLemmas::service_fault_here))]
+pub(crate) fn read_service(
+    alloc: Global,
+    place: u8,
+    table: &Table,
+) -> Result<ServiceDraft, PlanError>
+    ensures read { AnswersOrWants result (service_fault (table_view table.now)) (IsServiceOf (table_view table.now) place) }
+{
+    let kind = kind_word(table)?;
+    if kind == "ule" {
+        return ule(alloc, place, table);
+    }
+    if kind == "mpe" {
+        return mpe(alloc, place, table);
+    }
+    if kind == "fec" {
+        return fec(alloc, place, table);
+    }
+    gse(alloc, place, table)
+}

@@ -1,0 +1,67 @@
+//! The top table of settings.
+ghost use Rattle.std.specs.Prelude.{◌≡◌, false, codes, option_map, bytes_eq, if◌then◌else◌};
+ghost use Rattle.toml.specs.View.{table_view};
+ghost use Rattle.plan_spec.specs.Keys.{keys_fault, one_table, table_at};
+ghost use Rattle.plan_spec.specs.Settings.{value_keys, recording_of};
+ghost use Rattle.service_plan.specs.Parts.{form_of};
+ghost use Rattle.service_plan.specs.Reading.{Answers, Reads, rule_for};
+ghost use Rattle.service_plan.specs.Top.{AreTopValues};
+
+use crate::fault::PlanFault;
+use ipe_io::Recording;
+use settings_text::{Key, find, number, word};
+use toml::Table;
+
+/// The values of the top table.
+#[derive(Clone, Copy)]
+pub(crate) struct TopValues {
+    pub(crate) baseband: bool,
+    pub(crate) recording: Recording,
+    pub(crate) packet_rate: u32,
+    pub(crate) cycle: u32,
+    pub(crate) frame_bytes: u32,
+}
+
+/// What a recording has before each packet, plain where the word is no other.
+fn recording_named(word: &str) -> Recording
+    ensures read { form_of result ≡ recording_of word.now }
+{
+    match word {
+        "stamped" => Recording::Stamped,
+        "m2ts" => Recording::M2ts,
+        _ => Recording::Plain,
+    }
+}
+
+/// Reads the values of the top table, in the order of their keys.
+#[tactic(auto, using(settings_text::proofs::KeyLemmas::first_here, settings_text::proofs::KeyLemmas::first_later))]
+pub(crate) fn top_values(top: &Table) -> Result<TopValues, PlanFault>
+    ensures read { Answers result (keys_fault value_keys (table_view top.now)) (AreTopValues (table_view top.now)) }
+{
+    let carrier = word(top, Key::Carrier, "ts")?;
+    let recording = word(top, Key::Recording, "plain")?;
+    let packet_rate = number(top, Key::PacketRate, 1, 1_000_000, Some(10_000))?;
+    let cycle = number(top, Key::Cycle, 100, 1_000_000, Some(20_000))?;
+    let frame_bytes = number(top, Key::FrameBytes, 300, 7274, Some(2000))?;
+    Ok(TopValues {
+        baseband: carrier == "bb",
+        recording: recording_named(recording),
+        packet_rate,
+        cycle,
+        frame_bytes,
+    })
+}
+
+/// The table of the INT, where there is one.
+pub(crate) fn int_table(top: &Table) -> Result<Option<&Table>, PlanFault>
+    ensures read { Reads result (rule_for Key.Int false one_table) (table_view top.now) (λ o. option_map (λ t. table_view t.now) o ≡ table_at (codes "int") (table_view top.now)) }
+{
+    let value = match find(top, Key::Int) {
+        Some(value) => value,
+        None => return Ok(None),
+    };
+    match value.as_table() {
+        Some(table) => Ok(Some(table)),
+        None => Err(PlanFault::Type_(Key::Int)),
+    }
+}
