@@ -1,0 +1,23 @@
+-- What is received of the IP/MAC notification table (EN 301 192 clause 8.4): the accepted sections on its PID.
+use Rattle.std.specs.Prelude.{ℕ, Bool, List, [], find, length, slice_index, ◌==◌, Option, Some, None, option_map}
+use Rattle.ts_spec.specs.Recording.{Record}
+use Rattle.section_spec.specs.Section.{section_form}
+use Rattle.plan_spec.specs.Plan.{IntFields, PlanFields}
+use Rattle.reception_spec.specs.Numbers.{units_on}
+
+abbrev pub table_pid : Option IntFields → Option ℕ
+table_pid table = option_map (λ (int : IntFields). int.pid) table
+
+abbrev pub table_sections : PlanFields → List Record → List (List ℕ)
+table_sections plan records = units_on section_form (table_pid plan.table) records
+
+-- how many there are
+abbrev pub table_units : PlanFields → List Record → ℕ
+table_units plan records = length (table_sections plan records)
+
+-- the first with the table_id of an INT
+abbrev pub is_int_section : List ℕ → Bool
+is_int_section section = slice_index section 0 == 0x4C
+
+abbrev pub table_section : PlanFields → List Record → Option (List ℕ)
+table_section plan records = find is_int_section (table_sections plan records)

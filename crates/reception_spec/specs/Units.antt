@@ -1,0 +1,39 @@
+-- What the receiver of a service makes of a unit: it delivers the datagram that the unit carries, where it wants the unit.
+-- So far of the kinds whose units carry one datagram each: SNDUs (RFC 4326) and datagram_sections (EN 301 192 clause 7).
+use Rattle.std.specs.Prelude.{ℕ, Bool, true, not, ◌&&◌, List, [], length, ◌==◌, if◌then◌else◌, Option, Some, None}
+use Rattle.ts_spec.specs.Sndu.{sndu_fields}
+use Rattle.section_spec.specs.Section.{section_fields}
+use Rattle.section_spec.specs.Mpe.{mac_in}
+use Rattle.addr_rules.specs.Filter.{is_wanted}
+use Rattle.addr_rules.specs.declared.filter.Label.{Label}
+use Rattle.addr_rules.specs.declared.filter.Label.TheVariants.{Six, Broadcast}
+use Rattle.plan_spec.specs.Plan.{KindFields, ule, mpe, fec, gse, ServiceFields}
+use Rattle.stream_spec.specs.Services.{carried_by_unit}
+
+-- the label of an SNDU: its NPA address; one without an address is for all receivers
+abbrev pub label_of_npa : Option (List ℕ) → Label
+label_of_npa None = Broadcast
+label_of_npa (Some npa) = Six npa
+
+-- the label of a unit: an NPA address, or MAC_address_1 to _6
+abbrev pub label_of : KindFields → List ℕ → Label
+label_of (ule pid address packing) unit = label_of_npa (sndu_fields unit).npa
+label_of (mpe pid) unit = Six (mac_in (section_fields unit).body)
+label_of (fec pid rows parity window) unit = Broadcast
+label_of (gse isi address) unit = Broadcast
+
+-- the filter of the service wants the unit
+abbrev pub wants_unit : ServiceFields → List ℕ → Bool
+wants_unit service unit = is_wanted service.filter (label_of service.kind unit)
+
+-- the unit carries no datagram, wanted or not
+abbrev pub is_unread : ServiceFields → List ℕ → Bool
+is_unread service unit = length (carried_by_unit service.kind unit) == 0
+
+-- it carries one, and is not wanted
+abbrev pub is_filtered : ServiceFields → List ℕ → Bool
+is_filtered service unit = not (is_unread service unit) && not (wants_unit service unit)
+
+-- what is delivered of it, as a list of at most one
+abbrev pub delivered_by_unit : ServiceFields → List ℕ → List (List ℕ)
+delivered_by_unit service unit = if wants_unit service unit then carried_by_unit service.kind unit else []
