@@ -1,0 +1,10 @@
+pub mod Sections
+pub mod Forms
+pub mod Subsequences
+pub mod Service
+pub mod Plan
+pub mod OnePid
+pub mod Ones
+pub mod Starts
+pub mod AllUnits
+pub mod AllDatagrams

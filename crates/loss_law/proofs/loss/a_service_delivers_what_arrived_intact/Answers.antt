@@ -1,0 +1,9 @@
+use Rattle.std.proofs.Common.{refl}
+use Rattle.loss_law.proofs.Plan.{kind_delivers}
+use Rattle.loss_law.proofs.loss.a_service_delivers_what_arrived_intact.Goals as goal
+
+pub returns : goal.returns
+returns c = record {
+  delivers = λ recording sent recorded channel service pid on datagrams carries no_error.
+      kind_delivers recording sent recorded channel service service.kind refl pid on datagrams carries no_error;
+}

@@ -1,0 +1,8 @@
+use Rattle.loss_law.proofs.Service.{intact_are_delivered}
+use Rattle.loss_law.proofs.loss.datagrams_that_arrived_intact_are_delivered.Goals as goal
+
+pub returns : goal.returns
+returns c = record {
+  delivered = λ recording sent recorded channel service pid on datagrams carries no_error intact rising each.
+      intact_are_delivered recording sent recorded channel service pid on carries.units carries.begin carries.packetized no_error intact rising each;
+}

@@ -1,0 +1,23 @@
+//! What becomes of the datagrams of a service, and of all services of a plan, through a channel that loses records.
+//!
+//! Laws over definitions alone: each is a function that does nothing, whose contract is the law.
+//! They stand on reception_spec, stream_spec and carriage_law; what receives stands on them.
+//! Begin with `each_service_delivers_what_arrived_intact`.
+#![tactic(auto)]
+
+mod isolation;
+mod loss;
+mod without_loss;
+
+pub use isolation::{
+    a_pid_is_counted_by_itself, a_service_is_received_by_itself, other_records_change_nothing,
+};
+pub use loss::{
+    a_service_delivers_what_arrived_intact, a_service_without_filter_wants_all,
+    datagrams_that_arrived_intact_are_delivered, each_service_delivers_what_arrived_intact,
+    sections_are_a_lawful_kind_of_unit,
+};
+pub use without_loss::{
+    a_recorded_stream_gives_its_units, a_stream_is_a_recording_of_itself,
+    where_all_units_arrived_intact_all_is_delivered, where_nothing_is_lost_all_is_delivered,
+};
