@@ -1,0 +1,5 @@
+pub mod Addresses
+pub mod Keys
+pub mod Services
+pub mod Tops
+pub mod Wholes

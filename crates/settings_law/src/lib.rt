@@ -1,0 +1,22 @@
+//! Settings that are accepted give what the laws of a stream ask of a plan.
+//!
+//! Laws over definitions alone: each is a function that does nothing, whose contract is the law.
+//! They stand on plan_spec; end_to_end_law stands on them.
+#![tactic(auto)]
+
+ghost use Rattle.std.specs.Prelude.{◌≡◌, List, ℕ, true};
+ghost use Rattle.plan_spec.specs.Plan.{PlanFields};
+ghost use Rattle.plan_spec.specs.Refusal.{IsAccepted};
+ghost use Rattle.plan_spec.specs.Valid.{is_plan_of_settings, is_plan};
+ghost use Rattle.stream_law.specs.Words.{IsOfBytes};
+
+/// Accepted settings give a plan: each value is in its range, and no check over the whole fails.
+pub fn accepted_settings_give_a_plan()
+    ensures settings { (bytes : List ℕ) (plan : PlanFields) → IsAccepted bytes plan → is_plan_of_settings plan ≡ true }
+    ensures plan { (bytes : List ℕ) (plan : PlanFields) → IsAccepted bytes plan → is_plan plan ≡ true }
+{}
+
+/// Its addresses are bytes, as many as each has.
+pub fn accepted_settings_give_bytes()
+    ensures bytes { (bytes : List ℕ) (plan : PlanFields) → IsAccepted bytes plan → IsOfBytes plan }
+{}
