@@ -1,0 +1,30 @@
+use Rattle.std.proofs.Common.{List, ℕ, sym, subst}
+use Rattle.stream_spec.specs.Stream.{IsStream}
+use Rattle.end_to_end_law.specs.Sent.{offered_by}
+use Rattle.end_to_end_law.proofs.settings.each_capture_is_sent.Goals as goal
+
+pub returns : goal.returns
+returns c = record {
+  is = λ settings plan accepted of_units capture bytes.
+      let told = c.each_capture_tells_records.ensures.tells capture in
+      let is_plan = c.accepted_settings_give_a_plan.ensures.plan settings plan accepted in
+      let found = c.there_is_one_stream.ensures.is plan (offered_by plan capture told.0) is_plan in (
+        told.0,
+        found.0,
+        record {
+          accepted = is_plan;
+          of_bytes = c.accepted_settings_give_bytes.ensures.bytes settings plan accepted;
+          of_units = of_units;
+          capture_bytes = bytes;
+          fault = told.1;
+          tells = told.2;
+          stream = found.1;
+        },
+      );
+  one = λ plan capture told others a b is_a is_b.
+      let same = c.a_capture_tells_one_thing.ensures.records capture told others is_a.fault is_b.fault is_a.tells is_b.tells in (
+        same,
+        c.there_is_one_stream.ensures.one plan (offered_by plan capture told) a b is_a.stream
+            (subst (λ (t : List (List ℕ)). IsStream plan (offered_by plan capture t) b) (sym same) is_b.stream),
+      );
+}

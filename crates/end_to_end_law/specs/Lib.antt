@@ -1,0 +1,4 @@
+pub mod Units
+pub mod Sent
+pub mod Table
+pub mod Bytes

@@ -1,0 +1,33 @@
+//! Settings and captures: of each there is a stream, of which the laws speak.
+ghost use Rattle.std.specs.Prelude.{◌≡◌, ℕ, List, Option, true};
+ghost use Rattle.std.specs.List.{list_all};
+ghost use Rattle.wire_spec.specs.Bytes.{AreBytes};
+ghost use Rattle.pcap_file.specs.Told.{Tells};
+ghost use Rattle.pcap_file.specs.declared.faults.CaptureFault.{CaptureFault};
+ghost use Rattle.plan_spec.specs.Plan.{PlanFields, kinds};
+ghost use Rattle.plan_spec.specs.Refusal.{IsAccepted};
+ghost use Rattle.stream_law.specs.Words.{is_of_units};
+ghost use Rattle.end_to_end_law.specs.Sent.{IsSent};
+
+use pcap_file::a_capture_tells_one_thing;
+use settings_law::{accepted_settings_give_a_plan, accepted_settings_give_bytes};
+use stream_law::there_is_one_stream;
+
+/// All bytes tell records as a capture, as far as they are one, and the fault behind them or none.
+pub fn each_capture_tells_records()
+    ensures tells { (capture : List ℕ) → (told : List (List ℕ)) × (fault : Option CaptureFault) × Tells capture told fault }
+{}
+
+/// For all settings that are accepted, of services of SNDUs and datagram_sections, and all captures there is a stream, and one alone.
+pub fn each_capture_is_sent()
+    ensures is { (settings : List ℕ) (plan : PlanFields) → IsAccepted settings plan → list_all is_of_units (kinds plan) ≡ true
+        → (capture : List ℕ) → AreBytes capture → (told records : List (List ℕ)) × IsSent plan capture told records }
+    ensures one { (plan : PlanFields) (capture : List ℕ) (told others a b : List (List ℕ)) → IsSent plan capture told a → IsSent plan capture others b
+        → (told ≡ others) × (a ≡ b) }
+{
+    each_capture_tells_records();
+    a_capture_tells_one_thing();
+    accepted_settings_give_a_plan();
+    accepted_settings_give_bytes();
+    there_is_one_stream();
+}
