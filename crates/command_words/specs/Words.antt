@@ -1,0 +1,60 @@
+-- The words behind the program's name, and which of them form a command. Profile: all of it.
+use Rattle.std.specs.Prelude.{◌≡◌, ◌≢◌, ℕ, ◌≤◌, List, [], ◌∷◌, length, codes}
+use Rattle.std.specs.Str.Parse.{IsNumeral, digits_value}
+
+-- a text that is no option: not empty, and its first byte no `-`
+abbrev pub IsValue : List ℕ → Type 0
+IsValue [] = ⊥
+IsValue (byte ∷ bytes) = byte ≢ 45
+
+-- a number of so many decimal digits at most, and no larger than the largest
+pub record IsNumber (digits largest : ℕ) (text : List ℕ) (number : ℕ) : Type 0 where
+  pub numeral : IsNumeral 10 text
+  pub short : length text ≤ digits
+  pub value : number ≡ digits_value 10 text
+  pub most : number ≤ largest
+
+-- the words are a command's name and the name of a settings file
+pub record AsksWith (command : List ℕ) (words : List (List ℕ)) (name : List ℕ) : Type 0 where
+  pub words_are : words ≡ command ∷ name ∷ []
+  pub value : IsValue name
+
+-- `send SETTINGS`, `receive SETTINGS`, `check SETTINGS`
+abbrev pub AsksForSend : List (List ℕ) → List ℕ → Type 0
+AsksForSend words name = AsksWith (codes "send") words name
+
+abbrev pub AsksForReceive : List (List ℕ) → List ℕ → Type 0
+AsksForReceive words name = AsksWith (codes "receive") words name
+
+abbrev pub AsksForCheck : List (List ℕ) → List ℕ → Type 0
+AsksForCheck words name = AsksWith (codes "check") words name
+
+-- the words are a command's name and a number
+pub record AsksNumbered (command : List ℕ) (digits largest : ℕ) (words : List (List ℕ)) (number : ℕ) : Type 0 where
+  pub text : List ℕ
+  pub words_are : words ≡ command ∷ text ∷ []
+  pub written : IsNumber digits largest text number
+
+-- `ule PID`: one to four decimal digits with a value of at most 8190, the last PID that is no null packet's
+abbrev pub AsksForUle : List (List ℕ) → ℕ → Type 0
+AsksForUle words pid = AsksNumbered (codes "ule") 4 8190 words pid
+
+-- `sample NUMBER`: one to ten decimal digits with a value of 32 bits
+abbrev pub AsksForSample : List (List ℕ) → ℕ → Type 0
+AsksForSample words number = AsksNumbered (codes "sample") 10 4294967295 words number
+
+-- the words form no command
+pub record IsNoCommand (words : List (List ℕ)) : Type 0 where
+  pub no_send : (name : List ℕ) → ¬ AsksForSend words name
+  pub no_receive : (name : List ℕ) → ¬ AsksForReceive words name
+  pub no_ule : (pid : ℕ) → ¬ AsksForUle words pid
+  pub no_check : (name : List ℕ) → ¬ AsksForCheck words name
+  pub no_sample : (number : ℕ) → ¬ AsksForSample words number
+
+-- the words form one
+pub data IsCommand (words : List (List ℕ)) : Type 0 where
+  asks_for_send : (name : List ℕ) → AsksForSend words name → IsCommand words
+  asks_for_receive : (name : List ℕ) → AsksForReceive words name → IsCommand words
+  asks_for_ule : (pid : ℕ) → AsksForUle words pid → IsCommand words
+  asks_for_check : (name : List ℕ) → AsksForCheck words name → IsCommand words
+  asks_for_sample : (number : ℕ) → AsksForSample words number → IsCommand words
