@@ -1,0 +1,23 @@
+use Rattle.std.proofs.Common.{arith}
+use Rattle.std.proofs.KnownBytes.{Appends-trans}
+use Rattle.service_plan.specs.Parts.{service_seen}
+use Rattle.settings_file.specs.Lines.{service_line}
+use Rattle.settings_file.proofs.Texts.{joined-next, part_appended, lines-whole, lines-seen}
+use Rattle.settings_file.proofs.list.put_services.Goals as goal
+
+pub returns-in-Err-clause-written : goal.returns-in-Err-clause-written
+returns-in-Err-clause-written g c =
+    rw (← lines-seen c.args.plan.now.services)
+    (part_appended (λ service. service_line (service_seen service)) c.args.plan.now.services c.loop-place.place c.at.result.now c.at.ensures.read
+    (g.O.Sink.held c.args.output.now) (g.O.Sink.held c.loop-place.output) (g.O.Sink.held c.put_service.new.output) c.loop-place.invariant.written c.in-Err.ensures.written)
+
+pub loop-place-preserved : goal.loop-place-preserved
+loop-place-preserved g c = record {
+  within = omega arith;
+  written = rw (joined-next (λ service. service_line (service_seen service)) c.args.plan.now.services c.loop-place.place c.at.result.now c.at.ensures.read)
+      (Appends-trans (g.O.Sink.held c.args.output.now) (g.O.Sink.held c.loop-place.output) (g.O.Sink.held c.put_service.new.output) _ _ c.loop-place.invariant.written c.in-Ok.ensures.written);
+  later = omega (arith, c.loop-place.invariant.later, c.in-Ok.ensures.cause.later);
+}
+
+pub returns-clause-written : goal.returns-clause-written
+returns-clause-written g c = rw (← lines-whole c.args.plan.now.services c.loop-place.place (omega arith)) c.loop-place.invariant.written
