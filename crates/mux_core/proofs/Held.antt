@@ -1,0 +1,192 @@
+-- Units one behind another in a buffer.
+use Rattle.std.proofs.Common.{◌≡◌, ℕ, zero, suc, ◌+◌, ◌-◌, ◌≤◌, Bool, true, false, cond, eqb, List, [], ◌∷◌, ◌++◌, length, map, take, drop, get_or, refl, sym, ap, ◌∙◌, arith, append_assoc, append-nil, length-drop, Option, Some, None, subst}
+use Rattle.std.specs.Prelude.{All, slice_get}
+use Rattle.std.specs.Int.{w32, to_be_bytes}
+use Rattle.std.proofs.lemmas.List.{length-append, length-take-le, take_at, drop_at, map-append}
+use Rattle.wire_spec.specs.Lists.{joined}
+use Rattle.wire_spec.specs.Crc.{crc32_remainder}
+use Rattle.ts_spec.specs.Form.{UnitForm}
+use Rattle.ts_spec.specs.Sndu.{sndu_front, sndu_bytes}
+use Rattle.section_spec.specs.Mpe.{mpe_to_write, mpe_body}
+use Rattle.section_codec.proofs.Written.{length-section_bytes}
+use Rattle.unit_stream.specs.Packing.{filled, may_begin, begin_piece, middle_piece, pieces, byte_count, packetized}
+use Rattle.unit_stream.specs.Packers.{between, units_from, units_of, AreRising, end_of, AreEnds}
+use Rattle.unit_stream.proofs.Written.{length-numbered}
+use Rattle.stream_spec.specs.Units.{mac_for, ether_type_of, sndu_of, section_of}
+use Rattle.mux_core.specs.Units.{ends_from, HoldUnits}
+use Rattle.mux_core.proofs.Items.{take_next}
+
+-- Where units end.
+
+joined_more : (units : List (List ℕ)) (unit : List ℕ) → joined (units ++ unit ∷ []) ≡ joined units ++ unit
+joined_more [] unit = append-nil unit
+joined_more (first ∷ units) unit = ap (λ (t : List ℕ). first ++ t) (joined_more units unit) ∙ sym (append_assoc first (joined units) unit)
+
+ends_more : (from : ℕ) (units : List (List ℕ)) (unit : List ℕ) → ends_from from (units ++ unit ∷ []) ≡ ends_from from units ++ (from + length (joined units) + length unit) ∷ []
+ends_more from [] unit = ap (λ (n : ℕ). n ∷ []) (zero_more from (length unit))
+  where
+    zero_more : (a b : ℕ) → a + b ≡ a + 0 + b
+    zero_more a b = omega arith
+ends_more from (first ∷ units) unit =
+    ap (λ (t : List ℕ). (from + length first) ∷ t) (ends_more (from + length first) units unit)
+    ∙ ap (λ (n : ℕ). (from + length first) ∷ (ends_from (from + length first) units ++ n ∷ [])) (sums (length first) (length (joined units)) (length (first ++ joined units)) (length-append first (joined units)))
+  where
+    sums : (a b c : ℕ) → c ≡ a + b → from + a + b + length unit ≡ from + c + length unit
+    sums a b c e = omega (arith, e)
+
+-- one unit more is written behind the others
+pub held_more : (unit : List ℕ → List ℕ) (datagrams : List (List ℕ)) (i : ℕ) (datagram : List ℕ) (end size : ℕ) (bytes new ends : List ℕ)
+    → slice_get datagrams i ≡ Some datagram → HoldUnits (map unit (take i datagrams)) bytes ends → end ≡ length (joined (map unit (take i datagrams))) → size ≡ length (unit datagram)
+    → new ≡ take end bytes ++ (unit datagram ++ drop size (drop end bytes))
+    → HoldUnits (map unit (take (i + 1) datagrams)) new (ends ++ (end + size) ∷ []) × (end + size ≡ length (joined (map unit (take (i + 1) datagrams))))
+held_more unit datagrams i datagram end size bytes new ends found held end_is size_is new_is = (
+  record {
+    rest = drop size (drop end bytes);
+    bytes_are =
+        new_is ∙ ap (λ (t : List ℕ). t ++ (unit datagram ++ drop size (drop end bytes))) front
+        ∙ sym (append_assoc (joined before) (unit datagram) (drop size (drop end bytes)))
+        ∙ ap (λ (t : List ℕ). t ++ drop size (drop end bytes)) (sym whole);
+    ends_are =
+        ap (λ (t : List ℕ). t ++ (end + size) ∷ []) held.ends_are
+        ∙ ap (λ (n : ℕ). ends_from 0 before ++ n ∷ []) (sums end (length (joined before)) size (length (unit datagram)) end_is size_is)
+        ∙ sym (ends_more 0 before (unit datagram))
+        ∙ ap (ends_from 0) (sym units);
+  },
+  omega (arith, ap length whole, length-append (joined before) (unit datagram), end_is, size_is),
+)
+  where
+    before : List (List ℕ)
+    before = map unit (take i datagrams)
+
+    units : map unit (take (i + 1) datagrams) ≡ before ++ unit datagram ∷ []
+    units = ap (map unit) (take_next datagrams i datagram found) ∙ map-append unit (take i datagrams) (datagram ∷ [])
+
+    whole : joined (map unit (take (i + 1) datagrams)) ≡ joined before ++ unit datagram
+    whole = ap joined units ∙ joined_more before (unit datagram)
+
+    front : take end bytes ≡ joined before
+    front = ap (take end) held.bytes_are ∙ take_at (joined before) held.rest end (sym end_is)
+
+    sums : (a b c d : ℕ) → a ≡ b → c ≡ d → a + c ≡ 0 + b + d
+    sums a b c d e e2 = omega (arith, e, e2)
+
+-- the buffer behind it
+pub put_back : (items new unit : List ℕ) (len end size : ℕ) → len ≡ length items → end + size ≤ length items → size ≡ length unit
+    → new ≡ take end items ++ (unit ++ drop size (drop end items))
+    → (take len (new ++ drop (length new) items) ≡ take end items ++ (unit ++ drop size (drop end items))) × (length (take len (new ++ drop (length new) items)) ≡ length items)
+put_back items new unit len end size len_is within size_is new_is =
+    let long : length new ≡ length items = long_as in
+    let whole : take len (new ++ drop (length new) items) ≡ new = take_at new (drop (length new) items) len (long ∙ sym len_is) in
+    (whole ∙ new_is, ap length whole ∙ long)
+  where
+    long_as : length new ≡ length items
+    long_as = omega (
+      arith,
+      ap length new_is,
+      length-append (take end items) (unit ++ drop size (drop end items)),
+      length-append unit (drop size (drop end items)),
+      length-take-le end items (omega (arith, within)),
+      length-drop size (drop end items),
+      length-drop end items,
+      within,
+      size_is,
+    )
+
+-- What stands in a buffer are the units.
+
+pub units_held : (units : List (List ℕ)) (bytes ends : List ℕ) → HoldUnits units bytes ends → units_of bytes ends ≡ units
+units_held units bytes ends held = ap (units_from 0 bytes) held.ends_are ∙ from_place 0 [] units held.rest bytes refl held.bytes_are
+  where
+    from_place : (from : ℕ) (front : List ℕ) (us : List (List ℕ)) (rest all : List ℕ) → from ≡ length front → all ≡ front ++ (joined us ++ rest) → units_from from all (ends_from from us) ≡ us
+    from_place from front [] rest all at is = refl
+    from_place from front (unit ∷ us) rest all at is =
+        let there : drop from all ≡ unit ++ (joined us ++ rest)
+        = ap (drop from) is ∙ drop_at front ((unit ++ joined us) ++ rest) from (sym at) ∙ append_assoc unit (joined us) rest in
+        let size : from + length unit - from ≡ length unit = omega arith in
+        let first : between all from (from + length unit) ≡ unit
+        = ap (λ (n : ℕ). take n (drop from all)) size ∙ ap (take (length unit)) there ∙ take_at unit (joined us ++ rest) (length unit) refl in
+        let behind : all ≡ (front ++ unit) ++ (joined us ++ rest)
+        = is ∙ ap (λ (t : List ℕ). front ++ t) (append_assoc unit (joined us) rest) ∙ sym (append_assoc front unit (joined us ++ rest)) in
+        ap (λ (t : List ℕ). t ∷ units_from (from + length unit) all (ends_from (from + length unit) us)) first
+        ∙ ap (λ (t : List (List ℕ)). unit ∷ t) (from_place (from + length unit) (front ++ unit) us rest all (omega (arith, at, length-append front unit)) behind)
+
+rising_held : (start from : ℕ) (units : List (List ℕ)) → All (λ (unit : List ℕ). start ≤ length unit) units → AreRising start from (ends_from from units)
+rising_held start from [] least = tt
+rising_held start from (unit ∷ units) least = (more (length unit) (least 0 unit (omega arith)), rising_held start (from + length unit) units (λ n d less. least (suc n) d (omega (arith, less))))
+  where
+    more : (n : ℕ) → start ≤ n → from + start ≤ from + n
+    more n le = omega (arith, le)
+
+last_held : (from : ℕ) (units : List (List ℕ)) → get_or (from ∷ ends_from from units) (length (ends_from from units)) 0 ≡ from + length (joined units)
+last_held from [] = omega arith
+last_held from (unit ∷ units) = omega (arith, last_held (from + length unit) units, length-append unit (joined units))
+
+pub ends_held : (start : ℕ) (units : List (List ℕ)) (bytes ends : List ℕ) → HoldUnits units bytes ends → All (λ (unit : List ℕ). start ≤ length unit) units → AreEnds start (length bytes) ends
+ends_held start units bytes ends held least = record {
+  rising = subst (AreRising start 0) (sym held.ends_are) (rising_held start 0 units least);
+  within = omega (arith, ap (λ (e : List ℕ). end_of e (length e)) held.ends_are, last_held 0 units, ap length held.bytes_are, length-append (joined units) held.rest);
+}
+
+-- one unit alone
+pub one_held : (section bytes ends into : List ℕ) (size : ℕ) → take size into ≡ section → size ≡ length section → bytes ≡ take size into → ends ≡ size ∷ [] → HoldUnits (section ∷ []) bytes ends
+one_held section bytes ends into size took size_is bytes_are ends_are = record {
+  rest = [];
+  bytes_are = bytes_are ∙ took ∙ sym (append-nil (section ++ []) ∙ append-nil section);
+  ends_are = ends_are ∙ ap (λ (n : ℕ). n ∷ []) (size_is ∙ zero_more (length section));
+}
+  where
+    zero_more : (n : ℕ) → n ≡ 0 + n
+    zero_more n = omega arith
+
+-- Sizes.
+
+sndu_least : (npa : Option (List ℕ)) (first_type : ℕ) (datagram : List ℕ) → 2 ≤ length (sndu_bytes npa first_type datagram)
+sndu_least npa first_type datagram =
+    omega (arith, length-append (sndu_front npa first_type datagram) (to_be_bytes w32 (crc32_remainder 0xFFFF_FFFF (sndu_front npa first_type datagram))))
+
+section_least : (unicast datagram : List ℕ) → 1 ≤ length (section_of unicast datagram)
+section_least unicast datagram = omega (arith, length-section_bytes 0x3E 0xB0 (mpe_body (mpe_to_write (mac_for unicast datagram) None datagram)))
+
+each_least : (unit : List ℕ → List ℕ) (start : ℕ) → ((datagram : List ℕ) → start ≤ length (unit datagram)) → (datagrams : List (List ℕ)) → All (λ (u : List ℕ). start ≤ length u) (map unit datagrams)
+each_least unit start each [] n d less = absurd (omega (arith, less))
+each_least unit start each (datagram ∷ datagrams) zero d less = each datagram
+each_least unit start each (datagram ∷ datagrams) (suc n) d less = each_least unit start each datagrams n d (omega (arith, less))
+
+pub sndus_least : (address : Bool) (unicast : List ℕ) (datagrams : List (List ℕ)) → All (λ (unit : List ℕ). 2 ≤ length unit) (map (sndu_of address unicast) datagrams)
+sndus_least address unicast datagrams = each_least (sndu_of address unicast) 2 (λ d. sndu_least (cond address (Some (mac_for unicast d)) None) (ether_type_of d) d) datagrams
+
+pub sections_least : (unicast : List ℕ) (datagrams : List (List ℕ)) → All (λ (unit : List ℕ). 1 ≤ length unit) (map (section_of unicast) datagrams)
+sections_least unicast datagrams = each_least (section_of unicast) 1 (section_least unicast) datagrams
+
+pieces_most : (most start : ℕ) (packing : Bool) (rest : List ℕ) (units : List (List ℕ)) → length (pieces most start packing rest units) ≤ most
+pieces_most zero start packing rest units = omega arith
+pieces_most (suc most) start packing rest units =
+    by_begin (may_begin start packing rest units) (eqb (length rest) 0)
+    (pieces_most most start packing (filled start packing (183 - length rest) units).rest (filled start packing (183 - length rest) units).units)
+    (pieces_most most start packing (drop 184 rest) units)
+  where
+    by_begin : (begins none : Bool)
+        → length (pieces most start packing (filled start packing (183 - length rest) units).rest (filled start packing (183 - length rest) units).units) ≤ most
+        → length (pieces most start packing (drop 184 rest) units) ≤ most
+        → length (cond begins (begin_piece rest (filled start packing (183 - length rest) units) (pieces most start packing))
+        (cond none [] (middle_piece rest ∷ pieces most start packing (drop 184 rest) units))) ≤ suc most
+    by_begin true none le le2 = omega (arith, le)
+    by_begin false true le le2 = omega arith
+    by_begin false false le le2 = omega (arith, le2)
+
+count_joined : (units : List (List ℕ)) → byte_count units ≡ length (joined units)
+count_joined [] = refl
+count_joined (unit ∷ units) = omega (arith, count_joined units, length-append unit (joined units))
+
+-- there are no more packets than bytes
+pub packets_most : (form : UnitForm) (packing : Bool) (pid counter : ℕ) (units : List (List ℕ)) (bytes ends : List ℕ) → HoldUnits units bytes ends
+    → length (packetized form packing pid counter units) ≤ length bytes
+packets_most form packing pid counter units bytes ends held =
+    omega (
+      arith,
+      length-numbered pid counter (pieces (byte_count units) form.start packing [] units),
+      pieces_most (byte_count units) form.start packing [] units,
+      count_joined units,
+      ap length held.bytes_are,
+      length-append (joined units) held.rest,
+    )

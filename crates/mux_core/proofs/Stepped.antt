@@ -1,0 +1,171 @@
+-- From slot to slot: how far the services are, and what each slot carries.
+use Rattle.std.proofs.Common.{◌≡◌, ℕ, zero, suc, ◌+◌, ◌-◌, ◌/◌, ◌%◌, ◌<◌, ◌≤◌, Bool, true, false, cond, ltb, List, [], ◌∷◌, length, drop, set, refl, sym, ap, ap₂, ◌∙◌, arith, add-one, length-drop, subst, Option, Some, None}
+use Rattle.std.specs.Prelude.{find, slice_index, slice_index_or}
+use Rattle.std.specs.Option.{unwrap_or}
+use Rattle.std.proofs.lemmas.List.{length-map}
+use Rattle.ts_spec.specs.Packet.{PacketFields}
+use Rattle.ts_spec.specs.Packetized.{packet_at}
+use Rattle.plan_spec.specs.Plan.{PlanFields}
+use Rattle.plan_spec.specs.Signalling.{table_packets}
+use Rattle.stream_spec.specs.Slots.{Slot, of_table, of_service, is_of_service, asked, Turns, has_left, next_service, served, slot_of_service, kept_for_table}
+use Rattle.stream_spec.specs.Stream.{written, packet_in, packet_counts, slot_in}
+use Rattle.stream_spec.proofs.Over.{turns_kept, turns_served}
+use Rattle.stream_law.proofs.Turns.{IsWithin, within_at}
+use Rattle.stream_law.proofs.Next.{has_turn, true_ltb, false_ltb}
+use Rattle.stream_law.proofs.OnPid.{count_of}
+use Rattle.mux_core.specs.Services.{Serving, has_packets, turn_of, TakesTurn, left_of, AreAt}
+use Rattle.mux_core.specs.Tables.{packet_of_table}
+use Rattle.mux_core.specs.Slots.{turns_in, is_early, TakesSlot}
+
+-- What is left of services.
+
+length-left_of : (services : List (List PacketFields)) (sent : List ℕ) → length (left_of services sent) ≡ length services
+length-left_of [] sent = refl
+length-left_of (packets ∷ services) [] = refl
+length-left_of (packets ∷ services) (n ∷ sent) = ap suc (length-left_of services sent)
+
+drop_none : (n : ℕ) → ◌≡◌ {A = List PacketFields} [] (drop n [])
+drop_none zero = refl
+drop_none (suc n) = refl
+
+left_at : (services : List (List PacketFields)) (sent : List ℕ) (k : ℕ) → length sent ≡ length services → slice_index_or (left_of services sent) k [] ≡ drop (slice_index sent k) (slice_index_or services k [])
+left_at [] [] k size = drop_none (slice_index [] k)
+left_at [] (n ∷ sent) k size = absurd (omega (arith, size))
+left_at (packets ∷ services) [] k size = absurd (omega (arith, size))
+left_at (packets ∷ services) (n ∷ sent) zero size = refl
+left_at (packets ∷ services) (n ∷ sent) (suc k) size = left_at services sent k (omega (arith, size))
+
+set_left : (services : List (List PacketFields)) (sent : List ℕ) (k : ℕ) (rest : List PacketFields) → length sent ≡ length services → k < length services
+    → rest ≡ drop (slice_index sent k + 1) (slice_index_or services k []) → set (left_of services sent) k rest ≡ left_of services (set sent k (slice_index sent k + 1))
+set_left [] sent k rest size less is = absurd (omega (arith, less))
+set_left (packets ∷ services) [] k rest size less is = absurd (omega (arith, size))
+set_left (packets ∷ services) (n ∷ sent) zero rest size less is = ap (λ (ps : List PacketFields). ps ∷ left_of services sent) is
+set_left (packets ∷ services) (n ∷ sent) (suc k) rest size less is =
+    ap (λ (t : List (List PacketFields)). drop n packets ∷ t) (set_left services sent k rest (omega (arith, size)) (omega (arith, less)) is)
+
+drop_first : (packets : List PacketFields) (n : ℕ) (packet : PacketFields) (rest : List PacketFields) → drop n packets ≡ packet ∷ rest → (packet_at packets n ≡ packet) × (drop (n + 1) packets ≡ rest)
+drop_first packets n packet rest e = let it = go packets n e in (it.0, ap (λ (m : ℕ). drop m packets) (add-one n) ∙ it.1)
+  where
+    go : (ps : List PacketFields) (m : ℕ) → drop m ps ≡ packet ∷ rest → (packet_at ps m ≡ packet) × (drop (suc m) ps ≡ rest)
+    go [] zero e2 = absurd (cc)
+    go [] (suc m) e2 = absurd (cc)
+    go (first ∷ ps) zero e2 = (cc, cc)
+    go (first ∷ ps) (suc m) e2 = go ps m e2
+
+-- The turn.
+
+same_find : (p q : ℕ → Bool) → ((k : ℕ) → p k ≡ q k) → (xs : List ℕ) → find p xs ≡ find q xs
+same_find p q same [] = refl
+same_find p q same (x ∷ xs) = ap₂ (λ (b : Bool) (o : Option ℕ). cond b (Some x) o) (same x) (same_find p q same xs)
+
+module _ (services : List (List PacketFields)) (turns : Turns) (within : IsWithin (packet_counts services) turns) (serving : Serving) (at : AreAt services turns serving) where
+  sized : length turns.sent ≡ length services
+  sized = omega (arith, within.size, length-map services (λ (packets : List PacketFields). length packets))
+
+  has_same : (k : ℕ) → has_packets serving.packets k ≡ has_left (packet_counts services) turns.sent k
+  has_same k = compared (slice_index turns.sent k) (slice_index (packet_counts services) k) (slice_index (packet_counts serving.packets) k) counts
+    where
+      counts : slice_index (packet_counts serving.packets) k ≡ slice_index (packet_counts services) k - slice_index turns.sent k
+      counts = count_of serving.packets k ∙ ap (λ (ps : List (List PacketFields)). length (slice_index_or ps k [])) at.packets ∙ ap (λ (ps : List PacketFields). length ps) (left_at services turns.sent k sized)
+          ∙ length-drop (slice_index turns.sent k) (slice_index_or services k []) ∙ ap (λ (n : ℕ). n - slice_index turns.sent k) (sym (count_of services k))
+
+      compared : (a b n : ℕ) → n ≡ b - a → ltb 0 n ≡ ltb a b
+      compared a b n e = by_test (ltb a b) refl
+        where
+          by_test : (less : Bool) → ltb a b ≡ less → ltb 0 n ≡ less
+          by_test true is = let le : a < b = true_ltb a b is in grind (arith, le, e)
+          by_test false is = let le : b ≤ a = false_ltb a b is in grind (arith, le, e)
+
+  pub same_turn : turn_of serving ≡ next_service (packet_counts services) turns
+  same_turn =
+      let size : length (packet_counts serving.packets) ≡ length (packet_counts services)
+      = length-map serving.packets (λ (packets : List PacketFields). length packets) ∙ ap (λ (ps : List (List PacketFields)). length ps) at.packets ∙ length-left_of services turns.sent
+      ∙ sym (length-map services (λ (packets : List PacketFields). length packets)) in
+      same_find (has_packets serving.packets) (has_left (packet_counts services) turns.sent) has_same (asked (length (packet_counts serving.packets)) serving.first)
+      ∙ ap₂ (λ (n first : ℕ). find (has_left (packet_counts services) turns.sent) (asked n first)) size at.first
+
+  -- one service gave a packet
+  pub turn_served : (new : Serving) (bytes : List ℕ) (took : TakesTurn serving new bytes)
+      → (next_service (packet_counts services) turns ≡ Some took.service) × AreAt services (served turns (Some took.service)) new
+      × (bytes ≡ written (packet_at (slice_index_or services took.service []) (slice_index turns.sent took.service)))
+  turn_served new bytes took = (
+    turn,
+    record {
+      packets = took.packets ∙ ap (λ (ps : List (List PacketFields)). set ps took.service took.rest) at.packets
+          ∙ set_left services turns.sent took.service took.rest sized below (sym parts.1);
+      first = took.first;
+    },
+    took.bytes_are ∙ ap written (sym parts.0),
+  )
+    where
+      turn : next_service (packet_counts services) turns ≡ Some took.service
+      turn = sym same_turn ∙ took.turn
+
+      below : took.service < length services
+      below = omega (arith, (has_turn (packet_counts services) turns took.service within.first turn).1, length-map services (λ (packets : List PacketFields). length packets))
+
+      parts : (packet_at (slice_index_or services took.service []) (slice_index turns.sent took.service) ≡ took.packet) × (drop (slice_index turns.sent took.service + 1) (slice_index_or services took.service []) ≡ took.rest)
+      parts = drop_first (slice_index_or services took.service []) (slice_index turns.sent took.service) took.packet took.rest
+          (sym (left_at services turns.sent took.service sized) ∙ ap (λ (ps : List (List PacketFields)). slice_index_or ps took.service []) (sym at.packets) ∙ took.next)
+
+-- The slots.
+
+module _ (plan : PlanFields) (services : List (List PacketFields)) (slot : ℕ) where
+  abbrev kept : ℕ → Option Slot
+  kept s = kept_for_table plan.cycle (table_packets plan) s
+
+  abbrev turns : Turns
+  turns = turns_in plan services slot
+
+  kept_early : is_early plan slot ≡ true → kept slot ≡ Some (of_table (slot % plan.cycle))
+  kept_early e = ap (λ (b : Bool). cond b (Some (of_table (slot % plan.cycle))) None) e
+
+  kept_late : is_early plan slot ≡ false → kept slot ≡ None
+  kept_late e = ap (λ (b : Bool). cond b (Some (of_table (slot % plan.cycle))) None) e
+
+  -- a slot of the INT
+  pub early_taken : (serving : Serving) (bytes : List ℕ) → is_early plan slot ≡ true → AreAt services turns serving → bytes ≡ packet_of_table plan slot → TakesSlot plan services slot serving bytes
+  early_taken serving bytes early at bytes_are = record {
+    bytes_are = bytes_are ∙ sym (ap (λ (it : Slot). packet_in plan services (slot / plan.cycle) it) carried);
+    after = subst (λ (t : Turns). AreAt services t serving) (sym (ap (turns_in plan services) (add-one slot) ∙ turns_kept kept (packet_counts services) slot (of_table (slot % plan.cycle)) (kept_early early))) at;
+    of_service = λ late. absurd (differ (is_early plan slot) early late);
+  }
+    where
+      differ : (b : Bool) → b ≡ true → b ≡ false → ⊥
+      differ b e1 e2 = cc
+
+      carried : slot_in plan services slot ≡ of_table (slot % plan.cycle)
+      carried = ap (λ (o : Option Slot). unwrap_or o (slot_of_service turns (next_service (packet_counts services) turns))) (kept_early early)
+
+  -- a slot of the service whose turn it is
+  pub late_taken : (old new : Serving) (bytes : List ℕ) → is_early plan slot ≡ false → AreAt services turns old → TakesTurn old new bytes → TakesSlot plan services slot new bytes
+  late_taken old new bytes late at took = record {
+    bytes_are = it.2 ∙ sym (ap (λ (s : Slot). packet_in plan services (slot / plan.cycle) s) carried);
+    after = subst (λ (t : Turns). AreAt services t new)
+        (sym (ap (turns_in plan services) (add-one slot) ∙ turns_served kept (packet_counts services) slot (kept_late late) ∙ ap (λ (o : Option ℕ). served turns o) it.0)) it.1;
+    of_service = λ e. ap is_of_service carried;
+  }
+    where
+      it : (next_service (packet_counts services) turns ≡ Some took.service) × AreAt services (served turns (Some took.service)) new
+          × (bytes ≡ written (packet_at (slice_index_or services took.service []) (slice_index turns.sent took.service)))
+      it = turn_served services turns (within_at kept (packet_counts services) slot) old at new bytes took
+
+      carried : slot_in plan services slot ≡ of_service took.service (slice_index turns.sent took.service)
+      carried = ap (λ (o : Option Slot). unwrap_or o (slot_of_service turns (next_service (packet_counts services) turns))) (kept_late late) ∙ ap (λ (o : Option ℕ). slot_of_service turns o) it.0
+
+-- which slots are the INT's, as it is tested
+pub is_early_so : (plan : PlanFields) (slot cycle count : ℕ) → cycle ≡ plan.cycle → count ≡ table_packets plan → slot % cycle < count → is_early plan slot ≡ true
+is_early_so plan slot cycle count same table less =
+    let here : slot % plan.cycle < table_packets plan = subst (λ (n : ℕ). slot % n < table_packets plan) same (omega (arith, table, less)) in
+    so (slot % plan.cycle) (table_packets plan) here
+  where
+    so : (a b : ℕ) → a < b → ltb a b ≡ true
+    so a b le = grind (arith, le)
+
+pub is_late_so : (plan : PlanFields) (slot cycle count : ℕ) → cycle ≡ plan.cycle → count ≡ table_packets plan → count ≤ slot % cycle → is_early plan slot ≡ false
+is_late_so plan slot cycle count same table le =
+    let here : table_packets plan ≤ slot % plan.cycle = subst (λ (n : ℕ). table_packets plan ≤ slot % n) same (omega (arith, table, le)) in
+    so (slot % plan.cycle) (table_packets plan) here
+  where
+    so : (a b : ℕ) → b ≤ a → ltb a b ≡ false
+    so a b le2 = grind (arith, le2)

@@ -1,0 +1,156 @@
+-- Services by turns: which has its turn, and what it leaves.
+use Rattle.std.proofs.Common.{◌≡◌, ℕ, zero, suc, ◌+◌, ◌-◌, ◌<◌, ◌≤◌, Bool, true, false, cond, ltb, List, [], ◌∷◌, length, map, drop, get_or, set, refl, sym, ap, ◌∙◌, arith, Option, Some, None, subst}
+use Rattle.std.specs.Prelude.{find, slice_index, slice_index_or, IsSome, IfSome}
+use Rattle.std.specs.List.{range_with_len}
+use Rattle.std.specs.Option.{option_or}
+use Rattle.std.proofs.lemmas.List.{length-map, drop_more, map-set}
+use Rattle.std.proofs.lemmas.List.Folds.{find-append}
+use Rattle.ts_spec.specs.Packet.{PacketFields}
+use Rattle.stream_spec.specs.Slots.{asked, Turns}
+use Rattle.stream_spec.specs.Stream.{packet_counts, written}
+use Rattle.stream_law.proofs.Next.{has_turn, none_has_turn}
+use Rattle.stream_law.proofs.OnPid.{count_of}
+use Rattle.mux_core.specs.Services.{packets_in, packet_total, has_packets, Serving, turn_of, TakesTurn}
+use Rattle.mux_core.specs.declared.lanes.Lane.{Lane}
+
+-- the first of some numbers is asked
+pub find_next : (p : ℕ → Bool) (k to : ℕ) → k < to → p k ≡ false → find p (range_with_len k (to - k)) ≡ find p (range_with_len (k + 1) (to - (k + 1)))
+find_next p k to less none =
+    let size : to - k ≡ suc (to - (k + 1)) = omega (arith, less) in
+    ap (λ (n : ℕ). find p (range_with_len k n)) size ∙ ap (λ (b : Bool). cond b (Some k) (find p (range_with_len (k + 1) (to - (k + 1))))) none
+
+pub find_here : (p : ℕ → Bool) (k to : ℕ) → k < to → p k ≡ true → find p (range_with_len k (to - k)) ≡ Some k
+find_here p k to less is =
+    let size : to - k ≡ suc (to - (k + 1)) = omega (arith, less) in
+    ap (λ (n : ℕ). find p (range_with_len k n)) size ∙ ap (λ (b : Bool). cond b (Some k) (find p (range_with_len (k + 1) (to - (k + 1))))) is
+
+-- the packets of the service at a place
+pub lane_at : (lanes : List Lane) (k : ℕ) (lane : Lane) → k < length lanes → lane ≡ get_or lanes k lane → slice_index_or (map packets_in lanes) k [] ≡ packets_in lane
+lane_at [] k lane less is = absurd (omega (arith, less))
+lane_at (first ∷ lanes) zero lane less is = ap packets_in (sym is)
+lane_at (first ∷ lanes) (suc k) lane less is = lane_at lanes k lane (omega (arith, less)) is
+
+pub none_there : (lanes : List Lane) (k : ℕ) (lane : Lane) → k < length lanes → lane ≡ get_or lanes k lane → length (packets_in lane) ≤ 0 → has_packets (map packets_in lanes) k ≡ false
+none_there lanes k lane less is none =
+    not_some (slice_index (packet_counts (map packets_in lanes)) k)
+    (omega (arith, count_of (map packets_in lanes) k, ap (λ (ps : List PacketFields). length ps) (lane_at lanes k lane less is), none))
+  where
+    not_some : (n : ℕ) → n ≤ 0 → ltb 0 n ≡ false
+    not_some n le = grind (arith, le)
+
+pub some_there : (lanes : List Lane) (k : ℕ) (lane : Lane) → k < length lanes → lane ≡ get_or lanes k lane → 0 < length (packets_in lane) → has_packets (map packets_in lanes) k ≡ true
+some_there lanes k lane less is some =
+    is_some_of (slice_index (packet_counts (map packets_in lanes)) k)
+    (omega (arith, count_of (map packets_in lanes) k, ap (λ (ps : List PacketFields). length ps) (lane_at lanes k lane less is), some))
+  where
+    is_some_of : (n : ℕ) → 0 < n → ltb 0 n ≡ true
+    is_some_of n less2 = grind (arith, less2)
+
+module _ (services : List (List PacketFields)) (first : ℕ) (le : first ≤ length services) where
+  abbrev counts : List ℕ
+  counts = packet_counts services
+
+  abbrev as_turns : Turns
+  as_turns = record { sent = []; first = first }
+
+  sized : first ≤ length counts
+  sized = omega (arith, le, length-map services (λ (packets : List PacketFields). length packets))
+
+  -- those asked first, and then the others
+  pub asked_in_two : find (has_packets services) (asked (length counts) first)
+      ≡ option_or (find (has_packets services) (range_with_len first (length services - first))) (find (has_packets services) (range_with_len 0 first))
+  asked_in_two =
+      find-append (has_packets services) (range_with_len first (length counts - first)) (range_with_len 0 first)
+      ∙ ap (λ (n : ℕ). option_or (find (has_packets services) (range_with_len first (n - first))) (find (has_packets services) (range_with_len 0 first)))
+      (length-map services (λ (packets : List PacketFields). length packets))
+
+  pub found_has : (k : ℕ) → find (has_packets services) (asked (length counts) first) ≡ Some k → (k < length services) × (0 < length (slice_index_or services k []))
+  found_has k e =
+      let found : (0 < slice_index counts k) × (k < length counts) = has_turn counts as_turns k sized e in
+      (omega (arith, found.1, length-map services (λ (packets : List PacketFields). length packets)), omega (arith, found.0, count_of services k))
+
+  -- where none has packets left, none are left
+  pub some_asked : 0 < packet_total services → IsSome (find (has_packets services) (asked (length counts) first))
+  some_asked some = by_turn (find (has_packets services) (asked (length counts) first)) refl
+    where
+      none_left : (lists : List (List PacketFields)) → ((k : ℕ) → k < length (packet_counts lists) → slice_index (packet_counts lists) k ≤ 0) → packet_total lists ≡ 0
+      none_left [] none = refl
+      none_left (packets ∷ lists) none = omega (arith, none 0 (omega arith), none_left lists (λ k less. none (suc k) (omega (arith, less))))
+
+      by_turn : (turn : Option ℕ) → find (has_packets services) (asked (length counts) first) ≡ turn → IsSome turn
+      by_turn (Some k) e = refl
+      by_turn None e = absurd (omega (arith, some, none_left services (λ k less. none_has_turn counts as_turns k sized e less)))
+
+-- whose turn it is, of services whose first and whose others were looked through
+pub turn_two : (items seen : List Lane) (first count : ℕ) (found rest : Option ℕ) → seen ≡ items → count ≡ length items → first ≤ length items
+    → found ≡ find (has_packets (map packets_in seen)) (range_with_len first (count - first))
+    → rest ≡ find (has_packets (map packets_in items)) (range_with_len 0 first)
+    → turn_of (record { packets = map packets_in items; first = first }) ≡ option_or found rest
+turn_two items seen first count found rest same size le found_is rest_is =
+    asked_in_two (map packets_in items) first (omega (arith, le, length-map items packets_in))
+    ∙ ap (λ (n : ℕ). option_or (find (has_packets (map packets_in items)) (range_with_len first (n - first))) (find (has_packets (map packets_in items)) (range_with_len 0 first)))
+    (length-map items packets_in ∙ sym size)
+    ∙ ap (λ (o : Option ℕ). option_or o (find (has_packets (map packets_in items)) (range_with_len 0 first)))
+    (ap (λ (ls : List Lane). find (has_packets (map packets_in ls)) (range_with_len first (count - first))) (sym same) ∙ sym found_is)
+    ∙ ap (λ (o : Option ℕ). option_or found o) (sym rest_is)
+
+-- what is known of the turn
+pub record IsTurn (serving : Serving) (turn : Option ℕ) : Type 0 where
+  pub read : turn ≡ turn_of serving
+  pub some : 0 < packet_total serving.packets → IsSome turn
+  pub has : IfSome turn (λ k. (k < length serving.packets) × (0 < length (slice_index_or serving.packets k [])))
+
+pub is_turn : (serving : Serving) (turn : Option ℕ) → serving.first ≤ length serving.packets → turn_of serving ≡ turn → IsTurn serving turn
+is_turn serving turn le e = record {
+  read = sym e;
+  some = λ left. subst (λ (o : Option ℕ). IsSome o) e (some_asked serving.packets serving.first le left);
+  has = by_turn turn e;
+}
+  where
+    by_turn : (o : Option ℕ) → turn_of serving ≡ o → IfSome o (λ k. (k < length serving.packets) × (0 < length (slice_index_or serving.packets k [])))
+    by_turn None e2 = tt
+    by_turn (Some k) e2 = found_has serving.packets serving.first le k e2
+
+-- one packet less is left
+pub total_set : (services : List (List PacketFields)) (k : ℕ) (packet : PacketFields) (rest : List PacketFields) → k < length services → slice_index_or services k [] ≡ packet ∷ rest
+    → packet_total services ≡ packet_total (set services k rest) + 1
+total_set [] k packet rest less is = absurd (omega (arith, less))
+total_set (packets ∷ services) zero packet rest less is = omega (arith, ap (λ (ps : List PacketFields). length ps) is)
+total_set (packets ∷ services) (suc k) packet rest less is = omega (arith, total_set services k packet rest (omega (arith, less)) is)
+
+-- the packets of the next services are counted
+pub total_next : (lanes : List Lane) (i : ℕ) (lane : Lane) → i < length lanes → lane ≡ get_or lanes i lane
+    → packet_total (map packets_in (drop i lanes)) ≡ length (packets_in lane) + packet_total (map packets_in (drop (i + 1) lanes))
+total_next lanes i lane less is = ap (λ (ls : List Lane). packet_total (map packets_in ls)) (drop_more lanes i lane less ∙ ap (λ (l : Lane). l ∷ drop (i + 1) lanes) (sym is))
+
+-- the service whose turn it is gave a packet
+pub turn_taken : (items : List Lane) (first k : ℕ) (old new : Lane) (now : Serving) (packet : PacketFields) (into : List ℕ)
+    → let serving : Serving = record { packets = map packets_in items; first = first } in serving ≡ now
+    → k < length now.packets → Some k ≡ turn_of now → old ≡ get_or items k old → packets_in old ≡ packet ∷ packets_in new → into ≡ written packet
+    → let behind : Serving = record { packets = map packets_in (set items k new); first = k + 1 } in
+    TakesTurn now behind into × (packet_total now.packets ≡ packet_total (map packets_in (set items k new)) + 1)
+turn_taken items first k old new now packet into is less turn old_is took into_is = (
+  record {
+    service = k;
+    turn = sym turn;
+    packet = packet;
+    rest = packets_in new;
+    next = there;
+    packets = set_is;
+    first = refl;
+    bytes_are = into_is;
+  },
+  total_set now.packets k packet (packets_in new) less there ∙ ap (λ (ps : List (List PacketFields)). packet_total ps + 1) (sym set_is),
+)
+  where
+    same : map packets_in items ≡ now.packets
+    same = ap (λ (s : Serving). s.packets) is
+
+    inside : k < length items
+    inside = omega (arith, less, ap (λ (ps : List (List PacketFields)). length ps) same, length-map items packets_in)
+
+    there : slice_index_or now.packets k [] ≡ packet ∷ packets_in new
+    there = ap (λ (ps : List (List PacketFields)). slice_index_or ps k []) (sym same) ∙ lane_at items k old inside old_is ∙ took
+
+    set_is : map packets_in (set items k new) ≡ set now.packets k (packets_in new)
+    set_is = map-set packets_in items k new ∙ ap (λ (ps : List (List PacketFields)). set ps k (packets_in new)) same

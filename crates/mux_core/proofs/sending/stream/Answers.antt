@@ -1,0 +1,67 @@
+use Rattle.std.proofs.Common.{◌≡◌, ℕ, ◌<◌, List, length, sum_by, arith, ap, sym, ◌∙◌}
+use Rattle.std.proofs.KnownBytes.{Appends-nil}
+use Rattle.ts_spec.specs.Packet.{PacketFields}
+use Rattle.plan_spec.specs.Plan.{PlanFields}
+use Rattle.plan_spec.specs.Offered.{offered as offered_to}
+use Rattle.service_plan.specs.PlanView.{plan_fields}
+use Rattle.stream_spec.specs.Stream.{service_packets, records_of_slots, IsStream}
+use Rattle.stream_law.proofs.Plans.{few_services}
+use Rattle.mux_core.specs.Services.{Serving}
+use Rattle.mux_core.proofs.Streamed.{are_lists, packets_offered, stream_of, length-records}
+use Rattle.mux_core.proofs.sending.stream.Goals as goal
+
+pub new-requires : goal.new-requires
+new-requires g c =
+    are_lists (plan_fields c.args.plan.now) c.args.plan.now.valid c.requires.built c.args.offered.now c.requires.offered
+    (λ k. c.each_datagram_is_for_its_service.ensures.datagrams (plan_fields c.args.plan.now) c.requires.offered.records k c.requires.offered.datagrams)
+    (λ k. c.each_datagram_is_for_its_service.ensures.short (plan_fields c.args.plan.now) c.requires.offered.records k)
+    (λ k. c.nothing_is_left_out.ensures.each (plan_fields c.args.plan.now) c.requires.offered.records k)
+
+pub returns-in-Err-clause-written : goal.returns-in-Err-clause-written
+returns-in-Err-clause-written g c = λ gives stands.
+    let plan : PlanFields = plan_fields c.args.plan.now in
+    let found : (records : List (List ℕ)) × IsStream plan (offered_to plan gives) records = c.there_is_one_stream.ensures.is plan (offered_to plan gives) c.args.plan.now.valid in
+    record { records = found.0; stream = found.1; written = (0, Appends-nil (g.K.Sink.held c.args.sink.now)); packets = tt }
+
+pub returns-in-Err-new-clause-written : goal.returns-in-Err-new-clause-written
+returns-in-Err-new-clause-written g c = λ gives stands.
+    let plan : PlanFields = plan_fields c.args.plan.now in
+    let found : (records : List (List ℕ)) × IsStream plan (offered_to plan gives) records = c.there_is_one_stream.ensures.is plan (offered_to plan gives) c.args.plan.now.valid in
+    record { records = found.0; stream = found.1; written = (0, Appends-nil (g.K.Sink.held c.args.sink.now)); packets = tt }
+
+pub count_datagrams-datagrams-requires-clause-services : goal.count_datagrams-datagrams-requires-clause-services
+count_datagrams-datagrams-requires-clause-services g c = omega (arith, c.requires.offered.stands.count, few_services (plan_fields c.args.plan.now) c.args.plan.now.valid)
+
+pub count_datagrams-datagrams-requires-clause-few : goal.count_datagrams-datagrams-requires-clause-few
+count_datagrams-datagrams-requires-clause-few g c =
+    below (sum_by (λ (list : List (List ℕ)). length list) c.args.offered.now.lists)
+    (omega (arith, c.nothing_is_left_out.ensures.all (plan_fields c.args.plan.now) c.requires.offered.records c.args.offered.now c.requires.offered.stands, c.requires.offered.few))
+  where
+    below : (n : ℕ) → n < 4294967296 → n < 4294967296
+    below n less = less
+
+pub returns-in-Ok-put_slots-clause-written : goal.returns-in-Ok-put_slots-clause-written
+returns-in-Ok-put_slots-clause-written g c = λ gives stands.
+    let plan : PlanFields = plan_fields c.args.plan.now in
+    let services : List (List PacketFields) = c.in-Ok.services.packets in
+    let same : services ≡ service_packets plan (offered_to plan gives) = ap (λ (s : Serving). s.packets) c.in-Ok.ensures.written ∙ packets_offered plan c.args.offered.now gives stands in
+    let slots : ℕ = c.in-Ok-put_slots.ensures.written.slots in
+    record {
+      records = records_of_slots plan services slots;
+      stream = stream_of plan services (offered_to plan gives) slots same c.in-Ok-put_slots.ensures.written.count;
+      written = c.in-Ok-put_slots.ensures.written.written;
+      packets = c.in-Ok-put_slots.ensures.written.packets ∙ sym (length-records plan services slots);
+    }
+
+pub returns-clause-written : goal.returns-clause-written
+returns-clause-written g c = λ gives stands.
+    let plan : PlanFields = plan_fields c.args.plan.now in
+    let services : List (List PacketFields) = c.in-Ok.services.packets in
+    let same : services ≡ service_packets plan (offered_to plan gives) = ap (λ (s : Serving). s.packets) c.in-Ok.ensures.written ∙ packets_offered plan c.args.offered.now gives stands in
+    let slots : ℕ = c.in-Err-put_slots.ensures.written.slots in
+    record {
+      records = records_of_slots plan services slots;
+      stream = stream_of plan services (offered_to plan gives) slots same c.in-Err-put_slots.ensures.written.count;
+      written = c.in-Err-put_slots.ensures.written.written;
+      packets = tt;
+    }

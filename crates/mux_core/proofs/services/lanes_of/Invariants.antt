@@ -1,0 +1,13 @@
+-- The packets of the services so far.
+use Rattle.std.proofs.Common.{◌≡◌, ◌≤◌, ◌^◌, length, map, take}
+use Rattle.std.specs.Prelude.{All}
+use Rattle.service_plan.specs.PlanView.{plan_fields}
+use Rattle.mux_core.specs.Services.{packets_in, packets_from_lists}
+use Rattle.mux_core.proofs.services.lanes_of.Given as goal
+
+abbrev pub invariant-loop-place : goal.invariant-loop-place
+invariant-loop-place l = record {
+  written : map packets_in l.lanes.items ≡ packets_from_lists (take l.place (plan_fields l.plan).services) (take l.place l.lists);
+  count : length l.lanes.items ≡ l.place;
+  short : All (λ lane. length (packets_in lane) ≤ 2 ^ 48) l.lanes.items;
+}

@@ -1,0 +1,15 @@
+use Rattle.std.proofs.Common.{ℕ, List, ◌++◌, drop, None, sym, ap, ◌∙◌}
+use Rattle.ip_datagram.specs.declared.address.IpAddress.{IpAddress}
+use Rattle.addr_rules.specs.Macs.{mac_of_address}
+use Rattle.section_spec.specs.Mpe.{mpe_bytes, mpe_to_write}
+use Rattle.service_plan.specs.Parts.{kind_seen}
+use Rattle.service_plan.specs.declared.service.Kind.{Kind}
+use Rattle.mux_core.specs.Units.{unit_of}
+use Rattle.mux_core.proofs.units.write_unit.Goals as goal
+
+pub returns-in-Mpe-clause-written : goal.returns-in-Mpe-clause-written
+returns-in-Mpe-clause-written c =
+    c.write_mpe.ensures.written
+    ∙ ap (λ (unit : List ℕ). unit ++ drop c.write_mpe.result c.args.into.now)
+    (ap (λ (mac : List ℕ). mpe_bytes (mpe_to_write mac None c.args.datagram.now)) (c.mac_of-mac.ensures.written ∙ ap (λ (a : IpAddress). mac_of_address a c.args.service.now.unicast) c.destination.ensures.read)
+    ∙ sym (ap (λ (k : Kind). unit_of (kind_seen k) c.args.service.now.unicast c.args.datagram.now) c.in-Mpe.is))

@@ -1,0 +1,6 @@
+pub mod Sending
+pub mod Units
+pub mod Lanes
+pub mod Services
+pub mod Tables
+pub mod Slots

@@ -1,0 +1,40 @@
+-- The units of a service, one behind another in a buffer.
+use Rattle.std.specs.Prelude.{◌≡◌, ℕ, ◌+◌, ◌≤◌, List, [], ◌∷◌, ◌++◌, length, All}
+use Rattle.wire_spec.specs.Datagram.{IsDatagram}
+use Rattle.wire_spec.specs.Lists.{joined}
+use Rattle.plan_spec.specs.Plan.{KindFields, ule, mpe, fec, gse}
+use Rattle.plan_spec.specs.Route.{longest_of}
+use Rattle.stream_spec.specs.Units.{sndu_of, section_of}
+
+-- the unit of a datagram; the other kinds have none so far
+abbrev pub unit_of : KindFields → List ℕ → List ℕ → List ℕ
+unit_of (ule pid address packing) unicast datagram = sndu_of address unicast datagram
+unit_of (mpe pid) unicast datagram = section_of unicast datagram
+unit_of (fec pid rows parity window) unicast datagram = []
+unit_of (gse isi address) unicast datagram = []
+
+-- a datagram that a service of this kind takes
+pub record IsFor (kind : KindFields) (datagram : List ℕ) : Type 0 where
+  pub is : IsDatagram datagram
+  pub short : length datagram ≤ longest_of kind
+
+abbrev pub AreFor : KindFields → List (List ℕ) → Type 0
+AreFor kind datagrams = All (IsFor kind) datagrams
+
+-- where units end that stand one behind another from a place on
+abbrev pub ends_from : ℕ → List (List ℕ) → List ℕ
+ends_from place [] = []
+ends_from place (unit ∷ units) = (place + length unit) ∷ ends_from (place + length unit) units
+
+-- the units stand at the front of the bytes, and end there
+pub record HoldUnits (units : List (List ℕ)) (bytes ends : List ℕ) : Type 0 where
+  pub rest : List ℕ
+  pub bytes_are : bytes ≡ joined units ++ rest
+  pub ends_are : ends ≡ ends_from 0 units
+
+-- the PID of the kind is one
+abbrev pub HasPid : KindFields → Type 0
+HasPid (ule pid address packing) = pid ≤ 8191
+HasPid (mpe pid) = pid ≤ 8191
+HasPid (fec pid rows parity window) = pid ≤ 8191
+HasPid (gse isi address) = Unit {0}

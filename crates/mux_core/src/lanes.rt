@@ -1,0 +1,148 @@
+//! The units of a service -> its packets, one after another.
+ghost use Rattle.std.specs.Prelude.{◌≡◌, ℕ, ◌+◌, ◌*◌, ◌<◌, ◌≤◌, ◌^◌, ◌%◌, ◌∷◌, List, true, length, IfOk};
+ghost use Rattle.ts_spec.specs.Packet.{PacketFields};
+ghost use Rattle.stream_spec.specs.Stream.{written};
+ghost use Rattle.stream_spec.specs.Units.{packets_of_kind};
+ghost use Rattle.stream_law.specs.Words.{is_of_units};
+ghost use Rattle.service_plan.specs.Parts.{kind_seen};
+ghost use Rattle.mux_core.specs.Units.{AreFor, HasPid};
+ghost use Rattle.mux_core.specs.Services.{packets_in};
+
+use crate::units::{Units, units_of};
+use ip_datagram::DatagramList;
+use section_codec::SectionForm;
+use service_plan::{Kind, Service};
+use std::alloc::{AllocError as OutOfMemory, Global};
+use std::marker::Model;
+use ule_unit::UleForm;
+use unit_stream::{Packer, UnitForm, count_packets};
+
+/// Units on their way into the packets of one PID.
+#[derive(Drop)]
+pub(crate) struct UnitPackets<F: UnitForm> {
+    units: Units,
+    packer: Packer<F>,
+    /// The packets still to come.
+    left: u64,
+    /// The packets of all units.
+    all: u64,
+}
+
+impl<F: UnitForm> Model for UnitPackets<F> {
+    ghost use Rattle.mux_core.specs.Lanes.{OnWay, on_way, IsPacking};
+
+    ghost Value = { OnWay };
+
+    ghost view = { λ p. on_way F.form p.packer p.units.bytes.items p.units.ends.items };
+
+    ghost invariant = { λ p. IsPacking F.START F.form p.packer p.units.bytes.items p.units.ends.items p.left p.all };
+}
+
+impl<F: UnitForm> UnitPackets<F> {
+    ghost use Rattle.std.specs.Prelude.{◌≡◌, ℕ, ◌+◌, ◌<◌, ◌≤◌, ◌%◌, ◌∷◌, length};
+    ghost use Rattle.ts_spec.specs.Packet.{PacketFields};
+    ghost use Rattle.stream_spec.specs.Stream.{written};
+    ghost use Rattle.unit_stream.specs.Packing.{packetized};
+    ghost use Rattle.unit_stream.specs.Packers.{AreEnds, units_of as units_at};
+
+    /// The packets of these units, with counters from 0; the PID is 0 to 8191.
+    pub(crate) fn new(units: Units, pid: u16, packing: bool) -> UnitPackets<F>
+        requires pid { pid ≤ 8191 }
+        requires ends { AreEnds F.START (length units.bytes.items) units.ends.items }
+        ensures written { result ≡ record {
+          pid = pid;
+          packing = packing;
+          counter = 0;
+          units = units_at units.bytes.items units.ends.items;
+          packets = packetized F.form packing pid 0 (units_at units.bytes.items units.ends.items);
+        } }
+    {
+        let all = count_packets::<F>(&units.ends, packing);
+        UnitPackets {
+            units,
+            packer: Packer::new(pid, packing),
+            left: all,
+            all,
+        }
+    }
+
+    /// How many are still to come.
+    pub(crate) fn left(&self) -> u64
+        ensures read { result ≡ length self.now.packets }
+    {
+        self.left
+    }
+
+    /// Writes the next one.
+    pub(crate) fn next(&mut self, into: &mut [u8; 188])
+        requires { 0 < length self.old.packets }
+        ensures next { (packet : PacketFields) × (self.old.packets ≡ packet ∷ self.new.packets) × (into.new ≡ written packet) }
+        ensures kept { (self.new.pid ≡ self.old.pid) × (self.new.packing ≡ self.old.packing) × (self.new.units ≡ self.old.units) }
+        ensures counter { self.new.counter ≡ (self.old.counter + 1) % 16 }
+    {
+        if self.packer.next(&self.units.bytes, &self.units.ends, into) {
+            self.left -= 1;
+        }
+    }
+
+    /// Begins the units anew. The counter goes on.
+    pub(crate) fn again(&mut self)
+        ensures written { self.new ≡ record self.old { packets = packetized F.form self.old.packing self.old.pid self.old.counter self.old.units } }
+    {
+        self.packer.again();
+        self.left = self.all;
+    }
+}
+
+/// The packets of a service.
+#[derive(Drop)]
+pub(crate) enum Lane {
+    /// Of SNDUs.
+    Ule(UnitPackets<UleForm>),
+    /// Of datagram_sections.
+    Mpe(UnitPackets<SectionForm>),
+}
+
+impl Lane {
+    /// The packets of a service of these datagrams.
+    pub(crate) fn new(
+        alloc: Global,
+        service: &Service,
+        datagrams: &DatagramList,
+    ) -> Result<Lane, OutOfMemory>
+        requires built { is_of_units (kind_seen service.now.kind) ≡ true }
+        requires pid { HasPid (kind_seen service.now.kind) }
+        requires datagrams { AreFor (kind_seen service.now.kind) datagrams.now }
+        requires few { length datagrams.now < 2 ^ 32 }
+        ensures written { IfOk result (λ lane. packets_in lane ≡ packets_of_kind (kind_seen service.now.kind) service.now.unicast datagrams.now) }
+        ensures most { IfOk result (λ lane. length (packets_in lane) ≤ 2 ^ 48) }
+    {
+        let units = units_of(alloc, service, datagrams)?;
+        match service.kind {
+            Kind::Ule { pid, packing, .. } => Ok(Lane::Ule(UnitPackets::new(units, pid, packing))),
+            Kind::Mpe { pid } => Ok(Lane::Mpe(UnitPackets::new(units, pid, true))),
+            Kind::Fec { .. } | Kind::Gse { .. } => unreachable!(),
+        }
+    }
+
+    /// How many packets are still to come.
+    pub(crate) fn left(&self) -> u64
+        ensures read { result ≡ length (packets_in self.now) }
+    {
+        match self {
+            Lane::Ule(packets) => packets.left(),
+            Lane::Mpe(packets) => packets.left(),
+        }
+    }
+
+    /// Writes the next one.
+    pub(crate) fn next(&mut self, into: &mut [u8; 188])
+        requires { 0 < length (packets_in self.old) }
+        ensures next { (packet : PacketFields) × (packets_in self.old ≡ packet ∷ packets_in self.new) × (into.new ≡ written packet) }
+    {
+        match self {
+            Lane::Ule(packets) => packets.next(into),
+            Lane::Mpe(packets) => packets.next(into),
+        }
+    }
+}

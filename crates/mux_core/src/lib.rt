@@ -1,0 +1,20 @@
+//! The sender's stream: the packets of all services and of the INT, slot by slot.
+//!
+//! Sending: capture -> pcap_file -> offered_datagrams -> [mux_core] -> Sink.
+//! Begin with `stream`.
+#![tactic(auto)]
+
+#[cfg(test)]
+mod built;
+mod lanes;
+mod records;
+mod sending;
+mod services;
+mod slots;
+mod table;
+#[cfg(test)]
+mod tests;
+mod units;
+
+pub use offered_datagrams::{Lists, Offered};
+pub use sending::{MuxFault, Sent, stream};

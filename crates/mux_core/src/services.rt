@@ -1,0 +1,128 @@
+//! The services by turns: one packet of the next of them that has packets left.
+ghost use Rattle.std.specs.Prelude.{◌≡◌, ℕ, ◌+◌, ◌-◌, ◌<◌, ◌≤◌, ◌^◌, All, map, length, find, slice_index_or, IfOk, IfSome, IsSome};
+ghost use Rattle.std.specs.List.{range_with_len};
+ghost use Rattle.service_plan.specs.PlanView.{plan_fields};
+ghost use Rattle.mux_core.specs.Services.{packets_in, packet_total, has_packets, turn_of, TakesTurn, packets_from_lists, AreLists};
+
+use crate::lanes::Lane;
+use offered_datagrams::Lists;
+use service_plan::Plan;
+use std::alloc::{AllocError as OutOfMemory, Global};
+use std::marker::Model;
+
+/// The services of a plan on their way; contracts see what each has left, and which is asked first.
+#[derive(Drop)]
+pub(crate) struct Services {
+    lanes: Vec<Lane>,
+    /// The service behind the one served last.
+    first: usize,
+    /// The packets of all services that are still to come.
+    left: u64,
+}
+
+impl Model for Services {
+    ghost use Rattle.std.specs.Prelude.{◌≡◌, ◌≤◌, map, length};
+    ghost use Rattle.mux_core.specs.Services.{packets_in, Serving, packet_total};
+
+    ghost Value = { Serving };
+
+    ghost view = { λ s. record { packets = map packets_in s.lanes.items; first = s.first } };
+
+    ghost invariant = { λ s. (s.left ≡ packet_total (map packets_in s.lanes.items)) × (s.first ≤ length s.lanes.items) };
+}
+
+/// The first of the services from one on, and before another, that has packets left.
+fn find_from(lanes: &[Lane], from: usize, to: usize) -> Option<usize>
+    requires { to ≤ length lanes.now }
+    ensures { result ≡ find (has_packets (map packets_in lanes.now)) (range_with_len from (to - from)) }
+{
+    for k in from..to {
+        if lanes[k].left() > 0 {
+            return Some(k);
+        }
+    }
+    None
+}
+
+/// The packets of all services.
+fn total(lanes: &[Lane]) -> u64
+    requires few { length lanes.now ≤ 64 }
+    requires short { All (λ lane. length (packets_in lane) ≤ 2 ^ 48) lanes.now }
+    ensures read { result ≡ packet_total (map packets_in lanes.now) }
+    ensures most { result ≤ 2 ^ 54 }
+{
+    let mut total = 0;
+    for lane in lanes {
+        total += lane.left();
+    }
+    total
+}
+
+/// The packets of each service.
+fn lanes_of(alloc: Global, plan: &Plan, lists: &Lists) -> Result<Vec<Lane>, OutOfMemory>
+    requires { AreLists (plan_fields plan.now) lists.now }
+    ensures written { IfOk result (λ lanes. map packets_in lanes.items ≡ packets_from_lists (plan_fields plan.now).services lists.now) }
+    ensures short { IfOk result (λ lanes. All (λ lane. length (packets_in lane) ≤ 2 ^ 48) lanes.items) }
+    ensures few { IfOk result (λ lanes. length lanes.items ≤ 64) }
+{
+    let mut lanes = Vec::new(alloc);
+    for place in 0..plan.services.len() {
+        let lane = Lane::new(alloc, plan.services.at(place), lists.at(place as u32))?;
+        lanes.push(lane)?;
+    }
+    Ok(lanes)
+}
+
+impl Services {
+    ghost use Rattle.std.specs.Prelude.{◌≡◌, ◌+◌, ◌<◌, ◌≤◌, ◌^◌, [], length, slice_index_or, IfOk, IfSome, IsSome};
+    ghost use Rattle.service_plan.specs.PlanView.{plan_fields};
+    ghost use Rattle.mux_core.specs.Services.{packet_total, turn_of, TakesTurn, packets_from_lists, AreLists};
+
+    /// The services of a plan with these datagrams, before the first slot.
+    pub(crate) fn new(alloc: Global, plan: &Plan, lists: &Lists) -> Result<Services, OutOfMemory>
+        requires { AreLists (plan_fields plan.now) lists.now }
+        ensures written { IfOk result (λ s. s ≡ record { packets = packets_from_lists (plan_fields plan.now).services lists.now; first = 0 }) }
+        ensures most { IfOk result (λ s. packet_total s.packets ≤ 2 ^ 54) }
+    {
+        let lanes = lanes_of(alloc, plan, lists)?;
+        let left = total(&lanes);
+        Ok(Services {
+            lanes,
+            first: 0,
+            left,
+        })
+    }
+
+    /// How many packets are still to come.
+    pub(crate) fn left(&self) -> u64
+        ensures read { result ≡ packet_total self.now.packets }
+    {
+        self.left
+    }
+
+    /// The service whose turn it is.
+    fn turn(&self) -> Option<usize>
+        ensures read { result ≡ turn_of self.now }
+        ensures some { 0 < packet_total self.now.packets → IsSome result }
+        ensures has { IfSome result (λ k. (k < length self.now.packets) × (0 < length (slice_index_or self.now.packets k []))) }
+    {
+        match find_from(&self.lanes, self.first, self.lanes.len()) {
+            Some(k) => Some(k),
+            None => find_from(&self.lanes, 0, self.first),
+        }
+    }
+
+    /// Writes the next packet of the service whose turn it is.
+    pub(crate) fn next(&mut self, into: &mut [u8; 188])
+        requires { 0 < packet_total self.old.packets }
+        ensures next { TakesTurn self.old self.new into.new }
+        ensures left { packet_total self.old.packets ≡ packet_total self.new.packets + 1 }
+    {
+        let Some(k) = self.turn() else {
+            unreachable!();
+        };
+        self.lanes[k].next(into);
+        self.first = k + 1;
+        self.left -= 1;
+    }
+}
