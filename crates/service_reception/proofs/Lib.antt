@@ -1,0 +1,12 @@
+pub mod Counted
+pub mod Proper
+pub mod Few
+pub mod Tellings
+pub mod Steps
+pub mod Records
+pub mod Links
+pub mod Units
+pub mod Taken
+pub mod Fronts
+pub mod Keeping
+pub mod Sections

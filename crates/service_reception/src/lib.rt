@@ -1,0 +1,24 @@
+//! The reception of one PID: its packets come in one after another, and the datagrams of its service go out.
+//!
+//! Receiving: ts_packet -> unit_stream -> ule_unit or section_codec -> [service_reception] -> Outlet.
+//! Begin with `Reception::take`, and with `TableReception::take` on the PID of the INT.
+#![tactic(auto)]
+
+#[cfg(test)]
+mod by_hand;
+mod carried;
+mod counts;
+mod events;
+mod handling;
+mod kept;
+mod laws;
+mod reception;
+mod table;
+#[cfg(test)]
+mod tests;
+
+pub use carried::{Carried, UnitReader};
+pub use counts::Counts;
+pub use laws::{a_record_of_another_pid_changes_nothing, what_was_delivered_stays};
+pub use reception::Reception;
+pub use table::TableReception;

@@ -1,0 +1,106 @@
+//! The packets of one PID -> the datagrams of its service, delivered, and all its numbers.
+ghost use Rattle.std.specs.Prelude.{◌≡◌};
+
+use crate::carried::UnitReader;
+use crate::counts::Counts;
+use crate::events::take_events;
+use addr_rules::MacList;
+use ipe_io::{Failed, Outlet};
+use std::alloc::Allocator;
+use std::marker::Model;
+use ts_packet::{Continuity, Packet};
+use unit_stream::Joiner;
+
+/// The reception of one service, by the kind of its units.
+///
+/// It is known by the records that were received: contracts see what `HasReceived` ties to these.
+#[derive(Drop)]
+pub struct Reception<K: UnitReader, A: Allocator> {
+    continuity: Continuity,
+    joiner: Joiner<K, A>,
+    counts: Counts,
+}
+
+impl<K: UnitReader, A: Allocator> Model for Reception<K, A> {
+    ghost use Rattle.service_reception.specs.Reception.{ReceptionState};
+    ghost use Rattle.service_reception.specs.Counting.{on_pid, of_units};
+
+    ghost Value = { ReceptionState };
+
+    ghost view = { λ reception. record {
+      last = reception.continuity;
+      joiner = reception.joiner;
+      on_pid = on_pid reception.counts;
+      of_units = of_units reception.counts;
+    } };
+}
+
+impl<K: UnitReader, A: Allocator> Reception<K, A> {
+    ghost use Rattle.std.specs.Prelude.{◌≡◌, ◌<◌, ℕ, true, List, [], ◌∷◌, ◌++◌, vec_len, Some, OnOk, OnErr};
+    ghost use Rattle.wire_spec.specs.Causes.{HasCause};
+    ghost use Rattle.ts_spec.specs.Packet.{fields_of, is_packet};
+    ghost use Rattle.ts_spec.specs.Recording.{Record};
+    ghost use Rattle.plan_spec.specs.Plan.{ServiceFields, pid_of};
+    ghost use Rattle.ts_packet.specs.Fields.{fields_in};
+    ghost use Rattle.service_reception.specs.Reception.{HasReceived, IsReceiving, packet_record, added_by};
+    ghost use Rattle.service_reception.specs.Counting.{on_pid, of_units};
+    ghost use Rattle.service_reception.specs.Telling.{Told, StopsWithin};
+
+    /// A reception of nothing, over a buffer of LONGEST bytes. It takes no memory afterwards.
+    pub fn over(buffer: Vec<u8, A>) -> Reception<K, A>
+        requires { vec_len buffer ≡ K.LONGEST }
+        ensures received { (it : ServiceFields) (pid : ℕ) → pid_of it.kind ≡ Some pid → HasReceived it result [] }
+    {
+        Reception {
+            continuity: Continuity::new(),
+            joiner: Joiner::over(buffer),
+            counts: Counts::new(),
+        }
+    }
+
+    /// Takes one packet of the service's PID, which `parse` read from `bytes`, and the moment of its record.
+    ///
+    /// The datagrams that end in it and that `filter` wants go to the outlet, as those of this service. Failed: the outlet
+    /// refused one, and those behind it are not offered; the reception is to be asked nothing then but its numbers.
+    pub fn take<T: Outlet>(
+        &mut self,
+        bytes: &[u8; 188],
+        packet: &Packet<'_>,
+        moment: u64,
+        filter: &MacList,
+        service: u32,
+        outlet: &mut T,
+    ) -> Result<(), Failed>
+        requires readable { is_packet bytes.now ≡ true }
+        requires read { fields_in packet.now ≡ fields_of bytes.now }
+        requires served { service < T.services outlet.old }
+        ensures received { (it : ServiceFields) (records : List Record) → IsReceiving K.IsOfKind filter.now packet.now.pid it self.old records
+            → OnOk result (HasReceived it self.new (records ++ packet_record moment bytes.now ∷ [])) }
+        ensures delivered { (it : ServiceFields) (records : List Record) → IsReceiving K.IsOfKind filter.now packet.now.pid it self.old records
+            → OnOk result (Told (T.StandsFor outlet.old) (T.StandsFor outlet.new) service (added_by it records (packet_record moment bytes.now))) }
+        ensures failed { (it : ServiceFields) (records : List Record) → IsReceiving K.IsOfKind filter.now packet.now.pid it self.old records
+            → OnErr result (StopsWithin (T.StandsFor outlet.old) (T.StandsFor outlet.new) (T.Refused outlet.new service) service (added_by it records (packet_record moment bytes.now))) }
+        ensures services { T.services outlet.new ≡ T.services outlet.old }
+        ensures cause { HasCause (T.faults outlet.old) (T.faults outlet.new) result }
+    {
+        let link = self.continuity.see(bytes, packet);
+        self.counts.count_link(link);
+        self.joiner.feed(link, packet, moment);
+        take_events(
+            &mut self.joiner,
+            &mut self.counts,
+            packet,
+            filter,
+            service,
+            outlet,
+        )
+    }
+
+    /// The numbers of all that was taken.
+    pub fn counts(&self) -> Counts
+        ensures packets { on_pid result ≡ self.now.on_pid }
+        ensures units { of_units result ≡ self.now.of_units }
+    {
+        self.counts
+    }
+}
