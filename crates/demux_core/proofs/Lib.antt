@@ -1,0 +1,6 @@
+pub mod Passing
+pub mod Pids
+pub mod Pairs
+pub mod Whole
+pub mod Numbers
+pub mod Opened

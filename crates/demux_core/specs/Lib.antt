@@ -1,0 +1,5 @@
+pub mod Outlets
+pub mod Counts
+pub mod Contents
+pub mod Services
+pub mod Receiving

@@ -1,0 +1,29 @@
+//! Which services a receiver knows.
+ghost use Rattle.std.specs.Prelude.{◌≡◌};
+ghost use Rattle.service_plan.specs.Parts.{kind_seen};
+ghost use Rattle.service_plan.specs.PlanView.{plan_fields};
+ghost use Rattle.demux_core.specs.Receiving.{is_built, are_built};
+
+use service_plan::{Kind, Plan};
+
+/// Whether a receiver knows services of this kind.
+fn is_known(kind: &Kind) -> bool
+    ensures { result ≡ is_built (kind_seen kind.now) }
+{
+    match kind {
+        Kind::Ule { .. } | Kind::Mpe { .. } => true,
+        Kind::Fec { .. } | Kind::Gse { .. } => false,
+    }
+}
+
+/// Whether a receiver can be opened under this plan: all its services are of SNDUs or datagram_sections.
+pub fn can_receive(plan: &Plan) -> bool
+    ensures read { result ≡ are_built (plan_fields plan.now) }
+{
+    for at in 0..plan.services.len() {
+        if !is_known(&plan.services.at(at).kind) {
+            return false;
+        }
+    }
+    true
+}

@@ -1,0 +1,20 @@
+//! The receiver of a plan: records in, the datagrams of all its services out to an outlet, and everything counted.
+//!
+//! Receiving: ts_record -> ts_packet -> service_reception -> [demux_core] -> outlet, loss_report.
+//! Begin with `can_receive` and `Receiver::open`, then `step` for each record, and `finish`.
+#![tactic(auto)]
+
+#[cfg(test)]
+mod by_hand;
+mod content;
+mod kinds;
+mod packet;
+mod receiver;
+mod service;
+mod services;
+mod table;
+#[cfg(test)]
+mod tests;
+
+pub use kinds::can_receive;
+pub use receiver::Receiver;

@@ -1,0 +1,57 @@
+//! A packet -> the receiver of its PID: the INT's, or that of a service.
+ghost use Rattle.std.specs.Prelude.{◌≡◌, ℕ, ◌^◌, ◌<◌, ◌≤◌, List, [], ◌∷◌, ◌++◌, length, IfOk, OnOk, OnErr};
+ghost use Rattle.wire_spec.specs.Causes.{HasCause};
+ghost use Rattle.ts_spec.specs.Recording.{Record};
+ghost use Rattle.service_plan.specs.PlanView.{plan_fields};
+ghost use Rattle.reception_spec.specs.Packets.{is_pid_of};
+ghost use Rattle.reception_spec.specs.Delivered.{pairs_of_record};
+ghost use Rattle.service_reception.specs.Reception.{packet_record};
+ghost use Rattle.demux_core.specs.Contents.{IsRead};
+ghost use Rattle.demux_core.specs.Outlets.{Delivers, DeliversFront};
+ghost use Rattle.demux_core.specs.Services.{FitsPlan, HaveAllReceived};
+
+use crate::service::ServiceReceiver;
+use crate::services::place_of;
+use crate::table::{TableReceiver, take_for_table};
+use ipe_io::{Failed, Outlet};
+use service_plan::Plan;
+use ts_packet::Packet;
+
+/// Takes a packet, delivers what ends in it, and says whether its PID is one of the plan.
+pub(crate) fn take_packet<T: Outlet>(
+    plan: &Plan,
+    table: &mut Option<TableReceiver<'_>>,
+    receivers: &mut [ServiceReceiver<'_>],
+    bytes: &[u8; 188],
+    packet: &Packet<'_>,
+    moment: u64,
+    outlet: &mut T,
+) -> Result<bool, Failed>
+    requires read { IsRead packet.now bytes.now }
+    requires fits { FitsPlan (plan_fields plan.now) (length receivers.old) }
+    requires served { length plan.now.services ≤ T.services outlet.old }
+    ensures received { (records : List Record) → length records < 2 ^ 32 → HaveAllReceived (plan_fields plan.now) receivers.old table.old records
+        → OnOk result (HaveAllReceived (plan_fields plan.now) receivers.new table.new (records ++ packet_record moment bytes.now ∷ [])) }
+    ensures known { (records : List Record) → HaveAllReceived (plan_fields plan.now) receivers.old table.old records
+        → IfOk result (λ known. known ≡ is_pid_of (plan_fields plan.now) packet.now.pid) }
+    ensures written { (records : List Record) → length records < 2 ^ 32 → HaveAllReceived (plan_fields plan.now) receivers.old table.old records
+        → OnOk result (Delivers (T.StandsFor outlet.old) (T.StandsFor outlet.new) (pairs_of_record (plan_fields plan.now) (records ++ packet_record moment bytes.now ∷ []) (length records))) }
+    ensures failed { (records : List Record) → length records < 2 ^ 32 → HaveAllReceived (plan_fields plan.now) receivers.old table.old records
+        → OnErr result (DeliversFront (T.StandsFor outlet.old) (T.StandsFor outlet.new) (T.Refused outlet.new) (pairs_of_record (plan_fields plan.now) (records ++ packet_record moment bytes.now ∷ []) (length records))) }
+    ensures count { length receivers.new ≡ length receivers.old }
+    ensures services { T.services outlet.new ≡ T.services outlet.old }
+    ensures cause { HasCause (T.faults outlet.old) (T.faults outlet.new) result }
+{
+    if take_for_table(table, bytes, packet, moment) {
+        return Ok(true);
+    }
+    let at = match place_of(receivers, packet.pid) {
+        Some(at) => at,
+        None => return Ok(false),
+    };
+    let filter = &plan.services.at(at).filter;
+    match receivers[at].take(bytes, packet, moment, filter, at as u32, outlet) {
+        Ok(()) => Ok(true),
+        Err(Failed) => Err(Failed),
+    }
+}

@@ -1,0 +1,225 @@
+//! The receiver: it takes one record at a time.
+ghost use Rattle.std.specs.Prelude.{◌≡◌, ℕ, ◌+◌, ◌^◌, ◌<◌, ◌≤◌, true, false, List, [], ◌∷◌, ◌++◌, length, Some, IsOk, IfOk, OnOk, OnErr, slice_get, option_copied};
+ghost use Rattle.wire_spec.specs.Causes.{HasCause};
+ghost use Rattle.ts_spec.specs.Recording.{Record as ReadRecord};
+ghost use Rattle.plan_spec.specs.Plan.{ServiceFields, PlanFields};
+ghost use Rattle.ts_record.specs.Reading.{record_seen};
+ghost use Rattle.service_plan.specs.PlanView.{plan_fields};
+ghost use Rattle.reception_spec.specs.Numbers.{stream_numbers};
+ghost use Rattle.reception_spec.specs.Delivered.{pairs_of_record};
+ghost use Rattle.reception_spec.specs.Table.{table_section, table_units};
+ghost use Rattle.demux_core.specs.Counts.{stream_counts_of, counts_of_service};
+ghost use Rattle.demux_core.specs.Outlets.{Delivers, DeliversFront};
+ghost use Rattle.demux_core.specs.Receiving.{are_built, HasReceived};
+
+use crate::content::{Content, content_of};
+use crate::packet::take_packet;
+use crate::service::ServiceReceiver;
+use crate::services::open_services;
+use crate::table::{TableReceiver, open_table};
+use bumpalo::Bump;
+use ipe_io::{Failed, OutOfMemory, Outlet};
+use loss_report::{ServiceCounts, StreamCounts};
+use service_plan::Plan;
+use std::marker::Model;
+use ts_record::Record;
+
+/// The receiver of all services of a plan.
+#[derive(Drop)]
+pub struct Receiver<'a> {
+    plan: &'a Plan,
+    is_open: bool,
+    stream: StreamCounts,
+    services: Vec<ServiceReceiver<'a>, &'a Bump>,
+    table: Option<TableReceiver<'a>>,
+}
+
+impl<'a> Model for Receiver<'a> {
+    ghost use Rattle.demux_core.specs.Receiving.{ReceiverState};
+    ghost use Rattle.service_plan.specs.PlanView.{plan_fields};
+    ghost use Rattle.demux_core.specs.Services.{FitsPlan};
+    ghost use Rattle.std.specs.Prelude.{vec_len};
+
+    ghost Value = { ReceiverState };
+
+    ghost view = { λ receiver. record {
+      plan = plan_fields receiver.plan.now;
+      is_open = receiver.is_open;
+      stream = receiver.stream;
+      services = receiver.services.items;
+      table = receiver.table;
+    } };
+
+    ghost invariant = { λ receiver. FitsPlan (plan_fields receiver.plan.now) (vec_len receiver.services) };
+}
+
+impl<'a> Receiver<'a> {
+    /// A receiver that was given nothing. All its buffers lie in the arena, and none is taken later.
+    pub fn open(arena: &'a Bump, plan: &'a Plan) -> Result<Receiver<'a>, OutOfMemory>
+        requires built { are_built (plan_fields plan.now) ≡ true }
+        ensures received { IfOk result (λ receiver. HasReceived (plan_fields plan.now) [] receiver) }
+        ensures is_open { IfOk result (λ receiver. receiver.is_open ≡ true) }
+        ensures plan { IfOk result (λ receiver. receiver.plan ≡ plan_fields plan.now) }
+    {
+        let table = match open_table(arena, &plan.table) {
+            Ok(table) => table,
+            Err(error) => return Err(error),
+        };
+        let services = match open_services(arena, &plan.services) {
+            Ok(services) => services,
+            Err(error) => return Err(error),
+        };
+        Ok(Receiver {
+            plan,
+            is_open: true,
+            stream: nothing_counted(),
+            services,
+            table,
+        })
+    }
+
+    /// Takes the next record, and delivers the datagrams that it gives.
+    ///
+    /// No memory is taken.
+    pub fn step<T: Outlet>(&mut self, item: &Record, outlet: &mut T) -> Result<(), Failed>
+        requires is_open { self.old.is_open ≡ true }
+        requires few { self.old.stream.records < 2 ^ 32 }
+        requires served { length self.old.plan.services ≤ T.services outlet.old }
+        ensures received { (plan : PlanFields) (records : List ReadRecord) → HasReceived plan records self.old
+            → OnOk result (HasReceived plan (records ++ record_seen item.now ∷ []) self.new) }
+        ensures written { (plan : PlanFields) (records : List ReadRecord) → HasReceived plan records self.old
+            → OnOk result (Delivers (T.StandsFor outlet.old) (T.StandsFor outlet.new) (pairs_of_record plan (records ++ record_seen item.now ∷ []) (length records))) }
+        ensures failed { (plan : PlanFields) (records : List ReadRecord) → HasReceived plan records self.old
+            → OnErr result (DeliversFront (T.StandsFor outlet.old) (T.StandsFor outlet.new) (T.Refused outlet.new) (pairs_of_record plan (records ++ record_seen item.now ∷ []) (length records))) }
+        ensures goes_on { OnOk result (self.new.is_open ≡ true) }
+        ensures counted { self.new.stream.records ≡ self.old.stream.records + 1 }
+        ensures closed { OnErr result (self.new.is_open ≡ false) }
+        ensures plan { self.new.plan ≡ self.old.plan }
+        ensures services { T.services outlet.new ≡ T.services outlet.old }
+        ensures cause { HasCause (T.faults outlet.old) (T.faults outlet.new) result }
+    {
+        self.stream.records += 1;
+        let (packet, moment) = match content_of(item) {
+            Content::Packet(packet, moment) => (packet, moment),
+            Content::WithoutPayload => {
+                self.stream.without_payload = self.stream.without_payload.saturating_add(1);
+                return Ok(());
+            }
+            Content::Unreadable => {
+                self.stream.unreadable = self.stream.unreadable.saturating_add(1);
+                return Ok(());
+            }
+        };
+        let services = self.services.as_mut_slice();
+        match take_packet(
+            self.plan,
+            &mut self.table,
+            services,
+            &item.bytes,
+            &packet,
+            moment,
+            outlet,
+        ) {
+            Ok(true) => Ok(()),
+            Ok(false) => {
+                self.stream.other = self.stream.other.saturating_add(1);
+                Ok(())
+            }
+            Err(Failed) => {
+                self.is_open = false;
+                Err(Failed)
+            }
+        }
+    }
+
+    /// Ends the reception: the receiver is then not open, and its counts are those of the recording.
+    ///
+    /// Services of SNDUs or datagram sections have nothing left to deliver.
+    pub fn finish<T: Outlet>(&mut self, outlet: &mut T) -> Result<(), Failed>
+        requires is_open { self.old.is_open ≡ true }
+        requires served { length self.old.plan.services ≤ T.services outlet.old }
+        ensures received { (plan : PlanFields) (records : List ReadRecord) → HasReceived plan records self.old → HasReceived plan records self.new }
+        ensures done { IsOk result }
+        ensures unchanged { outlet.new ≡ outlet.old }
+        ensures closed { self.new.is_open ≡ false }
+        ensures plan { self.new.plan ≡ self.old.plan }
+    {
+        self.is_open = false;
+        Ok(())
+    }
+
+    /// Whether it may be given records: until the first `Failed` or `finish`.
+    pub fn is_open(&self) -> bool
+        ensures read { result ≡ self.now.is_open }
+    {
+        self.is_open
+    }
+
+    /// What was counted of the stream. The bytes behind the last record are not the receiver's: `tail_bytes` is 0.
+    pub fn stream_counts(&self) -> StreamCounts
+        ensures seen { result ≡ self.now.stream }
+        ensures read { (plan : PlanFields) (records : List ReadRecord) → HasReceived plan records self.now
+            → result ≡ stream_counts_of (stream_numbers plan records) }
+    {
+        self.stream
+    }
+
+    /// What was counted of a service, numbered from 0.
+    pub fn counts(&self, service: u32) -> ServiceCounts
+        requires { service < length self.now.plan.services }
+        ensures read { (plan : PlanFields) (records : List ReadRecord) → HasReceived plan records self.now
+            → (fields : ServiceFields) → slice_get plan.services service ≡ Some fields → result ≡ counts_of_service fields records }
+    {
+        let counts = self.services[service as usize].counts();
+        ServiceCounts {
+            heard: counts.heard,
+            repeats: counts.repeats,
+            gaps: counts.gaps,
+            units: counts.units,
+            bad_check: counts.bad_check,
+            delimited: counts.delimited,
+            bad_length: counts.bad_length,
+            unread: counts.unread,
+            filtered: counts.filtered,
+            frames: 0,
+            rows_mended: 0,
+            rows_left: 0,
+            datagrams: counts.datagrams,
+        }
+    }
+
+    /// The first accepted section with the table_id of an INT on the INT's PID (EN 301 192 clause 8.4).
+    pub fn table_section(&self) -> Option<&[u8]>
+        ensures read { (plan : PlanFields) (records : List ReadRecord) → HasReceived plan records self.now
+            → option_copied result ≡ table_section plan records }
+    {
+        match &self.table {
+            Some(table) => table.reception.section(),
+            None => None,
+        }
+    }
+
+    /// The accepted sections on the INT's PID.
+    pub fn table_units(&self) -> u64
+        ensures read { (plan : PlanFields) (records : List ReadRecord) → HasReceived plan records self.now
+            → result ≡ table_units plan records }
+    {
+        match &self.table {
+            Some(table) => table.reception.units(),
+            None => 0,
+        }
+    }
+}
+
+/// No record was taken.
+fn nothing_counted() -> StreamCounts
+    ensures { (plan : PlanFields) → result ≡ stream_counts_of (stream_numbers plan []) }
+{
+    StreamCounts {
+        records: 0,
+        tail_bytes: 0,
+        unreadable: 0,
+        without_payload: 0,
+        other: 0,
+    }
+}

@@ -1,0 +1,130 @@
+//! The receiver of one service: its PID, and the reception of its units by their kind.
+ghost use Rattle.std.specs.Prelude.{◌≡◌, ℕ, ◌<◌, true, List, [], ◌∷◌, ◌++◌, vec_len, IfOk, OnOk, OnErr};
+ghost use Rattle.wire_spec.specs.Causes.{HasCause};
+ghost use Rattle.ts_spec.specs.Recording.{Record};
+ghost use Rattle.plan_spec.specs.Plan.{ServiceFields};
+ghost use Rattle.service_plan.specs.Parts.{kind_seen};
+ghost use Rattle.service_reception.specs.Reception.{packet_record, added_by};
+ghost use Rattle.service_reception.specs.Telling.{Told, StopsWithin};
+ghost use Rattle.service_reception.specs.Counting.{on_pid, of_units};
+ghost use Rattle.demux_core.specs.Contents.{IsRead};
+ghost use Rattle.demux_core.specs.Receiving.{is_built};
+ghost use Rattle.service_reception.specs.Services.{IsUle, IsMpe};
+ghost use Rattle.demux_core.specs.Services.{HasReceivedOne, IsReceivingOne, IsFresh, state_of};
+
+use addr_rules::MacList;
+use bumpalo::Bump;
+use ipe_io::{Failed, OutOfMemory, Outlet};
+use section_codec::SectionForm;
+use service_plan::Kind;
+use service_reception::{Counts, Reception};
+use ts_packet::Packet;
+use ule_unit::UleForm;
+use unit_stream::UnitForm;
+
+/// A reception, by the kind of its units. Its buffers lie in the arena.
+#[derive(Drop)]
+pub(crate) enum ByKind<'a> {
+    /// Of SNDUs.
+    Ule(Reception<UleForm, &'a Bump>),
+    /// Of datagram_sections.
+    Mpe(Reception<SectionForm, &'a Bump>),
+}
+
+/// The receiver of one service.
+#[derive(Drop)]
+pub(crate) struct ServiceReceiver<'a> {
+    pub(crate) pid: u16,
+    pub(crate) reception: ByKind<'a>,
+}
+
+/// Bytes in the arena.
+pub(crate) fn zeros(arena: &Bump, count: usize) -> Result<Vec<u8, &Bump>, OutOfMemory>
+    ensures { IfOk result (λ buffer. vec_len buffer ≡ count) }
+{
+    vec![in arena; 0u8; count]
+}
+
+/// A reception of SNDUs that was given nothing.
+fn ule_reception(arena: &Bump) -> Result<ByKind<'_>, OutOfMemory>
+    ensures received { IfOk result (λ reception. (it : ServiceFields) → IsUle it.kind → IsFresh it reception) }
+{
+    let buffer = match zeros(arena, UleForm::LONGEST) {
+        Ok(buffer) => buffer,
+        Err(error) => return Err(error),
+    };
+    Ok(ByKind::Ule(Reception::over(buffer)))
+}
+
+/// A reception of datagram_sections that was given nothing.
+fn mpe_reception(arena: &Bump) -> Result<ByKind<'_>, OutOfMemory>
+    ensures received { IfOk result (λ reception. (it : ServiceFields) → IsMpe it.kind → IsFresh it reception) }
+{
+    let buffer = match zeros(arena, SectionForm::LONGEST) {
+        Ok(buffer) => buffer,
+        Err(error) => return Err(error),
+    };
+    Ok(ByKind::Mpe(Reception::over(buffer)))
+}
+
+impl<'a> ServiceReceiver<'a> {
+    /// The receiver of a service that was given nothing.
+    pub(crate) fn open(arena: &'a Bump, kind: &Kind) -> Result<ServiceReceiver<'a>, OutOfMemory>
+        requires { is_built (kind_seen kind.now) ≡ true }
+        ensures received { IfOk result (λ receiver. (it : ServiceFields) → it.kind ≡ kind_seen kind.now → HasReceivedOne it receiver []) }
+    {
+        match *kind {
+            Kind::Ule { pid, .. } => match ule_reception(arena) {
+                Ok(reception) => Ok(ServiceReceiver { pid, reception }),
+                Err(error) => Err(error),
+            },
+            Kind::Mpe { pid } => match mpe_reception(arena) {
+                Ok(reception) => Ok(ServiceReceiver { pid, reception }),
+                Err(error) => Err(error),
+            },
+            Kind::Fec { .. } | Kind::Gse { .. } => unreachable!(),
+        }
+    }
+
+    /// Takes one packet of the service's PID, and delivers what ends in it.
+    pub(crate) fn take<T: Outlet>(
+        &mut self,
+        bytes: &[u8; 188],
+        packet: &Packet<'_>,
+        moment: u64,
+        filter: &MacList,
+        service: u32,
+        outlet: &mut T,
+    ) -> Result<(), Failed>
+        requires read { IsRead packet.now bytes.now }
+        requires served { service < T.services outlet.old }
+        ensures received { (it : ServiceFields) (records : List Record) → IsReceivingOne filter.now packet.now.pid it self.old records
+            → OnOk result (HasReceivedOne it self.new (records ++ packet_record moment bytes.now ∷ [])) }
+        ensures delivered { (it : ServiceFields) (records : List Record) → IsReceivingOne filter.now packet.now.pid it self.old records
+            → OnOk result (Told (T.StandsFor outlet.old) (T.StandsFor outlet.new) service (added_by it records (packet_record moment bytes.now))) }
+        ensures failed { (it : ServiceFields) (records : List Record) → IsReceivingOne filter.now packet.now.pid it self.old records
+            → OnErr result (StopsWithin (T.StandsFor outlet.old) (T.StandsFor outlet.new) (T.Refused outlet.new service) service (added_by it records (packet_record moment bytes.now))) }
+        ensures services { T.services outlet.new ≡ T.services outlet.old }
+        ensures cause { HasCause (T.faults outlet.old) (T.faults outlet.new) result }
+    {
+        match &mut self.reception {
+            ByKind::Ule(reception) => {
+                reception.take(bytes, packet, moment, filter, service, outlet)
+            }
+            ByKind::Mpe(reception) => {
+                reception.take(bytes, packet, moment, filter, service, outlet)
+            }
+        }
+    }
+
+    /// The numbers of all that was taken.
+    pub(crate) fn counts(&self) -> Counts
+        ensures packets { on_pid result ≡ (state_of self.now.reception).on_pid }
+        ensures units { of_units result ≡ (state_of self.now.reception).of_units }
+    {
+        match &self.reception {
+            ByKind::Ule(reception) => reception.counts(),
+            ByKind::Mpe(reception) => reception.counts(),
+        }
+    }
+}
