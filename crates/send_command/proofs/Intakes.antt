@@ -1,0 +1,139 @@
+-- What was read and offered, with one record more, and at its end.
+use Rattle.std.proofs.Common.{◌≡◌, inl, inr, ℕ, ◌+◌, ◌-◌, ◌<◌, ◌≤◌, ◌^◌, true, List, [], ◌∷◌, ◌++◌, length, map, Option, Some, None, IfSome, option_map, refl, ap, sym, ◌∙◌, subst, arith}
+use Rattle.std.specs.Io.KnownBytes.{Consumes}
+use Rattle.std.proofs.lemmas.List.{map_push, length-map, length_push}
+use Rattle.pcap_file.specs.Reading.{link_at, most_records}
+use Rattle.pcap_file.specs.Told.{Tells}
+use Rattle.pcap_file.specs.Known.{ReaderState}
+use Rattle.pcap_file.specs.Reader.{HasRead}
+use Rattle.pcap_file.specs.Captured.{captured_datagram}
+use Rattle.pcap_file.specs.declared.captured.LinkType.{LinkType}
+use Rattle.pcap_file.specs.declared.faults.CaptureFault.{CaptureFault}
+use Rattle.pcap_file.proofs.FileHeads.{link_at-append, head_is_whole}
+use Rattle.plan_spec.specs.Plan.{PlanFields}
+use Rattle.plan_spec.specs.Offered.{Records}
+use Rattle.stream_law.specs.Captures.{datagram_in, given_by}
+use Rattle.offered_datagrams.specs.Offering.{IsOffered, HasRoom}
+use Rattle.offered_datagrams.specs.declared.offered.Offered.{Offered}
+use Rattle.mux_core.specs.Sending.{IsUnderPlan}
+use Rattle.send_command.specs.Sending.{IsPlace}
+use Rattle.send_command.specs.Gathering.{IsIntake, IsGathered}
+use Rattle.send_command.specs.declared.gather.Gathered.{Gathered}
+use Rattle.std.specs.Prelude.{Result, Ok, Err}
+use Rattle.pcap_file.specs.declared.faults.CaptureFault.TheVariants as cut
+use Rattle.send_command.specs.declared.gather.Next.{Next}
+use Rattle.send_command.specs.declared.gather.Next.TheVariants as next
+use Rattle.send_command.specs.declared.gather.ReadFault.{ReadFault}
+use Rattle.send_command.proofs.Given.{all_datagrams}
+
+-- bytes behind a capture don't change its link type
+given_by-append : (front rest : List ℕ) (captured : List (List ℕ)) → 24 ≤ length front → given_by (front ++ rest) captured ≡ given_by front captured
+given_by-append front rest captured whole = ap (λ (link : Option LinkType). map (datagram_in link) captured) (link_at-append front rest whole)
+
+given_by-push : (front piece : List ℕ) (captured : List (List ℕ)) (bytes : List ℕ) (link : LinkType) → 24 ≤ length front → Some link ≡ link_at front
+    → given_by (front ++ piece) (captured ++ bytes ∷ []) ≡ given_by front captured ++ captured_datagram link bytes ∷ []
+given_by-push front piece captured bytes link whole is =
+    given_by-append front piece (captured ++ bytes ∷ []) whole
+    ∙ (map_push (datagram_in (link_at front)) captured bytes
+    ∙ ap (λ (l : Option LinkType). given_by front captured ++ datagram_in l bytes ∷ []) (sym is))
+
+-- one record more was read and offered
+pub intake_more : (plan : PlanFields) (old new : ReaderState) (before offer : Offered) (front piece : List ℕ) (captured : List (List ℕ)) (bytes : List ℕ) (given : Option (List ℕ))
+    → IsIntake plan old before front captured → HasRead new (front ++ piece) (captured ++ bytes ∷ []) → new.is_open ≡ true
+    → given ≡ captured_datagram old.link bytes → ((records : Records) → IsOffered plan records before → IsOffered plan (records ++ given ∷ []) offer)
+    → IsIntake plan new offer (front ++ piece) (captured ++ bytes ∷ [])
+intake_more plan old new before offer front piece captured bytes given intake read is_open is offers =
+    let whole : 24 ≤ length front = head_is_whole front intake.has_read.capture.head in
+    record {
+      has_read = read;
+      is_open = is_open;
+      offered = subst (λ (records : Records). IsOffered plan records offer)
+          (ap (λ g. given_by front captured ++ g ∷ []) is ∙ sym (given_by-push front piece captured bytes old.link whole intake.has_read.link))
+          (offers (given_by front captured) intake.offered);
+    }
+
+few_given : (front : List ℕ) (captured : List (List ℕ)) → length captured ≤ most_records → length (given_by front captured) < 2 ^ 32 - 1
+few_given front captured few = omega (arith, few, length-map captured (datagram_in (link_at front)))
+
+-- there is room for one record more
+pub intake_room : (plan : PlanFields) (reader : ReaderState) (offer : Offered) (front : List ℕ) (captured : List (List ℕ)) → IsIntake plan reader offer front captured → HasRoom plan offer
+intake_room plan reader offer front captured intake = record {
+  records = given_by front captured;
+  stands = intake.offered;
+  few = few_given front captured intake.has_read.capture.few;
+}
+
+-- what was offered is under the plan
+pub intake_under : (plan : PlanFields) (reader : ReaderState) (offer : Offered) (front : List ℕ) (captured : List (List ℕ)) → IsIntake plan reader offer front captured → IsUnderPlan plan offer
+intake_under plan reader offer front captured intake = record {
+  records = given_by front captured;
+  stands = intake.offered;
+  datagrams = all_datagrams (link_at front) captured;
+  few = omega (arith, few_given front captured intake.has_read.capture.few);
+}
+
+pub nothing_under : (plan : PlanFields) (offer : Offered) → IsOffered plan [] offer → IsUnderPlan plan offer
+nothing_under plan offer stands = record {
+  records = [];
+  stands = stands;
+  datagrams = all_datagrams None [];
+  few = omega arith;
+}
+
+-- the reader's first state
+pub intake_none : (plan : PlanFields) (reader : ReaderState) (offer : Offered) (head : List ℕ) → HasRead reader head [] → reader.is_open ≡ true → IsOffered plan [] offer
+    → IsIntake plan reader offer head []
+intake_none plan reader offer head read is_open stands = record { has_read = read; is_open = is_open; offered = stands }
+
+-- what holds of all bytes, by those that were read and the rest
+pub by_rest : (a b : Option (List ℕ)) (front : List ℕ) (P : List ℕ → Type 0) → Consumes a b front → IfSome b (λ rest. P (front ++ rest)) → IfSome a P
+by_rest None b front P read h = tt
+by_rest (Some xs) None front P read h = absurd read
+by_rest (Some xs) (Some ys) front P read h = subst P (sym read) h
+
+-- what follows of what is told
+pub by_told : (a : Option (List ℕ)) (P Q : List ℕ → Type 0) → ((bytes : List ℕ) → P bytes → Q bytes) → IfSome a P → IfSome a Q
+by_told None P Q f h = tt
+by_told (Some xs) P Q f h = f xs h
+
+-- all of a capture was offered
+pub gathered_all : (plan : PlanFields) (reader : ReaderState) (offer : Offered) (front : List ℕ) (captured : List (List ℕ)) (a b : Option (List ℕ)) (g : Gathered)
+    → IsIntake plan reader offer front captured → Consumes a b front
+    → IfSome b (λ rest. Tells (front ++ rest) captured (option_map (λ found. found.fault) g.fault)) → g.offered ≡ offer → IfSome g.fault (λ found. IsPlace found.place captured)
+    → IfSome a (λ bytes. IsGathered plan bytes g)
+gathered_all plan reader offer front captured a b g intake read told same at =
+    by_rest a b front (λ bytes. IsGathered plan bytes g) read
+    (by_told b (λ rest. Tells (front ++ rest) captured (option_map (λ found. found.fault) g.fault)) (λ rest. IsGathered plan (front ++ rest) g)
+    (λ rest tells. record {
+      captured = captured;
+      told = tells;
+      offered = subst (λ (o : Offered). IsOffered plan (given_by (front ++ rest) captured) o) (sym same)
+          (subst (λ (records : Records). IsOffered plan records offer) (sym (given_by-append front rest captured (head_is_whole front intake.has_read.capture.head))) intake.offered);
+      at = at;
+    })
+    told)
+
+-- the head of a capture has a fault
+pub gathered_none : (plan : PlanFields) (fault : CaptureFault) (offer : Offered) (a : Option (List ℕ)) → IsOffered plan [] offer → IfSome a (λ bytes. Tells bytes [] (Some fault))
+    → IfSome a (λ bytes. IsGathered plan bytes (record { offered = offer; fault = Some (record { fault = fault; place = 0 }) }))
+gathered_none plan fault offer a stands told =
+    let g : Gathered = record { offered = offer; fault = Some (record { fault = fault; place = 0 }) } in
+    by_told a (λ bytes. Tells bytes [] (Some fault)) (λ bytes. IsGathered plan bytes g)
+    (λ bytes tells. record { captured = []; told = tells; offered = stands; at = inl (refl, refl) }) told
+
+-- the place of a fault behind the records
+pub place_behind : (reader : ReaderState) (front : List ℕ) (captured : List (List ℕ)) (place : ℕ) → HasRead reader front captured → place ≡ reader.records + 1 → IsPlace place captured
+place_behind reader front captured place read e = inr (e ∙ ap (λ n. n + 1) read.count)
+
+-- a record more, and the reader is nearer to its last
+pub nearer : (plan : PlanFields) (old new : ReaderState) (before offer : Offered) (front piece : List ℕ) (captured : List (List ℕ)) (bytes : List ℕ)
+    → IsIntake plan old before front captured → IsIntake plan new offer (front ++ piece) (captured ++ bytes ∷ []) → most_records - new.records < most_records - old.records
+nearer plan old new before offer front piece captured bytes one two =
+    omega (arith, one.has_read.count, two.has_read.count, two.has_read.capture.few, length_push captured bytes)
+
+-- the fault that stood next
+abbrev pub fault_of : Result Next ReadFault → CaptureFault
+fault_of (Ok (next.Fault fault)) = fault
+fault_of (Ok next.Record) = cut.Empty
+fault_of (Ok next.End) = cut.Empty
+fault_of (Err e) = cut.Empty

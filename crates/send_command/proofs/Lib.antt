@@ -1,0 +1,6 @@
+pub mod Puts
+pub mod Given
+pub mod Intakes
+pub mod Built
+pub mod Counts
+pub mod Standing

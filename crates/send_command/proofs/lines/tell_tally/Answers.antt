@@ -1,0 +1,36 @@
+use Rattle.std.proofs.Common.{◌≡◌, List, ℕ, [], ◌∷◌, ◌++◌, codes, decimal, refl, ap, ◌∙◌, append_assoc}
+use Rattle.send_command.specs.Lines.{tally_line}
+use Rattle.send_command.specs.declared.ends.Tally.{Tally}
+use Rattle.send_command.proofs.Puts.{puts_then, front_of_longer, four_behind}
+use Rattle.send_command.proofs.lines.tell_tally.Goals as goal
+
+abbrev first : Tally → List ℕ
+first tally = codes "ipencap: offered " ++ decimal tally.offered ++ codes ", not IP " ++ decimal tally.not_ip
+
+abbrev second : Tally → List ℕ
+second tally = codes ", unrouted " ++ decimal tally.unrouted ++ codes ", too long " ++ decimal tally.too_long
+
+parts : (tally : Tally) → tally_line tally ≡ first tally ++ second tally ++ 10 ∷ []
+unfolding tally_line
+parts tally =
+    ap (λ t. t ++ 10 ∷ []) (four_behind (first tally) (codes ", unrouted ") (decimal tally.unrouted) (codes ", too long ") (decimal tally.too_long))
+
+pub returns-in-Err-clause-written : goal.returns-in-Err-clause-written
+returns-in-Err-clause-written g c =
+    front_of_longer (g.E.Sink.held c.args.complaints.now) (g.E.Sink.held c.put_numbers.new.complaints) (first c.args.tally.now) (second c.args.tally.now ++ 10 ∷ []) (tally_line c.args.tally.now)
+    (parts c.args.tally.now ∙ append_assoc (first c.args.tally.now) (second c.args.tally.now) (10 ∷ [])) c.in-Err.ensures.written
+
+pub returns-in-Err-put_numbers-clause-written : goal.returns-in-Err-put_numbers-clause-written
+returns-in-Err-put_numbers-clause-written g c =
+    let two = puts_then c.put_numbers-2.result (g.E.Sink.held c.args.complaints.now) (g.E.Sink.held c.put_numbers.new.complaints) (g.E.Sink.held c.put_numbers-2.new.complaints)
+    (first c.args.tally.now) (second c.args.tally.now) (first c.args.tally.now ++ second c.args.tally.now) refl c.in-Ok.ensures.written c.put_numbers-2.ensures.written in
+    front_of_longer (g.E.Sink.held c.args.complaints.now) (g.E.Sink.held c.put_numbers-2.new.complaints) (first c.args.tally.now ++ second c.args.tally.now) (10 ∷ []) (tally_line c.args.tally.now)
+    (parts c.args.tally.now) (rw c.in-Err-put_numbers.is at two)
+
+pub returns-clause-written : goal.returns-clause-written
+returns-clause-written g c =
+    let two = puts_then c.put_numbers-2.result (g.E.Sink.held c.args.complaints.now) (g.E.Sink.held c.put_numbers.new.complaints) (g.E.Sink.held c.put_numbers-2.new.complaints)
+    (first c.args.tally.now) (second c.args.tally.now) (first c.args.tally.now ++ second c.args.tally.now) refl c.in-Ok.ensures.written c.put_numbers-2.ensures.written in
+    puts_then c.put_all.result (g.E.Sink.held c.args.complaints.now) (g.E.Sink.held c.put_numbers-2.new.complaints) (g.E.Sink.held c.put_all.new.sink)
+    (first c.args.tally.now ++ second c.args.tally.now) (10 ∷ []) (tally_line c.args.tally.now) (parts c.args.tally.now)
+    (rw c.in-Ok-put_numbers.is at two) c.put_all.ensures.written

@@ -1,0 +1,4 @@
+pub mod Tally
+pub mod Sending
+pub mod Gathering
+pub mod Lines

@@ -1,0 +1,88 @@
+-- What a send makes of a capture, and what stands after each of its ends.
+use Rattle.std.specs.Prelude.{◌≡◌, ◌⊎◌, ℕ, ◌+◌, Bool, true, false, List, [], length, take, Option, Some, None, ⊤}
+use Rattle.std.specs.Io.KnownBytes.{Appends}
+use Rattle.wire_spec.specs.Lists.{joined}
+use Rattle.pcap_file.specs.Told.{Tells}
+use Rattle.pcap_file.specs.declared.faults.CaptureFault.{CaptureFault}
+use Rattle.plan_spec.specs.Plan.{PlanFields}
+use Rattle.plan_spec.specs.Offered.{offered}
+use Rattle.stream_spec.specs.Stream.{IsStream}
+use Rattle.stream_law.specs.Captures.{given_by}
+use Rattle.send_command.specs.Tally.{IsTally}
+use Rattle.send_command.specs.declared.ends.Tally.{Tally}
+use Rattle.send_command.specs.declared.ends.SendEnd.{SendEnd}
+use Rattle.send_command.specs.declared.ends.SendEnd.TheVariants as ends
+
+-- the bytes tell these records of a capture and this fault, or none, and that is the stream of what services take of the records
+pub record IsSendOf (plan : PlanFields) (bytes : List ℕ) (captured : List (List ℕ)) (fault : Option CaptureFault) (stream : List (List ℕ)) : Type 0 where
+  pub told : Tells bytes captured fault
+  pub stream_is : IsStream plan (offered plan (given_by bytes captured)) stream
+
+-- where a fault is: in the head, and no record is told, or in the record behind those that are told
+abbrev pub IsPlace : ℕ → List (List ℕ) → Type 0
+IsPlace place captured = ((place ≡ 0) × (captured ≡ [])) ⊎ (place ≡ length captured + 1)
+
+-- a capture without fault: all of its stream was written, and these are the numbers
+pub record SendsAll (plan : PlanFields) (bytes : List ℕ) (tally : Tally) (old new : Option (List ℕ)) : Type 0 where
+  pub captured : List (List ℕ)
+  pub stream : List (List ℕ)
+  pub is : IsSendOf plan bytes captured None stream
+  pub written : Appends old new (joined stream)
+  pub numbers : IsTally plan (given_by bytes captured) tally
+
+-- a capture with this fault at this place: all of the stream of the records before it was written
+pub record SendsToFault (plan : PlanFields) (bytes : List ℕ) (fault : CaptureFault) (place : ℕ) (old new : Option (List ℕ)) : Type 0 where
+  pub captured : List (List ℕ)
+  pub stream : List (List ℕ)
+  pub is : IsSendOf plan bytes captured (Some fault) stream
+  pub written : Appends old new (joined stream)
+  pub at : IsPlace place captured
+
+-- a capture with or without fault: a front of its stream was written
+pub record SendsFront (plan : PlanFields) (bytes : List ℕ) (old new : Option (List ℕ)) : Type 0 where
+  pub captured : List (List ℕ)
+  pub fault : Option CaptureFault
+  pub stream : List (List ℕ)
+  pub is : IsSendOf plan bytes captured fault stream
+  pub count : ℕ
+  pub written : Appends old new (take count (joined stream))
+
+-- what stands in the output after each end; after the last two nothing was written
+abbrev pub Sends : PlanFields → List ℕ → SendEnd → Option (List ℕ) → Option (List ℕ) → Type 0
+Sends plan bytes (ends.Done tally) old new = SendsAll plan bytes tally old new
+Sends plan bytes (ends.Capture fault place) old new = SendsToFault plan bytes fault place old new
+Sends plan bytes ends.SinkFault old new = SendsFront plan bytes old new
+Sends plan bytes ends.SourceFault old new = ⊤
+Sends plan bytes ends.OutOfMemory old new = ⊤
+
+-- all was sent
+abbrev pub is_done : SendEnd → Bool
+is_done (ends.Done tally) = true
+is_done (ends.Capture fault place) = false
+is_done ends.SinkFault = false
+is_done ends.SourceFault = false
+is_done ends.OutOfMemory = false
+
+-- a whole stream was written
+abbrev pub is_whole : SendEnd → Bool
+is_whole (ends.Done tally) = true
+is_whole (ends.Capture fault place) = true
+is_whole ends.SinkFault = false
+is_whole ends.SourceFault = false
+is_whole ends.OutOfMemory = false
+
+-- writing was begun
+abbrev pub is_begun : SendEnd → Bool
+is_begun (ends.Done tally) = true
+is_begun (ends.Capture fault place) = true
+is_begun ends.SinkFault = true
+is_begun ends.SourceFault = false
+is_begun ends.OutOfMemory = false
+
+-- what holds of the capture's fault, where the end has one
+abbrev pub OnCapture : SendEnd → (CaptureFault → ℕ → Type 0) → Type 0
+OnCapture (ends.Done tally) P = ⊤
+OnCapture (ends.Capture fault place) P = P fault place
+OnCapture ends.SinkFault P = ⊤
+OnCapture ends.SourceFault P = ⊤
+OnCapture ends.OutOfMemory P = ⊤

@@ -1,0 +1,84 @@
+//! The command `send`, behind its settings.
+ghost use Rattle.std.specs.Prelude.{◌≡◌, ℕ, ◌≤◌, List, true, Some, None, ◌⊎◌, OnOk};
+ghost use Rattle.wire_spec.specs.Causes.{Rose};
+ghost use Rattle.ipe_io.specs.Counts.{IsFlushed};
+ghost use Rattle.plan_spec.specs.Plan.{kinds};
+ghost use Rattle.pcap_file.specs.Reader.{is_cut};
+ghost use Rattle.service_plan.specs.PlanView.{plan_fields};
+ghost use Rattle.mux_core.specs.Sending.{are_built, IsUnderPlan};
+ghost use Rattle.send_command.specs.Gathering.{IsGathered};
+ghost use Rattle.send_command.specs.Sending.{Sends, OnCapture, is_done, is_whole, is_begun};
+
+use crate::ends::{SendEnd, Tally};
+use crate::gather::{Gathered, ReadFault, gather};
+use ipe_io::{Sink, Source};
+use mux_core::{MuxFault, stream};
+use service_plan::Plan;
+use std::alloc::Global;
+
+/// Writes the stream of what the services of a plan take of the capture that is read from `input`, and flushes it.
+///
+/// The services are of SNDUs and datagram_sections. Where the capture has a fault, the stream of the records before it is
+/// written and flushed, and then the fault is answered. Where the input fails or memory is wanting nothing is written.
+pub fn send<I: Source, O: Sink>(
+    alloc: Global,
+    plan: &Plan,
+    input: &mut I,
+    output: &mut O,
+) -> SendEnd
+    requires built { are_built (kinds (plan_fields plan.now)) ≡ true }
+
+    // What stands, where the input tells its bytes.
+    ensures sent { (bytes : List ℕ) → I.left input.old ≡ Some bytes → Sends (plan_fields plan.now) bytes result (O.held output.old) (O.held output.new) }
+    ensures flushed { is_whole result ≡ true → IsFlushed (O.held output.new) (O.flushed output.new) }
+    ensures unchanged { is_begun result ≡ true ⊎ (output.new ≡ output.old) }
+
+    // The input was read to its end.
+    ensures read { is_done result ≡ true → I.ended input.new ≡ true }
+    ensures cut { OnCapture result (λ fault place. is_cut fault ≡ true → I.ended input.new ≡ true) }
+
+    // It ends early only by a fault, or for want of memory.
+    ensures complete { ¬ Rose (I.faults input.old) (I.faults input.new) → ¬ Rose (O.faults output.old) (O.faults output.new) → is_whole result ≡ true ⊎ (result ≡ SendEnd.OutOfMemory) }
+    ensures source { result ≡ SendEnd.SourceFault → Rose (I.faults input.old) (I.faults input.new) }
+    ensures sink { result ≡ SendEnd.SinkFault → Rose (O.faults output.old) (O.faults output.new) }
+{
+    match gather(alloc, plan, input) {
+        Ok(gathered) => write_stream(alloc, plan, &gathered, output),
+        Err(ReadFault::Source) => SendEnd::SourceFault,
+        Err(ReadFault::OutOfMemory) => SendEnd::OutOfMemory,
+    }
+}
+
+/// Writes the stream of what was gathered, and flushes it.
+fn write_stream<O: Sink>(alloc: Global, plan: &Plan, gathered: &Gathered, output: &mut O) -> SendEnd
+    requires built { are_built (kinds (plan_fields plan.now)) ≡ true }
+    requires offered { IsUnderPlan (plan_fields plan.now) gathered.now.offered }
+    ensures sent { (bytes : List ℕ) → IsGathered (plan_fields plan.now) bytes gathered.now → Sends (plan_fields plan.now) bytes result (O.held output.old) (O.held output.new) }
+    ensures flushed { is_whole result ≡ true → IsFlushed (O.held output.new) (O.flushed output.new) }
+    ensures unchanged { is_begun result ≡ true ⊎ (output.new ≡ output.old) }
+    ensures done { is_done result ≡ true → gathered.now.fault ≡ None }
+    ensures fault { OnCapture result (λ fault place. gathered.now.fault ≡ Some (record { fault = fault; place = place })) }
+    ensures source { result ≡ SendEnd.SourceFault → ⊥ }
+    ensures sink { result ≡ SendEnd.SinkFault → Rose (O.faults output.old) (O.faults output.new) }
+{
+    let sent = match stream(alloc, plan, &gathered.offered, output) {
+        Ok(sent) => sent,
+        Err(MuxFault::Sink) => return SendEnd::SinkFault,
+        Err(MuxFault::OutOfMemory) => return SendEnd::OutOfMemory,
+    };
+    if output.flush().is_err() {
+        return SendEnd::SinkFault;
+    }
+    match gathered.fault {
+        Some(found) => SendEnd::Capture {
+            fault: found.fault,
+            place: found.place,
+        },
+        None => SendEnd::Done(Tally {
+            offered: sent.datagrams,
+            not_ip: gathered.offered.not_ip,
+            unrouted: gathered.offered.unrouted,
+            too_long: gathered.offered.too_long,
+        }),
+    }
+}

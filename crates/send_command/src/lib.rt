@@ -1,0 +1,20 @@
+//! The command that sends: a capture in, the stream of what a plan's services take of it out.
+//!
+//! Sending: Source -> pcap_file -> offered_datagrams -> mux_core -> Sink, all of it in [send_command].
+//! Begin with `send`; `tell_tally` and `tell_fault` write the line that is told of its end.
+#![tactic(auto)]
+
+mod command;
+mod ends;
+mod gather;
+mod kinds;
+mod laws;
+mod lines;
+#[cfg(test)]
+mod tests;
+
+pub use command::send;
+pub use ends::{SendEnd, Tally};
+pub use kinds::can_send;
+pub use laws::a_capture_is_sent_in_one_way;
+pub use lines::{tell_fault, tell_tally};
