@@ -1,0 +1,12 @@
+pub mod Texts
+pub mod Heads
+pub mod Grown
+pub mod Outlets
+pub mod Adding
+pub mod Flushed
+pub mod Pairs
+pub mod Advance
+pub mod Assembly
+pub mod Ends
+pub mod Lines
+pub mod Plans

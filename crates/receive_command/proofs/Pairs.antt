@@ -1,0 +1,51 @@
+-- The delivered pairs, one record more, and the part of a service.
+use Rattle.std.proofs.Common.{◌≡◌, ◌≢◌, inl, inr, ℕ, ◌+◌, ◌<◌, Bool, true, false, cond, ◌==◌, List, [], ◌∷◌, ◌++◌, length, flat_map, refl, ap, ap₂, sym, ◌∙◌, arith, Some}
+use Rattle.std.specs.List.{slice_get}
+use Rattle.std.proofs.lemmas.List.{append-nil}
+use Rattle.std.proofs.lemmas.Grind.{flat_map-append}
+use Rattle.std.proofs.lemmas.Bool.{cases_eq, eq-eqb, ne_eqb}
+use Rattle.ts_spec.specs.Recording.{Record}
+use Rattle.plan_spec.specs.Plan.{ServiceFields, PlanFields}
+use Rattle.pcap_file.specs.Capture.{capture_record}
+use Rattle.reception_spec.specs.Delivered.{delivered_datagrams, delivered_pairs, pairs_of_record}
+use Rattle.reception_law.specs.Words.{datagram_of, datagrams_of}
+use Rattle.reception_law.proofs.Pairs.{pairs_more, nothing_delivered, part_is}
+use Rattle.receive_command.specs.Growth.{record_at, records_at}
+
+pub pairs_none : (plan : PlanFields) → delivered_pairs plan [] ≡ []
+pairs_none plan = refl
+
+pub pairs_next : (plan : PlanFields) (records : List Record) (r : Record)
+    → delivered_pairs plan (records ++ r ∷ []) ≡ delivered_pairs plan records ++ pairs_of_record plan (records ++ r ∷ []) (length records)
+pairs_next plan records r = pairs_more plan records r
+
+-- one pair: its record stands in the file of its service
+one_record : (first k : ℕ) (pair : ℕ × List ℕ) → record_at first (first + k) pair ≡ flat_map capture_record (datagram_of k pair)
+one_record first k pair = elim (cases_eq pair.0 k) [
+  | inl same ↦
+      ap (λ (b : Bool). cond b (capture_record pair.1) []) (eq-eqb (first + pair.0) (first + k) (omega (arith, same)))
+      ∙ sym (append-nil (capture_record pair.1))
+      ∙ ap (λ (b : Bool). flat_map capture_record (cond b (pair.1 ∷ []) [])) (sym (eq-eqb pair.0 k same))
+  | inr other ↦
+      ap (λ (b : Bool). cond b (capture_record pair.1) []) (ne_eqb (first + pair.0) (first + k) (λ e. other (omega (arith, e))))
+      ∙ ap (λ (b : Bool). flat_map capture_record (cond b (pair.1 ∷ []) [])) (sym (ne_eqb pair.0 k other))
+]
+
+records_of_service : (first k : ℕ) (pairs : List (ℕ × List ℕ)) → records_at first pairs (first + k) ≡ flat_map capture_record (datagrams_of k pairs)
+records_of_service first k [] = refl
+records_of_service first k (pair ∷ pairs) =
+    ap₂ (λ a b. a ++ b) (one_record first k pair) (records_of_service first k pairs)
+    ∙ sym (flat_map-append capture_record (datagram_of k pair) (datagrams_of k pairs))
+
+-- the file of a service has its datagrams
+pub part_of_service : (plan : PlanFields) (first k : ℕ) (service : ServiceFields) (records : List Record) → slice_get plan.services k ≡ Some service
+    → records_at first (delivered_pairs plan records) (first + k) ≡ flat_map capture_record (delivered_datagrams service records)
+part_of_service plan first k service records there =
+    records_of_service first k (delivered_pairs plan records)
+    ∙ ap (flat_map capture_record) (part_is plan k service there (nothing_delivered service) records)
+
+-- and the files before the first have none
+pub none_before : (first at : ℕ) (pairs : List (ℕ × List ℕ)) → at < first → records_at first pairs at ≡ []
+none_before first at [] lt = refl
+none_before first at (pair ∷ pairs) lt =
+    ap₂ (λ a b. a ++ b) (ap (λ (b : Bool). cond b (capture_record pair.1) []) (ne_eqb (first + pair.0) at (λ e. omega (arith, e, lt)))) (none_before first at pairs lt)

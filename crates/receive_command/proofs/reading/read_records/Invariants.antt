@@ -1,0 +1,29 @@
+use Rattle.std.proofs.Common.{◌≡◌, ◌≤◌, ◌-◌, ◌*◌, ◌^◌, true, List, ℕ, length}
+use Rattle.std.specs.Io.KnownBytes.{Consumes}
+use Rattle.wire_spec.specs.Causes.{raised}
+use Rattle.wire_spec.specs.Lists.{joined}
+use Rattle.ts_spec.specs.Recording.{record_size}
+use Rattle.service_plan.specs.PlanView.{plan_fields}
+use Rattle.ts_record.specs.Reading.{ReaderOf}
+use Rattle.demux_core.specs.Receiving.{HasReceived}
+use Rattle.receive_command.specs.Growth.{Grow}
+use Rattle.receive_command.specs.Reading.{records_in, text_at}
+use Rattle.receive_command.proofs.reading.read_records.Given as goal
+
+abbrev pub invariant-records : goal.invariant-records
+invariant-records g l = (pieces : List (List ℕ)) × record {
+  form : l.reader.form ≡ (plan_fields l.plan).recording;
+  stands : ReaderOf l.reader pieces;
+  consumed : Consumes (g.I.Source.left l.fn.input) (g.I.Source.left l.input) (joined pieces);
+  taken : g.I.Source.taken l.input ≡ raised (g.I.Source.taken l.fn.input) (record_size (plan_fields l.plan).recording * length pieces);
+  files : Grow (g.R.Rack.files l.fn.rack) (g.R.Rack.files l.rack) (text_at (plan_fields l.plan) l.first pieces);
+  received : HasReceived (plan_fields l.plan) (records_in (plan_fields l.plan) pieces) l.receiver;
+  is_open : l.receiver.is_open ≡ true;
+  services : l.services ≡ length l.plan.services;
+  count : g.R.Rack.count l.rack ≡ g.R.Rack.count l.fn.rack;
+  rack_faults : g.R.Rack.faults l.fn.rack ≤ g.R.Rack.faults l.rack;
+  input_faults : g.I.Source.faults l.fn.input ≤ g.I.Source.faults l.input;
+}
+
+abbrev pub decreases-records : goal.decreases-records
+decreases-records g l = 2 ^ 32 - l.reader.count

@@ -1,0 +1,57 @@
+-- What was read of a recording, and what files of a rack have of it.
+use Rattle.std.specs.Prelude.{◌≡◌, ℕ, ◌^◌, ◌<◌, List, ◌++◌, length, All, Option}
+use Rattle.std.specs.Io.KnownBytes.{Consumes, IsAtEnd}
+use Rattle.wire_spec.specs.Lists.{joined}
+use Rattle.wire_spec.specs.Content.{File}
+use Rattle.ts_spec.specs.Recording.{RecordingForm, record_size, Record, records_of}
+use Rattle.plan_spec.specs.Plan.{PlanFields}
+use Rattle.reception_spec.specs.Delivered.{delivered_pairs}
+use Rattle.demux_core.specs.Receiving.{ReceiverState, HasReceived}
+use Rattle.receive_command.specs.Growth.{Grow, GrowPart, records_at}
+
+-- the most records of a recording
+abbrev pub most_records : ℕ
+most_records = 2 ^ 32
+
+-- what an input held begins with these records and the bytes behind them, fewer than a record has, and they were read
+pub record HasRead (form : RecordingForm) (left now : Option (List ℕ)) (pieces : List (List ℕ)) (behind : List ℕ) : Type 0 where
+  pub each : All (λ piece. length piece ≡ record_size form) pieces
+  pub short : length behind < record_size form
+  pub consumed : Consumes left now (joined pieces ++ behind)
+
+-- the records of these pieces, and what they put behind the file at a place, where service 0 has the first
+abbrev pub records_in : PlanFields → List (List ℕ) → List Record
+records_in plan pieces = records_of plan.recording pieces
+
+abbrev pub text_at : PlanFields → ℕ → List (List ℕ) → ℕ → List ℕ
+text_at plan first pieces at = records_at first (delivered_pairs plan (records_in plan pieces)) at
+
+-- the input was read to its end, with this many bytes behind the last record; the files grew by all that it delivers
+pub record ReadsWhole (plan : PlanFields) (receiver : ReceiverState) (left now : Option (List ℕ)) (old new : Option (List File)) (first tail : ℕ) : Type 0 where
+  pub pieces : List (List ℕ)
+  pub behind : List ℕ
+  pub read : HasRead plan.recording left now pieces behind
+  pub tail_is : tail ≡ length behind
+  pub fewer : length pieces < most_records
+  pub at_end : IsAtEnd now
+  pub files : Grow old new (text_at plan first pieces)
+  pub received : HasReceived plan (records_in plan pieces) receiver
+
+-- the reading stopped; the files grew by all that was delivered until then
+pub record ReadsFront (plan : PlanFields) (left now : Option (List ℕ)) (old new : Option (List File)) (first : ℕ) : Type 0 where
+  pub pieces : List (List ℕ)
+  pub behind : List ℕ
+  pub read : HasRead plan.recording left now pieces behind
+  pub files : Grow old new (text_at plan first pieces)
+
+-- the same behind the last record that is read
+pub record ReadsToLimit (plan : PlanFields) (left now : Option (List ℕ)) (old new : Option (List File)) (first : ℕ) : Type 0 where
+  pub reads : ReadsFront plan left now old new first
+  pub limit : length reads.pieces ≡ most_records
+
+-- the writing stopped; each file grew by a prefix of what was delivered
+pub record ReadsPart (plan : PlanFields) (left now : Option (List ℕ)) (old new : Option (List File)) (first : ℕ) : Type 0 where
+  pub pieces : List (List ℕ)
+  pub behind : List ℕ
+  pub read : HasRead plan.recording left now pieces behind
+  pub files : GrowPart old new (text_at plan first pieces)

@@ -1,0 +1,103 @@
+//! A recording -> a capture for each service: files added, written record by record, flushed.
+ghost use Rattle.std.specs.Prelude.{◌≡◌, ◌⊎◌, ℕ, ◌+◌, ◌*◌, ◌^◌, ◌<◌, ◌≤◌, true, List, [], length};
+ghost use Rattle.wire_spec.specs.Causes.{Rose, RoseBy, raised};
+ghost use Rattle.ts_spec.specs.Recording.{record_size, Record as ReadRecord};
+ghost use Rattle.service_plan.specs.PlanView.{plan_fields};
+ghost use Rattle.demux_core.specs.Receiving.{HasReceived};
+ghost use Rattle.receive_command.specs.Files.{AddsHeads};
+ghost use Rattle.receive_command.specs.Flushes.{Flush};
+ghost use Rattle.receive_command.specs.Reading.{most_records};
+ghost use Rattle.receive_command.specs.Ends.{WritesWhole, EndsFront, EndsAtLimit, EndsPart};
+
+use crate::files::{add_files, flush_files};
+use crate::reading::{Ending, read_records};
+use crate::steps::end_reception;
+use demux_core::Receiver;
+use ipe_io::{AddFault, Failed, Rack, Source};
+use service_plan::Plan;
+use std::alloc::Global;
+
+/// How the captures of a recording ended.
+#[derive(Clone, Copy, Debug, PartialEq, Eq)]
+pub(crate) enum CapturesEnd {
+    /// All are written and flushed; this many bytes stood behind the last record.
+    Whole(u32),
+    /// The input could not be read.
+    SourceFault,
+    /// A file could not be added or written.
+    RackFault,
+    /// 2^32 records were read.
+    TooLong,
+    /// Memory was wanting for a file.
+    OutOfMemory,
+}
+
+/// Adds the files of all services, writes what the recording delivers, and flushes them.
+///
+/// The receiver was given nothing before.
+pub(crate) fn write_captures<I: Source, R: Rack>(
+    alloc: Global,
+    plan: &Plan,
+    receiver: &mut Receiver<'_>,
+    input: &mut I,
+    rack: &mut R,
+) -> CapturesEnd
+    requires is_open { receiver.old.is_open ≡ true }
+    requires fresh { HasReceived (plan_fields plan.now) [] receiver.old }
+    requires some { 0 < length plan.now.services }
+    requires few { length plan.now.services ≤ 64 }
+    ensures whole { (tail : ℕ) → result ≡ CapturesEnd.Whole tail → WritesWhole (plan_fields plan.now) receiver.new (I.left input.old) (I.left input.new) (R.files rack.old) (R.files rack.new) tail }
+    ensures read { (tail : ℕ) → result ≡ CapturesEnd.Whole tail → I.ended input.new ≡ true }
+    ensures fewer { (tail : ℕ) → result ≡ CapturesEnd.Whole tail → (n : ℕ) × (n < record_size (plan_fields plan.now).recording * most_records) × (I.taken input.new ≡ raised (I.taken input.old) n) }
+    ensures front { result ≡ CapturesEnd.SourceFault → EndsFront (plan_fields plan.now) (I.left input.old) (I.left input.new) (R.files rack.old) (R.files rack.new) }
+    ensures limit { result ≡ CapturesEnd.TooLong → EndsAtLimit (plan_fields plan.now) (I.left input.old) (I.left input.new) (R.files rack.old) (R.files rack.new) }
+    ensures part { result ≡ CapturesEnd.RackFault → EndsPart (plan_fields plan.now) (I.left input.old) (I.left input.new) (R.files rack.old) (R.files rack.new) }
+    ensures memory { result ≡ CapturesEnd.OutOfMemory → (input.new ≡ input.old) × ((heads : AddsHeads (plan_fields plan.now).services (R.files rack.old) (R.files rack.new))
+        × (R.count rack.new ≡ R.count rack.old + heads.count)) }
+    ensures source { result ≡ CapturesEnd.SourceFault → Rose (I.faults input.old) (I.faults input.new) }
+    ensures file { result ≡ CapturesEnd.RackFault → Rose (R.faults rack.old) (R.faults rack.new) }
+    ensures too_long { result ≡ CapturesEnd.TooLong → RoseBy (I.taken input.old) (I.taken input.new) (record_size (plan_fields plan.now).recording * most_records) }
+{
+    let first = match add_files(alloc, &plan.services, rack) {
+        Ok(first) => first,
+        Err(AddFault::Failed) => return CapturesEnd::RackFault,
+        Err(AddFault::OutOfMemory) => return CapturesEnd::OutOfMemory,
+    };
+    match read_records(plan, receiver, input, rack, first) {
+        Ending::Whole(tail) => end_captures(plan, receiver, rack, first, tail),
+        Ending::SourceFault => CapturesEnd::SourceFault,
+        Ending::RackFault => CapturesEnd::RackFault,
+        Ending::TooLong => CapturesEnd::TooLong,
+    }
+}
+
+/// Ends the reception and flushes the files: `Whole` or `RackFault`.
+fn end_captures<R: Rack>(
+    plan: &Plan,
+    receiver: &mut Receiver<'_>,
+    rack: &mut R,
+    first: u32,
+    tail: u32,
+) -> CapturesEnd
+    requires is_open { receiver.old.is_open ≡ true }
+    requires same { receiver.old.plan ≡ plan_fields plan.now }
+    requires there { first + length plan.now.services ≤ R.count rack.old }
+    requires places { first + length plan.now.services ≤ 2 ^ 32 }
+    requires few { length plan.now.services ≤ 64 }
+    ensures received { (records : List ReadRecord) → HasReceived (plan_fields plan.now) records receiver.old → HasReceived (plan_fields plan.now) records receiver.new }
+    ensures tail { (bytes : ℕ) → result ≡ CapturesEnd.Whole bytes → tail ≡ bytes }
+    ensures flushed { (bytes : ℕ) → result ≡ CapturesEnd.Whole bytes → Flush (R.files rack.old) (R.files rack.new) first (first + length plan.now.services) }
+    ensures stopped { result ≡ CapturesEnd.RackFault → (count : ℕ) × (count ≤ length plan.now.services) × Flush (R.files rack.old) (R.files rack.new) first (first + count) }
+    ensures file { result ≡ CapturesEnd.RackFault → Rose (R.faults rack.old) (R.faults rack.new) }
+    ensures kinds { (result ≡ CapturesEnd.Whole tail) ⊎ (result ≡ CapturesEnd.RackFault) }
+{
+    let services = plan.services.len() as u32;
+    match end_reception(receiver, rack, first, services) {
+        Ok(()) => {}
+        Err(Failed) => return CapturesEnd::RackFault,
+    }
+    match flush_files(rack, first, services) {
+        Ok(()) => CapturesEnd::Whole(tail),
+        Err(Failed) => CapturesEnd::RackFault,
+    }
+}

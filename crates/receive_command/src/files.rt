@@ -1,0 +1,94 @@
+//! The files of services: added with their heads, flushed at the end.
+ghost use Rattle.std.specs.Prelude.{◌≡◌, ℕ, ◌+◌, ◌^◌, ◌<◌, ◌≤◌, false, length, map, take, string_bytes, IfOk, OnOk, OnErr, IsErrOf};
+ghost use Rattle.wire_spec.specs.Causes.{HasCause};
+ghost use Rattle.wire_spec.specs.Content.{Stays, AddsFile};
+ghost use Rattle.ipe_io.specs.Counts.{HasAddCause};
+ghost use Rattle.pcap_file.specs.Capture.{capture_head};
+ghost use Rattle.service_plan.specs.Parts.{service_seen};
+ghost use Rattle.receive_command.specs.Files.{file_name as name_of_file, file_of, AddsPart, AddsCaptures, AddsHeads, AddsParts, head_of};
+ghost use Rattle.receive_command.specs.Flushes.{Flush};
+
+use ipe_io::{AddFault, Failed, OutOfMemory, Rack, put_file};
+use pcap_file::write_head;
+use service_plan::ServiceList;
+use std::alloc::Global;
+
+/// The name of the file of a service.
+fn file_name(alloc: Global, name: &str) -> Result<String, OutOfMemory>
+    ensures written { IfOk result (λ text. string_bytes text ≡ name_of_file name.now) }
+{
+    let mut text = String::from_str(alloc, name)?;
+    text.push_str(".pcap")?;
+    Ok(text)
+}
+
+/// Adds the file of a service, and writes its head.
+fn add_file<R: Rack>(alloc: Global, name: &str, rack: &mut R) -> Result<u32, AddFault>
+    ensures place { IfOk result (λ at. (at ≡ R.count rack.old) × (at < 2 ^ 32)) }
+    ensures count { OnOk result (R.count rack.new ≡ R.count rack.old + 1) }
+    ensures written { OnOk result (AddsFile (R.files rack.old) (R.files rack.new) (file_of name.now capture_head)) }
+    ensures failed { IsErrOf result AddFault.Failed → AddsPart name.now (R.files rack.old) (R.files rack.new) }
+    ensures memory { IsErrOf result AddFault.OutOfMemory → (R.count rack.new ≡ R.count rack.old) × Stays (R.files rack.old) (R.files rack.new) }
+    ensures cause { HasAddCause (R.faults rack.old) (R.faults rack.new) result }
+{
+    let text = match file_name(alloc, name) {
+        Ok(text) => text,
+        Err(_) => return Err(AddFault::OutOfMemory),
+    };
+    let at = match rack.add(alloc, text.as_str()) {
+        Ok(at) => at,
+        Err(fault) => return Err(fault),
+    };
+    let mut head = [0u8; 24];
+    write_head(&mut head);
+    match put_file(rack, at, &head) {
+        Ok(()) => Ok(at),
+        Err(Failed) => Err(AddFault::Failed),
+    }
+}
+
+/// Adds the files of all services in order, with their heads, and answers the place of the first.
+pub(crate) fn add_files<R: Rack>(
+    alloc: Global,
+    services: &ServiceList,
+    rack: &mut R,
+) -> Result<u32, AddFault>
+    requires some { 0 < length services.now }
+    ensures place { IfOk result (λ first. first ≡ R.count rack.old) }
+    ensures places { IfOk result (λ first. first + length services.now ≤ 2 ^ 32) }
+    ensures count { OnOk result (R.count rack.new ≡ R.count rack.old + length services.now) }
+    ensures written { OnOk result (AddsCaptures false head_of (map service_seen services.now) (R.files rack.old) (R.files rack.new)) }
+    ensures failed { IsErrOf result AddFault.Failed → AddsParts head_of (map service_seen services.now) (R.files rack.old) (R.files rack.new) }
+    ensures memory { IsErrOf result AddFault.OutOfMemory → (heads : AddsHeads (map service_seen services.now) (R.files rack.old) (R.files rack.new))
+        × (R.count rack.new ≡ R.count rack.old + heads.count) }
+    ensures cause { HasAddCause (R.faults rack.old) (R.faults rack.new) result }
+{
+    let first = match add_file(alloc, services.at(0).name.text(), rack) {
+        Ok(at) => at,
+        Err(fault) => return Err(fault),
+    };
+    for k in 1..services.len() {
+        match add_file(alloc, services.at(k).name.text(), rack) {
+            Ok(_) => {}
+            Err(fault) => return Err(fault),
+        }
+    }
+    Ok(first)
+}
+
+/// Flushes the files of all services, the first of them at a place.
+pub(crate) fn flush_files<R: Rack>(rack: &mut R, first: u32, services: u32) -> Result<(), Failed>
+    requires there { first + services ≤ R.count rack.old }
+    requires places { first + services ≤ 2 ^ 32 }
+    ensures flushed { OnOk result (Flush (R.files rack.old) (R.files rack.new) first (first + services)) }
+    ensures stopped { OnErr result ((count : ℕ) × (count ≤ services) × Flush (R.files rack.old) (R.files rack.new) first (first + count)) }
+    ensures cause { HasCause (R.faults rack.old) (R.faults rack.new) result }
+{
+    for k in 0..services {
+        match rack.flush(first + k) {
+            Ok(()) => {}
+            Err(Failed) => return Err(Failed),
+        }
+    }
+    Ok(())
+}

@@ -1,0 +1,20 @@
+//! The commands that receive: a recording in, a capture for each service out, and the report.
+//!
+//! Receiving: Source -> ts_record -> demux_core -> [receive_command] -> pcap_file -> Rack, loss_report -> Sink.
+//! Begin with `receive` and `ule`.
+#![tactic(auto)]
+
+mod captures;
+mod files;
+mod outlet;
+mod reading;
+mod receiving;
+mod records;
+mod report;
+mod steps;
+#[cfg(test)]
+mod tests;
+mod ule_command;
+
+pub use receiving::{ReceiveEnd, receive};
+pub use ule_command::{UleEnd, ule};

@@ -1,0 +1,113 @@
+//! The command `receive`: a recording in, a capture for each service and the report out.
+ghost use Rattle.std.specs.Prelude.{◌≡◌, ◌≢◌, ◌⊎◌, ℕ, ◌*◌, ◌<◌, ◌≤◌, true, List, length, Some, slice_get};
+ghost use Rattle.wire_spec.specs.Causes.{Rose, RoseBy, raised};
+ghost use Rattle.ts_spec.specs.Recording.{record_size, Record as ReadRecord};
+ghost use Rattle.plan_spec.specs.Plan.{ServiceFields};
+ghost use Rattle.service_plan.specs.PlanView.{plan_fields};
+ghost use Rattle.ipe_io.specs.Counts.{IsFlushed};
+ghost use Rattle.loss_report.specs.Names.{IsServiceName};
+ghost use Rattle.demux_core.specs.Receiving.{are_built, HasReceived};
+ghost use Rattle.receive_command.specs.Files.{AddsHeads};
+ghost use Rattle.receive_command.specs.Reading.{most_records};
+ghost use Rattle.receive_command.specs.Ends.{EndsWhole, EndsFront, EndsAtLimit, EndsPart, EndsReported, EndsInReport, Reports, ReportsPart};
+
+use crate::captures::{CapturesEnd, write_captures};
+use crate::report::report_of;
+use bumpalo::Bump;
+use demux_core::Receiver;
+use ipe_io::{Failed, Rack, Sink, Source, put_all};
+use service_plan::Plan;
+use std::alloc::Global;
+
+/// How `receive` ended.
+#[derive(Clone, Copy, Debug, PartialEq, Eq)]
+pub enum ReceiveEnd {
+    /// All was received, written and flushed.
+    Done,
+    /// The input could not be read.
+    SourceFault,
+    /// The output could not be written.
+    SinkFault,
+    /// A file could not be added or written.
+    RackFault,
+    /// The recording has 2^32 records or more.
+    TooLong,
+    /// Memory was wanting: before the first record, or for the report.
+    OutOfMemory,
+}
+
+/// Receives a recording under a plan: a capture for each service, `NAME.pcap` in the order of the plan, and the report.
+///
+/// The input is read to its end. In front of the files nothing is read; behind the last record the files are flushed, and then
+/// the report is written.
+pub fn receive<I: Source, O: Sink, R: Rack>(
+    alloc: Global,
+    plan: &Plan,
+    input: &mut I,
+    output: &mut O,
+    rack: &mut R,
+) -> ReceiveEnd
+    requires built { are_built (plan_fields plan.now) ≡ true }
+    ensures done { result ≡ ReceiveEnd.Done → EndsReported (plan_fields plan.now) (I.left input.old) (I.left input.new) (R.files rack.old) (R.files rack.new) (O.held output.old) (O.held output.new) }
+    ensures flushed { result ≡ ReceiveEnd.Done → IsFlushed (O.held output.new) (O.flushed output.new) }
+    ensures read { result ≡ ReceiveEnd.Done → I.ended input.new ≡ true }
+    ensures fewer { result ≡ ReceiveEnd.Done → (n : ℕ) × (n < record_size (plan_fields plan.now).recording * most_records) × (I.taken input.new ≡ raised (I.taken input.old) n) }
+    ensures front { result ≡ ReceiveEnd.SourceFault → EndsFront (plan_fields plan.now) (I.left input.old) (I.left input.new) (R.files rack.old) (R.files rack.new) }
+    ensures limit { result ≡ ReceiveEnd.TooLong → EndsAtLimit (plan_fields plan.now) (I.left input.old) (I.left input.new) (R.files rack.old) (R.files rack.new) }
+    ensures part { result ≡ ReceiveEnd.RackFault → EndsPart (plan_fields plan.now) (I.left input.old) (I.left input.new) (R.files rack.old) (R.files rack.new) }
+    ensures report { result ≡ ReceiveEnd.SinkFault → EndsInReport (plan_fields plan.now) (I.left input.old) (I.left input.new) (R.files rack.old) (R.files rack.new) (O.held output.old) (O.held output.new) }
+    ensures memory { result ≡ ReceiveEnd.OutOfMemory → ((input.new ≡ input.old) × AddsHeads (plan_fields plan.now).services (R.files rack.old) (R.files rack.new))
+        ⊎ EndsWhole (plan_fields plan.now) (I.left input.old) (I.left input.new) (R.files rack.old) (R.files rack.new) }
+    ensures unchanged { result ≢ ReceiveEnd.Done → result ≢ ReceiveEnd.SinkFault → output.new ≡ output.old }
+    ensures source { result ≡ ReceiveEnd.SourceFault → Rose (I.faults input.old) (I.faults input.new) }
+    ensures sink { result ≡ ReceiveEnd.SinkFault → Rose (O.faults output.old) (O.faults output.new) }
+    ensures file { result ≡ ReceiveEnd.RackFault → Rose (R.faults rack.old) (R.faults rack.new) }
+    ensures too_long { result ≡ ReceiveEnd.TooLong → RoseBy (I.taken input.old) (I.taken input.new) (record_size (plan_fields plan.now).recording * most_records) }
+{
+    let arena = Bump::new(alloc);
+    let mut receiver = match Receiver::open(&arena, plan) {
+        Ok(receiver) => receiver,
+        Err(_) => return ReceiveEnd::OutOfMemory,
+    };
+    match write_captures(alloc, plan, &mut receiver, input, rack) {
+        CapturesEnd::Whole(tail) => put_report(alloc, plan, &receiver, tail, output),
+        CapturesEnd::SourceFault => ReceiveEnd::SourceFault,
+        CapturesEnd::RackFault => ReceiveEnd::RackFault,
+        CapturesEnd::TooLong => ReceiveEnd::TooLong,
+        CapturesEnd::OutOfMemory => ReceiveEnd::OutOfMemory,
+    }
+}
+
+/// Writes the report and flushes it: `Done`, `SinkFault` or `OutOfMemory`.
+fn put_report<O: Sink>(
+    alloc: Global,
+    plan: &Plan,
+    receiver: &Receiver<'_>,
+    tail: u32,
+    output: &mut O,
+) -> ReceiveEnd
+    requires same { receiver.now.plan ≡ plan_fields plan.now }
+    requires few { length plan.now.services ≤ 64 }
+    requires named { (k : ℕ) (service : ServiceFields) → slice_get (plan_fields plan.now).services k ≡ Some service → IsServiceName service.name }
+    ensures done { (records : List ReadRecord) → HasReceived (plan_fields plan.now) records receiver.now → result ≡ ReceiveEnd.Done
+        → Reports (plan_fields plan.now) records tail (O.held output.old) (O.held output.new) }
+    ensures report { (records : List ReadRecord) → HasReceived (plan_fields plan.now) records receiver.now → result ≡ ReceiveEnd.SinkFault
+        → ReportsPart (plan_fields plan.now) records tail (O.held output.old) (O.held output.new) }
+    ensures flushed { result ≡ ReceiveEnd.Done → IsFlushed (O.held output.new) (O.flushed output.new) }
+    ensures unchanged { result ≡ ReceiveEnd.OutOfMemory → output.new ≡ output.old }
+    ensures sink { result ≡ ReceiveEnd.SinkFault → Rose (O.faults output.old) (O.faults output.new) }
+    ensures kinds { (result ≡ ReceiveEnd.Done) ⊎ ((result ≡ ReceiveEnd.SinkFault) ⊎ (result ≡ ReceiveEnd.OutOfMemory)) }
+{
+    let text = match report_of(alloc, plan, receiver, tail) {
+        Ok(text) => text,
+        Err(_) => return ReceiveEnd::OutOfMemory,
+    };
+    match put_all(output, &text) {
+        Ok(()) => {}
+        Err(Failed) => return ReceiveEnd::SinkFault,
+    }
+    match output.flush() {
+        Ok(()) => ReceiveEnd::Done,
+        Err(Failed) => ReceiveEnd::SinkFault,
+    }
+}

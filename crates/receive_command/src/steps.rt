@@ -1,0 +1,111 @@
+//! The steps of a reception into files: each record, and its end.
+ghost use Rattle.std.specs.Prelude.{◌≡◌, ℕ, ◌+◌, ◌^◌, ◌<◌, ◌≤◌, true, false, List, [], ◌∷◌, ◌++◌, length, IsOk, OnOk, OnErr};
+ghost use Rattle.wire_spec.specs.Causes.{HasCause};
+ghost use Rattle.ts_spec.specs.Recording.{Record as ReadRecord};
+ghost use Rattle.plan_spec.specs.Plan.{PlanFields};
+ghost use Rattle.ts_record.specs.Reading.{record_seen};
+ghost use Rattle.reception_spec.specs.Delivered.{pairs_of_record};
+ghost use Rattle.demux_core.specs.Receiving.{HasReceived};
+ghost use Rattle.receive_command.specs.Growth.{Grow, GrowPart, records_at};
+
+use crate::outlet::{Began, RackOutlet};
+use demux_core::Receiver;
+use ipe_io::{Failed, Rack};
+use std::marker::{Brand, PhantomData};
+use ts_record::Record;
+
+/// Gives a record to the receiver. The files, one for each service and the first of them at a place, grow by what it delivers.
+pub(crate) fn take_record<R: Rack>(
+    item: &Record,
+    receiver: &mut Receiver<'_>,
+    rack: &mut R,
+    first: u32,
+    services: u32,
+) -> Result<(), Failed>
+    requires is_open { receiver.old.is_open ≡ true }
+    requires few { receiver.old.stream.records < 2 ^ 32 }
+    requires served { length receiver.old.plan.services ≤ services }
+    requires there { first + services ≤ R.count rack.old }
+    requires places { first + services ≤ 2 ^ 32 }
+    ensures received { (plan : PlanFields) (records : List ReadRecord) → HasReceived plan records receiver.old
+        → OnOk result (HasReceived plan (records ++ record_seen item.now ∷ []) receiver.new) }
+    ensures written { (plan : PlanFields) (records : List ReadRecord) → HasReceived plan records receiver.old
+        → OnOk result (Grow (R.files rack.old) (R.files rack.new) (records_at first (pairs_of_record plan (records ++ record_seen item.now ∷ []) (length records)))) }
+    ensures failed { (plan : PlanFields) (records : List ReadRecord) → HasReceived plan records receiver.old
+        → OnErr result (GrowPart (R.files rack.old) (R.files rack.new) (records_at first (pairs_of_record plan (records ++ record_seen item.now ∷ []) (length records)))) }
+    ensures goes_on { OnOk result (receiver.new.is_open ≡ true) }
+    ensures plan { receiver.new.plan ≡ receiver.old.plan }
+    ensures kept { (plan : PlanFields) (records : List ReadRecord) → HasReceived plan records receiver.old
+        → OnOk result (R.count rack.new ≡ R.count rack.old) }
+    ensures cause { (plan : PlanFields) (records : List ReadRecord) → HasReceived plan records receiver.old
+        → HasCause (R.faults rack.old) (R.faults rack.new) result }
+{
+    take_from::<R, Brand>(item, receiver, rack, first, services)
+}
+
+/// Ends the reception. So far no kind of service has anything left to deliver then.
+pub(crate) fn end_reception<R: Rack>(
+    receiver: &mut Receiver<'_>,
+    rack: &mut R,
+    first: u32,
+    services: u32,
+) -> Result<(), Failed>
+    requires is_open { receiver.old.is_open ≡ true }
+    requires served { length receiver.old.plan.services ≤ services }
+    requires there { first + services ≤ R.count rack.old }
+    requires places { first + services ≤ 2 ^ 32 }
+    ensures received { (plan : PlanFields) (records : List ReadRecord) → HasReceived plan records receiver.old → HasReceived plan records receiver.new }
+    ensures done { IsOk result }
+    ensures unchanged { rack.new ≡ rack.old }
+{
+    let mut outlet: RackOutlet<'_, R, Brand> = RackOutlet {
+        rack,
+        first,
+        services,
+        failed: false,
+        began: PhantomData,
+    };
+    receiver.finish(&mut outlet)
+}
+
+/// The same as `take_record`, where the outlet begins with what `B` has.
+fn take_from<R: Rack, B: Began>(
+    item: &Record,
+    receiver: &mut Receiver<'_>,
+    rack: &mut R,
+    first: u32,
+    services: u32,
+) -> Result<(), Failed>
+    requires is_open { receiver.old.is_open ≡ true }
+    requires few { receiver.old.stream.records < 2 ^ 32 }
+    requires served { length receiver.old.plan.services ≤ services }
+    requires there { first + services ≤ R.count rack.old }
+    requires places { first + services ≤ 2 ^ 32 }
+    requires began_place { B.first ≡ first }
+    requires began_rack { (B.count ≡ R.count rack.old) × (B.faults ≡ R.faults rack.old) × (B.files ≡ R.files rack.old) }
+    ensures received { (plan : PlanFields) (records : List ReadRecord) → HasReceived plan records receiver.old
+        → OnOk result (HasReceived plan (records ++ record_seen item.now ∷ []) receiver.new) }
+    ensures written { (plan : PlanFields) (records : List ReadRecord) → HasReceived plan records receiver.old
+        → OnOk result (Grow (R.files rack.old) (R.files rack.new) (records_at first (pairs_of_record plan (records ++ record_seen item.now ∷ []) (length records)))) }
+    ensures failed { (plan : PlanFields) (records : List ReadRecord) → HasReceived plan records receiver.old
+        → OnErr result (GrowPart (R.files rack.old) (R.files rack.new) (records_at first (pairs_of_record plan (records ++ record_seen item.now ∷ []) (length records)))) }
+    ensures goes_on { OnOk result (receiver.new.is_open ≡ true) }
+    ensures plan { receiver.new.plan ≡ receiver.old.plan }
+    ensures kept { (plan : PlanFields) (records : List ReadRecord) → HasReceived plan records receiver.old
+        → OnOk result (R.count rack.new ≡ R.count rack.old) }
+    ensures cause { (plan : PlanFields) (records : List ReadRecord) → HasReceived plan records receiver.old
+        → HasCause (R.faults rack.old) (R.faults rack.new) result }
+{
+    let mut outlet: RackOutlet<'_, R, B> = RackOutlet {
+        rack,
+        first,
+        services,
+        failed: false,
+        began: PhantomData,
+    };
+    match receiver.step(item, &mut outlet) {
+        Ok(()) => {}
+        Err(Failed) => return Err(Failed),
+    }
+    if outlet.failed { Err(Failed) } else { Ok(()) }
+}
