@@ -9,3 +9,5 @@ pub mod Commands
 pub mod Lines
 pub mod Losses
 pub mod Checked
+pub mod Sending
+pub mod Receiving

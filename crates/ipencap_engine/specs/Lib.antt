@@ -3,5 +3,8 @@ pub mod Delivery
 pub mod Reading
 pub mod Files
 pub mod Statuses
+pub mod Check
+pub mod Send
+pub mod Receive
 pub mod Outcome
 pub mod Loss

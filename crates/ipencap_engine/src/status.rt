@@ -1,9 +1,12 @@
 //! How the program ends: a status, its number as an exit status, and the line that is told of it.
 ghost use Rattle.std.specs.Prelude.{◌≡◌, [], ◌∷◌};
 ghost use Rattle.wire_spec.specs.Causes.{Rose};
-ghost use Rattle.ipencap_engine.specs.Statuses.{status_line, Complains};
+ghost use Rattle.ipencap_engine.specs.Statuses.{status_line, outcome_line, status_of, Complains};
 
 use ipe_io::{Sink, put_all};
+use pcap_file::CaptureFault;
+use send_command::{Tally, tell_fault, tell_tally};
+use settings_file::{FileFault, put_fault};
 
 /// How the program ends.
 #[derive(Clone, Copy, Debug, PartialEq, Eq)]
@@ -12,7 +15,7 @@ pub enum Status {
     Done,
     /// The words form no command.
     Usage,
-    /// The settings file is too long, or its text is no plan.
+    /// The settings file is too long, or its text is no plan or one that is not built yet.
     Settings,
     /// The capture has a fault; the stream before it was written.
     Capture,
@@ -30,15 +33,50 @@ pub enum Status {
     TooLong,
 }
 
-/// Tells the line of a status. A fault of the complaints changes nothing else.
-pub fn complain<E: Sink>(status: Status, complaints: &mut E)
-    ensures told { Complains (E.held complaints.old) (E.held complaints.new) (E.faults complaints.old) (E.faults complaints.new) (status_line status) }
-{
-    let line = line_of(status);
-    let _ = put_all(complaints, line.as_bytes());
+/// How a run ends, with what its line says.
+#[derive(Clone, Copy, Debug, PartialEq, Eq)]
+pub enum Outcome {
+    /// With a status whose line says no more.
+    Ended(Status),
+    /// The settings file gives no plan, or one that is not built yet.
+    Refused(FileFault),
+    /// All was sent, with these numbers.
+    Sent(Tally),
+    /// The capture has a fault.
+    Faulty {
+        /// The fault.
+        fault: CaptureFault,
+        /// The number of the record that has it, from 1; 0 for the capture's head.
+        place: u32,
+    },
 }
 
-/// The line of a status; none for the statuses of commands that are not there yet.
+/// Tells the line of an outcome, and answers its status. A fault of the complaints changes nothing else.
+pub fn complain<E: Sink>(outcome: Outcome, complaints: &mut E) -> Status
+    ensures status { result ≡ status_of outcome }
+    ensures told { Complains (E.held complaints.old) (E.held complaints.new) (E.faults complaints.old) (E.faults complaints.new) (outcome_line outcome) }
+{
+    match outcome {
+        Outcome::Ended(status) => {
+            let _ = put_all(complaints, line_of(status).as_bytes());
+            status
+        }
+        Outcome::Refused(fault) => {
+            let _ = put_fault(fault, complaints);
+            Status::Settings
+        }
+        Outcome::Sent(tally) => {
+            let _ = tell_tally(&tally, complaints);
+            Status::Done
+        }
+        Outcome::Faulty { fault, place } => {
+            let _ = tell_fault(fault, place, complaints);
+            Status::Capture
+        }
+    }
+}
+
+/// The line of a status; none for Done, and none for refused settings and a capture's fault, whose lines say more.
 #[tactic(auto, unfolding(crate::specs::Statuses::status_line))]
 fn line_of(status: Status) -> &'static str
     ensures { result.now ≡ status_line status }

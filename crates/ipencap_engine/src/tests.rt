@@ -70,7 +70,7 @@ fn ran(
 
 #[test]
 fn words_that_form_no_command_add_no_file(rt: HostRuntime) -> Result<(), Fail> {
-    let refused: [&[&str]; 12] = [
+    let refused: [&[&str]; 15] = [
         &[],
         &["send"],
         &["send", "a", "b"],
@@ -82,6 +82,9 @@ fn words_that_form_no_command_add_no_file(rt: HostRuntime) -> Result<(), Fail> {
         &["ule", "+256"],
         &["ule", "-1"],
         &["sample", "4294967296"],
+        &["check"],
+        &["check", ""],
+        &["check", "-a"],
         &["--help"],
     ];
     for words in refused {

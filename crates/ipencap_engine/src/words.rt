@@ -1,50 +1,51 @@
-//! The words of the command line -> the command that they form.
-ghost use Rattle.std.specs.Prelude.{◌≡◌, ◌≢◌, ℕ, ◌≤◌, [], ◌∷◌, map, length, string_bytes, IfSome, IfNone};
-ghost use Rattle.std.specs.Str.Parse.{IsNumeral, digits_value};
-ghost use Rattle.ipencap_engine.specs.Words.{AsksForUle, IsNoCommand};
+//! The words of the command line -> what is to be done.
+ghost use Rattle.std.specs.Prelude.{◌≡◌, map, string_bytes, IfOk, IfSome, IfNone, IfErr, IsErrOf, List, ℕ};
+ghost use Rattle.command_words.specs.Words.{IsCommand};
+ghost use Rattle.command_words.specs.Asked.{AsksFor};
+ghost use Rattle.ipencap_engine.specs.Words.{AsksToDo, IsNoBuiltCommand};
 
-/// The last PID that packets of a service may have; 8191 is that of null packets (ISO/IEC 13818-1 clause 2.4.3.3).
-const LAST_PID: u16 = 8190;
+use command_words::{Command, WordsFault, parse_words};
+use std::alloc::Global;
 
-/// The most digits of a PID.
-const PID_DIGITS: usize = 4;
+/// A command that is built.
+#[derive(Drop)]
+pub enum Task<'w> {
+    /// `ule PID`.
+    Ule(u16),
+    /// `check SETTINGS`.
+    Check(&'w str),
+    /// `send SETTINGS`.
+    Send(&'w str),
+    /// `receive SETTINGS`.
+    Receive(&'w str),
+}
 
-/// The PID of `ule PID`, where the words are that.
-pub fn ule_pid_in(words: &[String]) -> Option<u16>
-    ensures read { IfSome result (λ pid. AsksForUle (map (λ word. string_bytes word) words.now) pid) }
-    ensures refused { IfNone result (IsNoCommand (map (λ word. string_bytes word) words.now)) }
+/// The command, where it is built.
+fn built<'w>(command: Command<'w>) -> Option<Task<'w>>
+    ensures read { IfSome result (λ task. (words : List (List ℕ)) → AsksFor words command.entry → AsksToDo words task) }
+    ensures refused { IfNone result ((words : List (List ℕ)) → AsksFor words command.entry → IsNoBuiltCommand words) }
 {
-    let (command, text) = two_words(words)?;
-    if command != "ule" {
-        return None;
-    }
-    match pid_in(text) {
-        Some(pid) => Some(pid),
-        None => None,
+    match command {
+        Command::Ule(pid) => Some(Task::Ule(pid)),
+        Command::Check(name) => Some(Task::Check(name)),
+        Command::Send(name) => Some(Task::Send(name)),
+        Command::Receive(name) => Some(Task::Receive(name)),
+        Command::Sample(_) => None,
     }
 }
 
-/// The words, where there are two.
-fn two_words(words: &[String]) -> Option<(&str, &str)>
-    ensures read { IfSome result (λ pair. map (λ word. string_bytes word) words.now ≡ pair.0.now ∷ pair.1.now ∷ []) }
-    ensures refused { IfNone result (length words.now ≢ 2) }
+/// Reads the words. Usage: they form no command that is built.
+pub fn read_words(alloc: Global, words: &[String]) -> Result<Task<'_>, WordsFault>
+    ensures read { IfOk result (λ task. AsksToDo (map (λ word. string_bytes word) words.now) task) }
+    ensures usage { IsErrOf result WordsFault.Usage → IsNoBuiltCommand (map (λ word. string_bytes word) words.now) }
+    ensures memory { IsErrOf result WordsFault.OutOfMemory → IsCommand (map (λ word. string_bytes word) words.now) }
 {
-    let [command, text] = words else {
-        return None;
+    let command = match parse_words(alloc, words) {
+        Ok(command) => command,
+        Err(fault) => return Err(fault),
     };
-    Some((command.as_str(), text.as_str()))
-}
-
-/// The PID that one to four decimal digits write.
-fn pid_in(text: &str) -> Option<u16>
-    ensures read { IfSome result (λ pid. IsNumeral 10 text.now × (length text.now ≤ 4) × (pid ≡ digits_value 10 text.now) × (pid ≤ 8190)) }
-    ensures refused { IfNone result (IsNumeral 10 text.now → length text.now ≤ 4 → digits_value 10 text.now ≤ 8190 → ⊥) }
-{
-    if text.len() > PID_DIGITS || text.as_bytes().first() == Some(&b'+') {
-        return None;
-    }
-    match text.parse::<u16>() {
-        Ok(pid) if pid <= LAST_PID => Some(pid),
-        _ => None,
+    match built(command) {
+        Some(task) => Ok(task),
+        None => Err(WordsFault::Usage),
     }
 }
