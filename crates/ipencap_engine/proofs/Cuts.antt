@@ -17,13 +17,13 @@ use Rattle.ipencap_engine.proofs.Texts.{flat_map-append}
 use Rattle.ipencap_engine.proofs.Records.{delivered_front}
 
 -- the bytes behind what was read
-consumed : (bytes : List ℕ) (left now : Option (List ℕ)) (front : List ℕ) → left ≡ Some bytes → Consumes left now front
+pub consumed : (bytes : List ℕ) (left now : Option (List ℕ)) (front : List ℕ) → left ≡ Some bytes → Consumes left now front
     → (rest : List ℕ) × (bytes ≡ front ++ rest) × (now ≡ Some rest)
 consumed bytes None now front e h = absurd (cc)
 consumed bytes (Some xs) None front e h = absurd h
 consumed bytes (Some xs) (Some ys) front e h = (ys, (let same : xs ≡ bytes = cc in sym same ∙ h), refl)
 
-at_end_is : (now : Option (List ℕ)) (rest : List ℕ) → now ≡ Some rest → IsAtEnd now → rest ≡ []
+pub at_end_is : (now : Option (List ℕ)) (rest : List ℕ) → now ≡ Some rest → IsAtEnd now → rest ≡ []
 at_end_is None rest e h = absurd (cc)
 at_end_is (Some ys) rest e h = let same : ys ≡ rest = cc in sym same ∙ h
 

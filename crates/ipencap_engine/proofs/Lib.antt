@@ -11,3 +11,4 @@ pub mod Losses
 pub mod Checked
 pub mod Sending
 pub mod Receiving
+pub mod Kept

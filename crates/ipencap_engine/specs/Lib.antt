@@ -6,5 +6,6 @@ pub mod Statuses
 pub mod Check
 pub mod Send
 pub mod Receive
+pub mod Kept
 pub mod Outcome
 pub mod Loss

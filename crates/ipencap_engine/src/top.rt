@@ -18,6 +18,7 @@ ghost use Rattle.ipencap_engine.specs.Loss.{CarriesUle, IsRecorded, KeepsIntact,
 ghost use Rattle.ipencap_engine.specs.Check.{ListsPlan, ListsPart, ComplainsOfFile};
 ghost use Rattle.ipencap_engine.specs.Send.{unbuilt_fault, IsRefusedForUse, SendsWhole, SendsBefore, SendsPart, ComplainsOfUse, end_of_capture};
 ghost use Rattle.ipencap_engine.specs.Receive.{EndsReceive, most_bytes};
+ghost use Rattle.ipencap_engine.specs.Kept.{KeepsEach};
 ghost use Rattle.ipencap_engine.specs.Statuses.{IsOfUle, IsOfCheck, IsOfSend, IsOfReceive, Complains, status_line};
 
 use crate::check::check;
@@ -42,7 +43,8 @@ use std::alloc::Global;
 ///
 /// The loss law: whatever packets of the recording were dropped, repeated or damaged on their way, if no damaged or
 /// spliced SNDU passes its CRC-32, the file holds datagrams that were sent, unchanged, in order, that of each SNDU at
-/// most once, and among them each whose SNDU arrived intact.
+/// most once, and among them each whose SNDU arrived intact. The same holds of each service of `receive` and its units, for
+/// the datagrams that the filter of the service wants.
 ///
 /// `Done`: all was done, and the input read to its end. Usage: the words form no command. Settings: the settings file is
 /// too long, a check of it fails, or `send` or `receive` finds a carrier or a kind of service that is not built yet. Capture: the
@@ -156,10 +158,13 @@ pub fn run<S: Shelf, I: Source, O: Sink, R: Rack, E: Sink>(
     ensures by_capture { (name capture : List ℕ) (records : List (List ℕ)) (fault : Option CaptureFault) → AsksForSend (map (λ word. string_bytes word) words.now) name → I.left input.old ≡ Some capture
         → Tells capture records fault → (result ≡ Status.Done) ⊎ (result ≡ Status.Capture) → result ≡ end_of_capture fault }
 
-    // `receive` writes the captures of the services and the report; where it refuses the settings, no file is added.
+    // `receive` writes the captures of the services and the report, and the loss law holds of each; where it refuses the settings,
+    // no file is added.
     ensures received { (name : List ℕ) → AsksForReceive (map (λ word. string_bytes word) words.now) name
         → EndsReceive result (S.file shelf.old name) (I.left input.old) (I.left input.new) (I.ended input.new) (I.taken input.old) (I.taken input.new)
         (R.files rack.old) (R.files rack.new) (O.held output.old) (O.held output.new) (O.flushed output.new) }
+    ensures keeps { (name bytes : List ℕ) → AsksForReceive (map (λ word. string_bytes word) words.now) name → I.left input.old ≡ Some bytes → result ≡ Status.Done
+        → KeepsEach (S.file shelf.old name) bytes (R.files rack.old) (R.files rack.new) }
     ensures untouched { (result ≡ Status.Settings) ⊎ (result ≡ Status.ShelfFault) → rack.new ≡ rack.old }
 
     // Settings that `receive` refuses, where the shelf tells them.

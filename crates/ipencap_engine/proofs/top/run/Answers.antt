@@ -10,6 +10,7 @@ use Rattle.ipencap_engine.proofs.Cuts.{capture_added, front_added, limit_added, 
 use Rattle.ipencap_engine.proofs.Commands.{one_pid, one_name, ule_asked, check_asked, send_asked, receive_asked, no_settings}
 use Rattle.ipencap_engine.proofs.Sending.{send_ends, end_is}
 use Rattle.ipencap_engine.proofs.Receiving.{receive_ends}
+use Rattle.ipencap_engine.proofs.Kept.{keeps_each}
 use Rattle.ipencap_engine.specs.Receive.{EndsReceive, before_files}
 use Rattle.ipencap_engine.specs.declared.status.Status.{Status}
 use Rattle.ipencap_engine.specs.declared.status.Status.TheVariants.{Settings, ShelfFault, OutOfMemory}
@@ -113,6 +114,13 @@ returns-in-Ok-Receive-clause-received g c = λ name words.
     (g.I.Source.taken c.args.input.now) (g.I.Source.taken c.receive_recording.new.input) (g.R.Rack.files c.args.rack.now) (g.R.Rack.files c.receive_recording.new.rack) (g.O.Sink.held c.args.output.now)
     (g.O.Sink.held c.receive_recording.new.output) (g.O.Sink.flushed c.receive_recording.new.output)) (sym c.complain-in-Ok-Receive.ensures.status)
     c.receive_recording.ensures.ends)
+
+pub returns-in-Ok-Receive-clause-keeps : goal.returns-in-Ok-Receive-clause-keeps
+returns-in-Ok-Receive-clause-keeps g c = λ name bytes words told done.
+    keeps_each c.complain-in-Ok-Receive.result (g.S.Shelf.file c.args.shelf.now name) (g.I.Source.left c.args.input.now) (g.I.Source.left c.receive_recording.new.input)
+    (g.I.Source.ended c.receive_recording.new.input) (g.I.Source.taken c.args.input.now) (g.I.Source.taken c.receive_recording.new.input) (g.R.Rack.files c.args.rack.now) (g.R.Rack.files c.receive_recording.new.rack)
+    (g.O.Sink.held c.args.output.now) (g.O.Sink.held c.receive_recording.new.output) (g.O.Sink.flushed c.receive_recording.new.output) bytes told done
+    (returns-in-Ok-Receive-clause-received g c name words)
 
 pub returns-in-Ok-Receive-clause-refused_for_receiving : goal.returns-in-Ok-Receive-clause-refused_for_receiving
 returns-in-Ok-Receive-clause-refused_for_receiving g c = λ name bytes refusal words told refuses.
