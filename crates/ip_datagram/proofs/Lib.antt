@@ -1,3 +1,4 @@
 pub mod Fronts
 pub mod Hints
 pub mod HintFronts
+pub mod Held

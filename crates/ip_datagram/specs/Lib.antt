@@ -1,3 +1,4 @@
 pub mod Refusal
 pub mod Destination
 pub mod Hint
+pub mod Held

@@ -1,22 +1,47 @@
 //! Datagrams, copied into a list in order and lent out of it.
-ghost use Rattle.std.specs.Prelude.{◌≡◌, ℕ, ◌+◌, ◌<◌, List, [], ◌∷◌, ◌++◌, length, Some, OnOk, OnErr, slice_get};
+ghost use Rattle.std.specs.Prelude.{◌≡◌, ℕ, ◌+◌, ◌<◌, ◌≤◌, List, [], ◌∷◌, ◌++◌, length, Some, OnOk, OnErr, slice_get, slice_index};
+ghost use Rattle.ip_datagram.specs.Held.{pieces_from, AreEnds};
 
 use std::alloc::{AllocError as OutOfMemory, Global};
 use std::marker::Model;
 
 /// Byte lists in the order in which they were pushed; contracts see them as a list of lists.
+///
+/// They stand one behind another in one buffer, so that a list takes memory for few calls and no room beside its bytes.
 #[derive(Drop)]
 pub struct DatagramList {
-    alloc: Global,
-    items: Vec<Vec<u8>>,
+    bytes: Vec<u8>,
+    /// Where each of them ends.
+    ends: Vec<usize>,
 }
 
 impl Model for DatagramList {
-    ghost use Rattle.std.specs.Prelude.{ℕ, List, map};
+    ghost use Rattle.std.specs.Prelude.{ℕ, List, length};
+    ghost use Rattle.ip_datagram.specs.Held.{pieces_from, AreEnds};
 
     ghost Value = { List (List ℕ) };
 
-    ghost view = { λ list. map (λ item. item.items) list.items.items };
+    ghost view = { λ list. pieces_from 0 list.bytes.items list.ends.items };
+
+    ghost invariant = { λ list. AreEnds 0 (length list.bytes.items) list.ends.items };
+}
+
+/// Where the piece at a place begins, of pieces that end at these places.
+fn begin_of(ends: &[usize], place: usize) -> usize
+    requires { place ≤ length ends.now }
+    ensures read { result ≡ slice_index (0 ∷ ends.now) place }
+{
+    if place == 0 { 0 } else { ends[place - 1] }
+}
+
+/// The piece at a place, of pieces that end at these places.
+#[tactic(auto, using(crate::proofs::Held::piece_is, crate::proofs::Held::piece_ordered, crate::proofs::Held::piece_within))]
+fn piece<'a>(bytes: &'a [u8], ends: &[usize], place: usize) -> &'a [u8]
+    requires ends { AreEnds 0 (length bytes.now) ends.now }
+    requires place { place < length ends.now }
+    ensures read { slice_get (pieces_from 0 bytes.now ends.now) place ≡ Some result.now }
+{
+    &bytes[begin_of(ends, place)..ends[place]]
 }
 
 impl DatagramList {
@@ -25,8 +50,8 @@ impl DatagramList {
         ensures written { result ≡ [] }
     {
         DatagramList {
-            alloc,
-            items: Vec::new(alloc),
+            bytes: Vec::new(alloc),
+            ends: Vec::new(alloc),
         }
     }
 
@@ -35,23 +60,31 @@ impl DatagramList {
         ensures written { OnOk result (self.new ≡ self.old ++ datagram.now ∷ []) }
         ensures unchanged { OnErr result (self.new ≡ self.old) }
     {
-        let copy = Vec::from_slice(self.alloc, datagram)?;
-        self.items.push(copy)?;
-        Ok(())
+        let size = self.bytes.len();
+        self.bytes.extend_from_slice(datagram)?;
+        match self.ends.push(self.bytes.as_slice().len()) {
+            Ok(()) => Ok(()),
+            Err(fault) => {
+                self.bytes.truncate(size);
+                Err(fault.into())
+            }
+        }
     }
 
     /// How many there are.
+    #[tactic(auto, using(crate::proofs::Held::pieces_count))]
     pub fn len(&self) -> usize
         ensures read { result ≡ length self.now }
     {
-        self.items.len()
+        self.ends.len()
     }
 
     /// Lends the one at a place, counted from 0.
+    #[tactic(auto, using(crate::proofs::Held::pieces_count))]
     pub fn at(&self, place: usize) -> &[u8]
         requires { place < length self.now }
         ensures read { slice_get self.now place ≡ Some result.now }
     {
-        self.items[place].as_slice()
+        piece(&self.bytes, &self.ends, place)
     }
 }
