@@ -1,5 +1,5 @@
 -- A packer over units that stand one after another in a buffer.
-use Rattle.std.specs.Prelude.{◌≡◌, ℕ, ◌+◌, ◌-◌, ◌≤◌, Bool, true, false, List, [], ◌∷◌, take, drop, length, slice_index}
+use Rattle.std.specs.Prelude.{◌≡◌, ℕ, ◌+◌, ◌-◌, ◌≤◌, Bool, true, false, List, [], ◌∷◌, take, drop, length, min, slice_index}
 use Rattle.ts_spec.specs.Form.{UnitForm}
 use Rattle.ts_spec.specs.Packet.{PacketFields, packet_bytes}
 use Rattle.unit_stream.specs.Packing.{Piece, pieces, byte_count, numbered}
@@ -42,6 +42,15 @@ pub record PackerState : Type 0 where
 pub record IsOnWay (state : PackerState) (ends : List ℕ) : Type 0 where
   pub begun : state.begun ≤ length ends
   pub at : state.at ≤ end_of ends state.begun
+
+-- some of all bytes, so many from a place on: the next 184 that are not out, or all that are left, at least
+pub record HasNext (state : PackerState) (ends : List ℕ) (from size : ℕ) : Type 0 where
+  pub before : from ≤ state.at
+  pub reach : min (state.at + 184) (end_of ends (length ends)) ≤ from + size
+
+-- these are the bytes from a place on
+abbrev pub StandAt : List ℕ → ℕ → List ℕ → Type 0
+StandAt window from bytes = between bytes from (from + length window) ≡ window
 
 -- the packets that are still to come of the units in a buffer
 abbrev pub pieces_left : ℕ → Bool → List ℕ → List ℕ → ℕ → ℕ → List Piece

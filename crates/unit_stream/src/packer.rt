@@ -164,7 +164,7 @@ impl<F: UnitForm> Model for Packer<F> {
 impl<F: UnitForm> Packer<F> {
     ghost use Rattle.std.specs.Prelude.{◌≡◌, ◌+◌, ◌≤◌, ◌%◌, ℕ, List, length, true, false};
     ghost use Rattle.unit_stream.specs.Packing.{packetized};
-    ghost use Rattle.unit_stream.specs.Packers.{AreEnds, IsOnWay, Writes, packets_left, units_of};
+    ghost use Rattle.unit_stream.specs.Packers.{AreRising, AreEnds, IsOnWay, HasNext, StandAt, Writes, end_of, packets_left, units_of};
 
     /// A packer whose first packet has the counter 0; the PID is 0 to 8191.
     pub fn new(pid: u16, packing: bool) -> Packer<F>
@@ -184,6 +184,13 @@ impl<F: UnitForm> Packer<F> {
         }
     }
 
+    /// How many bytes of all units are out.
+    pub fn at(&self) -> usize
+        ensures read { result ≡ self.now.at }
+    {
+        self.at
+    }
+
     /// Writes the next packet of the units, or answers false where all are out.
     ///
     /// The units stand one after another in `bytes`, and end at `ends`; both are the same until false comes.
@@ -196,11 +203,36 @@ impl<F: UnitForm> Packer<F> {
         ensures counter { result ≡ true → self.new.counter ≡ (self.old.counter + 1) % 16 }
         ensures unchanged { result ≡ false → into.new ≡ into.old }
     {
+        self.next_within(bytes, 0, ends, into)
+    }
+
+    /// Writes the next packet as `next` does, where only some of all bytes are at hand: those from the place `from` on.
+    ///
+    /// These are the next 184 bytes that are not out, or all that are left, at least.
+    pub fn next_within(
+        &mut self,
+        window: &[u8],
+        from: usize,
+        ends: &[usize],
+        into: &mut [u8; 188],
+    ) -> bool
+        requires rising { AreRising F.START 0 ends.now }
+        requires on_way { IsOnWay self.old ends.now }
+        requires window { HasNext self.old ends.now from (length window.now) }
+        ensures writes { (bytes : List ℕ) → end_of ends.now (length ends.now) ≤ length bytes → StandAt window.now from bytes
+            → Writes F.form self.old self.new bytes ends.now into.new result }
+        ensures within { (self.old.at ≤ self.new.at) × (self.new.at ≤ from + length window.now) }
+        ensures on_way { IsOnWay self.new ends.now }
+        ensures kept { (self.new.pid ≡ self.old.pid) × (self.new.packing ≡ self.old.packing) }
+        ensures counter { result ≡ true → self.new.counter ≡ (self.old.counter + 1) % 16 }
+        ensures unchanged { result ≡ false → into.new ≡ into.old }
+    {
         let Some(part) = next_part::<F>(ends, self.begun, self.at, self.packing) else {
             return false;
         };
         let pointer = end_of_unit(ends, self.begun) - self.at;
-        let payload = payload_of(part.starts, pointer, &bytes[self.at..part.at]);
+        let piece = &window[self.at - from..part.at - from];
+        let payload = payload_of(part.starts, pointer, piece);
         write_packet(into, self.pid, part.starts, self.counter, &payload);
         self.counter = (self.counter + 1) % COUNTERS;
         self.begun = part.begun;

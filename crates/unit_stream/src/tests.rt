@@ -78,7 +78,7 @@ fn packets_give_their_events_in_order(rt: HostRuntime) -> Result<(), Fail> {
     Ok(())
 }
 
-/// Units of 4, 3 and 200 bytes: with packing they fill two packets, without it four.
+/// Units of 4, 3 and 200 bytes: with packing they fill two packets, without it four. Each is made of the bytes that are not out.
 #[test]
 fn units_are_packetized(rt: HostRuntime) {
     let mut bytes = [7u8; 207];
@@ -108,7 +108,8 @@ fn units_are_packetized(rt: HostRuntime) {
         let mut packer = Packer::<SmallForm>::new(256, packing);
         let mut packet = [0; 188];
         for want in wants {
-            assert!(rt; packer.next(&bytes, &ends, &mut packet));
+            let from = packer.at().min(bytes.len());
+            assert!(rt; packer.next_within(&bytes[from..], from, &ends, &mut packet));
             assert!(rt; packet[..7] == want[..], "{packet:?}");
         }
         assert!(rt; !packer.next(&bytes, &ends, &mut packet));
