@@ -22,6 +22,10 @@ joined_more : (units : List (List ℕ)) (unit : List ℕ) → joined (units ++ u
 joined_more [] unit = append-nil unit
 joined_more (first ∷ units) unit = ap (λ (t : List ℕ). first ++ t) (joined_more units unit) ∙ sym (append_assoc first (joined units) unit)
 
+units_next : (unit : List ℕ → List ℕ) (datagrams : List (List ℕ)) (i : ℕ) (datagram : List ℕ) → slice_get datagrams i ≡ Some datagram
+    → map unit (take (i + 1) datagrams) ≡ map unit (take i datagrams) ++ unit datagram ∷ []
+units_next unit datagrams i datagram found = ap (map unit) (take_next datagrams i datagram found) ∙ map-append unit (take i datagrams) (datagram ∷ [])
+
 ends_more : (from : ℕ) (units : List (List ℕ)) (unit : List ℕ) → ends_from from (units ++ unit ∷ []) ≡ ends_from from units ++ (from + length (joined units) + length unit) ∷ []
 ends_more from [] unit = ap (λ (n : ℕ). n ∷ []) (zero_more from (length unit))
   where
@@ -34,39 +38,24 @@ ends_more from (first ∷ units) unit =
     sums : (a b c : ℕ) → c ≡ a + b → from + a + b + length unit ≡ from + c + length unit
     sums a b c e = omega (arith, e)
 
--- one unit more is written behind the others
-pub held_more : (unit : List ℕ → List ℕ) (datagrams : List (List ℕ)) (i : ℕ) (datagram : List ℕ) (end size : ℕ) (bytes new ends : List ℕ)
-    → slice_get datagrams i ≡ Some datagram → HoldUnits (map unit (take i datagrams)) bytes ends → end ≡ length (joined (map unit (take i datagrams))) → size ≡ length (unit datagram)
-    → new ≡ take end bytes ++ (unit datagram ++ drop size (drop end bytes))
-    → HoldUnits (map unit (take (i + 1) datagrams)) new (ends ++ (end + size) ∷ []) × (end + size ≡ length (joined (map unit (take (i + 1) datagrams))))
-held_more unit datagrams i datagram end size bytes new ends found held end_is size_is new_is = (
-  record {
-    rest = drop size (drop end bytes);
-    bytes_are =
-        new_is ∙ ap (λ (t : List ℕ). t ++ (unit datagram ++ drop size (drop end bytes))) front
-        ∙ sym (append_assoc (joined before) (unit datagram) (drop size (drop end bytes)))
-        ∙ ap (λ (t : List ℕ). t ++ drop size (drop end bytes)) (sym whole);
-    ends_are =
-        ap (λ (t : List ℕ). t ++ (end + size) ∷ []) held.ends_are
-        ∙ ap (λ (n : ℕ). ends_from 0 before ++ n ∷ []) (sums end (length (joined before)) size (length (unit datagram)) end_is size_is)
-        ∙ sym (ends_more 0 before (unit datagram))
-        ∙ ap (ends_from 0) (sym units);
-  },
-  omega (arith, ap length whole, length-append (joined before) (unit datagram), end_is, size_is),
+-- the units of one datagram more
+pub bytes_next : (unit : List ℕ → List ℕ) (datagrams : List (List ℕ)) (i : ℕ) (datagram : List ℕ) → slice_get datagrams i ≡ Some datagram
+    → joined (map unit (take (i + 1) datagrams)) ≡ joined (map unit (take i datagrams)) ++ unit datagram
+bytes_next unit datagrams i datagram found =
+    ap joined (units_next unit datagrams i datagram found) ∙ joined_more (map unit (take i datagrams)) (unit datagram)
+
+-- the end of one unit more
+pub end_next : (unit : List ℕ → List ℕ) (datagrams : List (List ℕ)) (i : ℕ) (datagram : List ℕ) (end size : ℕ) (ends : List ℕ)
+    → slice_get datagrams i ≡ Some datagram → ends ≡ ends_from 0 (map unit (take i datagrams)) → end ≡ length (joined (map unit (take i datagrams))) → size ≡ length (unit datagram)
+    → (ends ++ (end + size) ∷ [] ≡ ends_from 0 (map unit (take (i + 1) datagrams))) × (end + size ≡ length (joined (map unit (take (i + 1) datagrams))))
+end_next unit datagrams i datagram end size ends found ends_are end_is size_is = (
+  ap (λ (t : List ℕ). t ++ (end + size) ∷ []) ends_are
+      ∙ ap (λ (n : ℕ). ends_from 0 (map unit (take i datagrams)) ++ n ∷ []) (sums end (length (joined (map unit (take i datagrams)))) size (length (unit datagram)) end_is size_is)
+      ∙ sym (ends_more 0 (map unit (take i datagrams)) (unit datagram))
+      ∙ ap (ends_from 0) (sym (units_next unit datagrams i datagram found)),
+  omega (arith, ap length (bytes_next unit datagrams i datagram found), length-append (joined (map unit (take i datagrams))) (unit datagram), end_is, size_is),
 )
   where
-    before : List (List ℕ)
-    before = map unit (take i datagrams)
-
-    units : map unit (take (i + 1) datagrams) ≡ before ++ unit datagram ∷ []
-    units = ap (map unit) (take_next datagrams i datagram found) ∙ map-append unit (take i datagrams) (datagram ∷ [])
-
-    whole : joined (map unit (take (i + 1) datagrams)) ≡ joined before ++ unit datagram
-    whole = ap joined units ∙ joined_more before (unit datagram)
-
-    front : take end bytes ≡ joined before
-    front = ap (take end) held.bytes_are ∙ take_at (joined before) held.rest end (sym end_is)
-
     sums : (a b c d : ℕ) → a ≡ b → c ≡ d → a + c ≡ 0 + b + d
     sums a b c d e e2 = omega (arith, e, e2)
 
@@ -94,12 +83,12 @@ put_back items new unit len end size len_is within size_is new_is =
 
 -- What stands in a buffer are the units.
 
-pub units_held : (units : List (List ℕ)) (bytes ends : List ℕ) → HoldUnits units bytes ends → units_of bytes ends ≡ units
-units_held units bytes ends held = ap (units_from 0 bytes) held.ends_are ∙ from_place 0 [] units held.rest bytes refl held.bytes_are
+units_ended : (units : List (List ℕ)) (rest : List ℕ) (all : List ℕ) → all ≡ joined units ++ rest → units_of all (ends_from 0 units) ≡ units
+units_ended units rest all is = from_place 0 [] units rest refl is
   where
-    from_place : (from : ℕ) (front : List ℕ) (us : List (List ℕ)) (rest all : List ℕ) → from ≡ length front → all ≡ front ++ (joined us ++ rest) → units_from from all (ends_from from us) ≡ us
-    from_place from front [] rest all at is = refl
-    from_place from front (unit ∷ us) rest all at is =
+    from_place : (from : ℕ) (front : List ℕ) (us : List (List ℕ)) (rest : List ℕ) → from ≡ length front → all ≡ front ++ (joined us ++ rest) → units_from from all (ends_from from us) ≡ us
+    from_place from front [] rest at is = refl
+    from_place from front (unit ∷ us) rest at is =
         let there : drop from all ≡ unit ++ (joined us ++ rest)
         = ap (drop from) is ∙ drop_at front ((unit ++ joined us) ++ rest) from (sym at) ∙ append_assoc unit (joined us) rest in
         let size : from + length unit - from ≡ length unit = omega arith in
@@ -108,16 +97,23 @@ units_held units bytes ends held = ap (units_from 0 bytes) held.ends_are ∙ fro
         let behind : all ≡ (front ++ unit) ++ (joined us ++ rest)
         = is ∙ ap (λ (t : List ℕ). front ++ t) (append_assoc unit (joined us) rest) ∙ sym (append_assoc front unit (joined us ++ rest)) in
         ap (λ (t : List ℕ). t ∷ units_from (from + length unit) all (ends_from (from + length unit) us)) first
-        ∙ ap (λ (t : List (List ℕ)). unit ∷ t) (from_place (from + length unit) (front ++ unit) us rest all (omega (arith, at, length-append front unit)) behind)
+        ∙ ap (λ (t : List (List ℕ)). unit ∷ t) (from_place (from + length unit) (front ++ unit) us rest (omega (arith, at, length-append front unit)) behind)
 
-rising_held : (start from : ℕ) (units : List (List ℕ)) → All (λ (unit : List ℕ). start ≤ length unit) units → AreRising start from (ends_from from units)
+pub units_held : (units : List (List ℕ)) (bytes ends : List ℕ) → HoldUnits units bytes ends → units_of bytes ends ≡ units
+units_held units bytes ends held = ap (units_from 0 bytes) held.ends_are ∙ units_ended units held.rest bytes held.bytes_are
+
+-- the units of bytes that are of nothing else
+pub units_joined : (units : List (List ℕ)) (ends : List ℕ) → ends ≡ ends_from 0 units → units_of (joined units) ends ≡ units
+units_joined units ends are = ap (units_from 0 (joined units)) are ∙ units_ended units [] (joined units) (sym (append-nil (joined units)))
+
+pub rising_held : (start from : ℕ) (units : List (List ℕ)) → All (λ (unit : List ℕ). start ≤ length unit) units → AreRising start from (ends_from from units)
 rising_held start from [] least = tt
 rising_held start from (unit ∷ units) least = (more (length unit) (least 0 unit (omega arith)), rising_held start (from + length unit) units (λ n d less. least (suc n) d (omega (arith, less))))
   where
     more : (n : ℕ) → start ≤ n → from + start ≤ from + n
     more n le = omega (arith, le)
 
-last_held : (from : ℕ) (units : List (List ℕ)) → get_or (from ∷ ends_from from units) (length (ends_from from units)) 0 ≡ from + length (joined units)
+pub last_held : (from : ℕ) (units : List (List ℕ)) → get_or (from ∷ ends_from from units) (length (ends_from from units)) 0 ≡ from + length (joined units)
 last_held from [] = omega arith
 last_held from (unit ∷ units) = omega (arith, last_held (from + length unit) units, length-append unit (joined units))
 
@@ -179,14 +175,11 @@ count_joined [] = refl
 count_joined (unit ∷ units) = omega (arith, count_joined units, length-append unit (joined units))
 
 -- there are no more packets than bytes
-pub packets_most : (form : UnitForm) (packing : Bool) (pid counter : ℕ) (units : List (List ℕ)) (bytes ends : List ℕ) → HoldUnits units bytes ends
-    → length (packetized form packing pid counter units) ≤ length bytes
-packets_most form packing pid counter units bytes ends held =
+pub packets_most : (form : UnitForm) (packing : Bool) (pid counter : ℕ) (units : List (List ℕ)) → length (packetized form packing pid counter units) ≤ length (joined units)
+packets_most form packing pid counter units =
     omega (
       arith,
       length-numbered pid counter (pieces (byte_count units) form.start packing [] units),
       pieces_most (byte_count units) form.start packing [] units,
       count_joined units,
-      ap length held.bytes_are,
-      length-append (joined units) held.rest,
     )

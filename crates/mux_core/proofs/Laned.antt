@@ -1,45 +1,37 @@
 -- The packets of a service, and of all services.
-use Rattle.std.proofs.Common.{◌≡◌, ℕ, zero, suc, ◌+◌, ◌≤◌, Bool, true, List, [], ◌∷◌, ◌++◌, length, map, take, ap, ◌∙◌, add-one, subst, Some}
-use Rattle.std.specs.Prelude.{slice_get}
+use Rattle.std.proofs.Common.{◌≡◌, ℕ, zero, suc, ◌+◌, ◌≤◌, Bool, true, List, [], ◌∷◌, ◌++◌, length, map, take, ap, sym, ◌∙◌, add-one, subst, Some}
+use Rattle.std.specs.Prelude.{All, slice_get}
 use Rattle.ts_spec.specs.Packet.{PacketFields}
-use Rattle.ts_spec.specs.Form.{UnitForm}
+use Rattle.ts_spec.specs.Sndu.{sndu_form}
+use Rattle.section_spec.specs.Section.{section_form}
 use Rattle.unit_stream.specs.Packing.{packetized}
-use Rattle.unit_stream.specs.Packers.{units_of, AreEnds}
 use Rattle.plan_spec.specs.Plan.{ServiceFields}
-use Rattle.stream_spec.specs.Units.{sndu_of, section_of, packets_of}
+use Rattle.stream_spec.specs.Units.{packets_of, packets_of_kind}
 use Rattle.service_plan.specs.Parts.{kind_seen}
 use Rattle.service_plan.specs.declared.service.Kind.{Kind}
 use Rattle.service_plan.specs.declared.service.Kind.TheVariants.{Ule, Mpe}
-use Rattle.mux_core.specs.Units.{unit_of, HoldUnits}
+use Rattle.mux_core.specs.Units.{unit_of}
 use Rattle.mux_core.specs.Services.{packets_from_lists}
-use Rattle.mux_core.proofs.Held.{units_held, ends_held, sndus_least, sections_least, packets_most}
+use Rattle.mux_core.proofs.Held.{sndus_least, sections_least}
 
-module _ (unicast : List ℕ) (datagrams : List (List ℕ)) (bytes ends : List ℕ) (kind : Kind) (held : HoldUnits (map (unit_of (kind_seen kind) unicast) datagrams) bytes ends) where
+module _ (unicast : List ℕ) (datagrams : List (List ℕ)) (kind : Kind) where
   module _ (pid : ℕ) (address packing : Bool) (is : kind ≡ Ule pid address packing) where
-    as_sndus : HoldUnits (map (sndu_of address unicast) datagrams) bytes ends
-    as_sndus = subst (λ (k : Kind). HoldUnits (map (unit_of (kind_seen k) unicast) datagrams) bytes ends) is held
+    pub least_of_sndus : All (λ (unit : List ℕ). 2 ≤ length unit) (map (unit_of (kind_seen kind) unicast) datagrams)
+    least_of_sndus = subst (λ (k : Kind). All (λ (unit : List ℕ). 2 ≤ length unit) (map (unit_of (kind_seen k) unicast) datagrams)) (sym is) (sndus_least address unicast datagrams)
 
-    pub ends_of_sndus : AreEnds 2 (length bytes) ends
-    ends_of_sndus = ends_held 2 (map (sndu_of address unicast) datagrams) bytes ends as_sndus (sndus_least address unicast datagrams)
-
-    pub packets_of_sndus : (form : UnitForm) → packetized form packing pid 0 (units_of bytes ends) ≡ packetized form packing pid 0 (map (sndu_of address unicast) datagrams)
-    packets_of_sndus form = ap (λ (units : List (List ℕ)). packetized form packing pid 0 units) (units_held (map (sndu_of address unicast) datagrams) bytes ends as_sndus)
-
-    pub few_of_sndus : (form : UnitForm) → length (packetized form packing pid 0 (map (sndu_of address unicast) datagrams)) ≤ length bytes
-    few_of_sndus form = packets_most form packing pid 0 (map (sndu_of address unicast) datagrams) bytes ends as_sndus
+    pub packets_of_sndus : packetized sndu_form packing pid 0 (map (unit_of (kind_seen kind) unicast) datagrams) ≡ packets_of_kind (kind_seen kind) unicast datagrams
+    packets_of_sndus =
+        ap (λ (k : Kind). packetized sndu_form packing pid 0 (map (unit_of (kind_seen k) unicast) datagrams)) is
+        ∙ sym (ap (λ (k : Kind). packets_of_kind (kind_seen k) unicast datagrams) is)
 
   module _ (pid : ℕ) (is : kind ≡ Mpe pid) where
-    as_sections : HoldUnits (map (section_of unicast) datagrams) bytes ends
-    as_sections = subst (λ (k : Kind). HoldUnits (map (unit_of (kind_seen k) unicast) datagrams) bytes ends) is held
+    pub least_of_sections : All (λ (unit : List ℕ). 1 ≤ length unit) (map (unit_of (kind_seen kind) unicast) datagrams)
+    least_of_sections = subst (λ (k : Kind). All (λ (unit : List ℕ). 1 ≤ length unit) (map (unit_of (kind_seen k) unicast) datagrams)) (sym is) (sections_least unicast datagrams)
 
-    pub ends_of_sections : AreEnds 1 (length bytes) ends
-    ends_of_sections = ends_held 1 (map (section_of unicast) datagrams) bytes ends as_sections (sections_least unicast datagrams)
-
-    pub packets_of_sections : (form : UnitForm) → packetized form true pid 0 (units_of bytes ends) ≡ packetized form true pid 0 (map (section_of unicast) datagrams)
-    packets_of_sections form = ap (λ (units : List (List ℕ)). packetized form true pid 0 units) (units_held (map (section_of unicast) datagrams) bytes ends as_sections)
-
-    pub few_of_sections : (form : UnitForm) → length (packetized form true pid 0 (map (section_of unicast) datagrams)) ≤ length bytes
-    few_of_sections form = packets_most form true pid 0 (map (section_of unicast) datagrams) bytes ends as_sections
+    pub packets_of_sections : packetized section_form true pid 0 (map (unit_of (kind_seen kind) unicast) datagrams) ≡ packets_of_kind (kind_seen kind) unicast datagrams
+    packets_of_sections =
+        ap (λ (k : Kind). packetized section_form true pid 0 (map (unit_of (kind_seen k) unicast) datagrams)) is
+        ∙ sym (ap (λ (k : Kind). packets_of_kind (kind_seen k) unicast datagrams) is)
 
 from_lists_next : (services : List ServiceFields) (lists : List (List (List ℕ))) (i : ℕ) (service : ServiceFields) (datagrams : List (List ℕ))
     → slice_get services i ≡ Some service → slice_get lists i ≡ Some datagrams

@@ -1,5 +1,6 @@
 pub mod Items
 pub mod Held
+pub mod Windows
 pub mod Turned
 pub mod Laned
 pub mod Signalled

@@ -12,8 +12,8 @@ use Rattle.mux_core.specs.declared.lanes.Lane.TheVariants.{Ule, Mpe}
 
 -- the packets of a service that are still to come
 abbrev pub packets_in : Lane → List PacketFields
-packets_in (Ule lane) = lane.packets
-packets_in (Mpe lane) = lane.packets
+packets_in (Ule packets) = packets
+packets_in (Mpe packets) = packets
 
 -- what each service has left, and which of them is asked first
 pub record Serving : Type 0 where

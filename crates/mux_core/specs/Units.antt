@@ -1,5 +1,5 @@
 -- The units of a service, one behind another in a buffer.
-use Rattle.std.specs.Prelude.{◌≡◌, ℕ, ◌+◌, ◌≤◌, List, [], ◌∷◌, ◌++◌, length, All}
+use Rattle.std.specs.Prelude.{◌≡◌, ℕ, ◌+◌, ◌≤◌, List, [], ◌∷◌, ◌++◌, length, map, All}
 use Rattle.wire_spec.specs.Datagram.{IsDatagram}
 use Rattle.wire_spec.specs.Lists.{joined}
 use Rattle.plan_spec.specs.Plan.{KindFields, ule, mpe, fec, gse}
@@ -12,6 +12,10 @@ unit_of (ule pid address packing) unicast datagram = sndu_of address unicast dat
 unit_of (mpe pid) unicast datagram = section_of unicast datagram
 unit_of (fec pid rows parity window) unicast datagram = []
 unit_of (gse isi address) unicast datagram = []
+
+-- the units of these datagrams, one behind another
+abbrev pub unit_bytes : KindFields → List ℕ → List (List ℕ) → List ℕ
+unit_bytes kind unicast datagrams = joined (map (unit_of kind unicast) datagrams)
 
 -- a datagram that a service of this kind takes
 pub record IsFor (kind : KindFields) (datagram : List ℕ) : Type 0 where

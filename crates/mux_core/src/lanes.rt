@@ -1,5 +1,5 @@
-//! The units of a service -> its packets, one after another.
-ghost use Rattle.std.specs.Prelude.{◌≡◌, ℕ, ◌+◌, ◌*◌, ◌<◌, ◌≤◌, ◌^◌, ◌%◌, ◌∷◌, List, true, length, IfOk};
+//! The datagrams of a service -> its packets, one after another.
+ghost use Rattle.std.specs.Prelude.{◌≡◌, ℕ, ◌<◌, ◌≤◌, ◌^◌, ◌∷◌, List, true, length, map, IfOk, All};
 ghost use Rattle.ts_spec.specs.Packet.{PacketFields};
 ghost use Rattle.stream_spec.specs.Stream.{written};
 ghost use Rattle.stream_spec.specs.Units.{packets_of_kind};
@@ -8,7 +8,8 @@ ghost use Rattle.service_plan.specs.Parts.{kind_seen};
 ghost use Rattle.mux_core.specs.Units.{AreFor, HasPid};
 ghost use Rattle.mux_core.specs.Services.{packets_in};
 
-use crate::units::{Units, units_of};
+use crate::units::ends_of;
+use crate::window::Window;
 use ip_datagram::DatagramList;
 use section_codec::SectionForm;
 use service_plan::{Kind, Service};
@@ -17,99 +18,113 @@ use std::marker::Model;
 use ule_unit::UleForm;
 use unit_stream::{Packer, UnitForm, count_packets};
 
-/// Units on their way into the packets of one PID.
+/// Datagrams of a service on their way into the packets of its PID.
 #[derive(Drop)]
-pub(crate) struct UnitPackets<F: UnitForm> {
-    units: Units,
+pub(crate) struct LanePackets<'a, F: UnitForm> {
+    service: &'a Service,
+    datagrams: &'a DatagramList,
+    /// Where the unit of each datagram ends among the bytes of all units.
+    ends: Vec<usize>,
+    /// The units that are due.
+    window: Window,
     packer: Packer<F>,
     /// The packets still to come.
     left: u64,
-    /// The packets of all units.
-    all: u64,
 }
 
-impl<F: UnitForm> Model for UnitPackets<F> {
-    ghost use Rattle.mux_core.specs.Lanes.{OnWay, on_way, IsPacking};
+impl<'a, F: UnitForm> Model for LanePackets<'a, F> {
+    ghost use Rattle.std.specs.Prelude.{List};
+    ghost use Rattle.ts_spec.specs.Packet.{PacketFields};
+    ghost use Rattle.service_plan.specs.Parts.{kind_seen};
+    ghost use Rattle.unit_stream.specs.Packers.{packets_left};
+    ghost use Rattle.mux_core.specs.Units.{unit_bytes};
+    ghost use Rattle.mux_core.specs.Windows.{IsSending};
 
-    ghost Value = { OnWay };
+    ghost Value = { List PacketFields };
 
-    ghost view = { λ p. on_way F.form p.packer p.units.bytes.items p.units.ends.items };
+    ghost view = { λ p. packets_left F.form p.packer (unit_bytes (kind_seen p.service.now.kind) p.service.now.unicast p.datagrams.now) p.ends.items };
 
-    ghost invariant = { λ p. IsPacking F.START F.form p.packer p.units.bytes.items p.units.ends.items p.left p.all };
+    ghost invariant = { λ p. IsSending F.START F.form (kind_seen p.service.now.kind) p.service.now.unicast p.datagrams.now p.ends.items p.window p.packer p.left };
 }
 
-impl<F: UnitForm> UnitPackets<F> {
-    ghost use Rattle.std.specs.Prelude.{◌≡◌, ℕ, ◌+◌, ◌<◌, ◌≤◌, ◌%◌, ◌∷◌, length};
+impl<'a, F: UnitForm> LanePackets<'a, F> {
+    ghost use Rattle.std.specs.Prelude.{◌≡◌, ℕ, ◌<◌, ◌≤◌, ◌^◌, ◌∷◌, List, true, length, map, IfOk, All};
     ghost use Rattle.ts_spec.specs.Packet.{PacketFields};
     ghost use Rattle.stream_spec.specs.Stream.{written};
+    ghost use Rattle.stream_law.specs.Words.{is_of_units};
+    ghost use Rattle.service_plan.specs.Parts.{kind_seen};
     ghost use Rattle.unit_stream.specs.Packing.{packetized};
-    ghost use Rattle.unit_stream.specs.Packers.{AreEnds, units_of as units_at};
+    ghost use Rattle.mux_core.specs.Units.{unit_of, AreFor};
 
-    /// The packets of these units, with counters from 0; the PID is 0 to 8191.
-    pub(crate) fn new(units: Units, pid: u16, packing: bool) -> UnitPackets<F>
+    /// The packets of these datagrams, with counters from 0; the PID is 0 to 8191.
+    fn new(
+        alloc: Global,
+        service: &'a Service,
+        datagrams: &'a DatagramList,
+        pid: u16,
+        packing: bool,
+    ) -> Result<LanePackets<'a, F>, OutOfMemory>
+        requires built { is_of_units (kind_seen service.now.kind) ≡ true }
+        requires datagrams { AreFor (kind_seen service.now.kind) datagrams.now }
+        requires few { length datagrams.now < 2 ^ 32 }
         requires pid { pid ≤ 8191 }
-        requires ends { AreEnds F.START (length units.bytes.items) units.ends.items }
-        ensures written { result ≡ record {
-          pid = pid;
-          packing = packing;
-          counter = 0;
-          units = units_at units.bytes.items units.ends.items;
-          packets = packetized F.form packing pid 0 (units_at units.bytes.items units.ends.items);
-        } }
+        requires least { All (λ unit. F.START ≤ length unit) (map (unit_of (kind_seen service.now.kind) service.now.unicast) datagrams.now) }
+        ensures written { IfOk result (λ packets. packets ≡ packetized F.form packing pid 0 (map (unit_of (kind_seen service.now.kind) service.now.unicast) datagrams.now)) }
+        ensures most { IfOk result (λ packets. length packets ≤ 2 ^ 48) }
     {
-        let all = count_packets::<F>(&units.ends, packing);
-        UnitPackets {
-            units,
+        let ends = ends_of(alloc, service, datagrams)?;
+        let window = Window::new(alloc)?;
+        let left = count_packets::<F>(&ends, packing);
+        Ok(LanePackets {
+            service,
+            datagrams,
+            ends,
+            window,
             packer: Packer::new(pid, packing),
-            left: all,
-            all,
-        }
+            left,
+        })
     }
 
     /// How many are still to come.
-    pub(crate) fn left(&self) -> u64
-        ensures read { result ≡ length self.now.packets }
+    fn left(&self) -> u64
+        ensures read { result ≡ length self.now }
     {
         self.left
     }
 
     /// Writes the next one.
-    pub(crate) fn next(&mut self, into: &mut [u8; 188])
-        requires { 0 < length self.old.packets }
-        ensures next { (packet : PacketFields) × (self.old.packets ≡ packet ∷ self.new.packets) × (into.new ≡ written packet) }
-        ensures kept { (self.new.pid ≡ self.old.pid) × (self.new.packing ≡ self.old.packing) × (self.new.units ≡ self.old.units) }
-        ensures counter { self.new.counter ≡ (self.old.counter + 1) % 16 }
+    fn next(&mut self, into: &mut [u8; 188])
+        requires { 0 < length self.old }
+        ensures next { (packet : PacketFields) × (self.old ≡ packet ∷ self.new) × (into.new ≡ written packet) }
     {
-        if self.packer.next(&self.units.bytes, &self.units.ends, into) {
+        self.window
+            .reach(self.service, self.datagrams, self.packer.at());
+        let from = self.window.from;
+        if self
+            .packer
+            .next_within(self.window.bytes(), from, &self.ends, into)
+        {
             self.left -= 1;
         }
-    }
-
-    /// Begins the units anew. The counter goes on.
-    pub(crate) fn again(&mut self)
-        ensures written { self.new ≡ record self.old { packets = packetized F.form self.old.packing self.old.pid self.old.counter self.old.units } }
-    {
-        self.packer.again();
-        self.left = self.all;
     }
 }
 
 /// The packets of a service.
 #[derive(Drop)]
-pub(crate) enum Lane {
+pub(crate) enum Lane<'a> {
     /// Of SNDUs.
-    Ule(UnitPackets<UleForm>),
+    Ule(LanePackets<'a, UleForm>),
     /// Of datagram_sections.
-    Mpe(UnitPackets<SectionForm>),
+    Mpe(LanePackets<'a, SectionForm>),
 }
 
-impl Lane {
+impl<'a> Lane<'a> {
     /// The packets of a service of these datagrams.
     pub(crate) fn new(
         alloc: Global,
-        service: &Service,
-        datagrams: &DatagramList,
-    ) -> Result<Lane, OutOfMemory>
+        service: &'a Service,
+        datagrams: &'a DatagramList,
+    ) -> Result<Lane<'a>, OutOfMemory>
         requires built { is_of_units (kind_seen service.now.kind) ≡ true }
         requires pid { HasPid (kind_seen service.now.kind) }
         requires datagrams { AreFor (kind_seen service.now.kind) datagrams.now }
@@ -117,10 +132,15 @@ impl Lane {
         ensures written { IfOk result (λ lane. packets_in lane ≡ packets_of_kind (kind_seen service.now.kind) service.now.unicast datagrams.now) }
         ensures most { IfOk result (λ lane. length (packets_in lane) ≤ 2 ^ 48) }
     {
-        let units = units_of(alloc, service, datagrams)?;
         match service.kind {
-            Kind::Ule { pid, packing, .. } => Ok(Lane::Ule(UnitPackets::new(units, pid, packing))),
-            Kind::Mpe { pid } => Ok(Lane::Mpe(UnitPackets::new(units, pid, true))),
+            Kind::Ule { pid, packing, .. } => {
+                let packets = LanePackets::new(alloc, service, datagrams, pid, packing)?;
+                Ok(Lane::Ule(packets))
+            }
+            Kind::Mpe { pid } => {
+                let packets = LanePackets::new(alloc, service, datagrams, pid, true)?;
+                Ok(Lane::Mpe(packets))
+            }
             Kind::Fec { .. } | Kind::Gse { .. } => unreachable!(),
         }
     }

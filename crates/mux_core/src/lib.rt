@@ -7,6 +7,7 @@
 #[cfg(test)]
 mod built;
 mod lanes;
+mod packets;
 mod records;
 mod sending;
 mod services;
@@ -15,6 +16,7 @@ mod table;
 #[cfg(test)]
 mod tests;
 mod units;
+mod window;
 
 pub use offered_datagrams::{Lists, Offered};
 pub use sending::{MuxFault, Sent, stream};

@@ -12,15 +12,15 @@ use std::marker::Model;
 
 /// The services of a plan on their way; contracts see what each has left, and which is asked first.
 #[derive(Drop)]
-pub(crate) struct Services {
-    lanes: Vec<Lane>,
+pub(crate) struct Services<'a> {
+    lanes: Vec<Lane<'a>>,
     /// The service behind the one served last.
     first: usize,
     /// The packets of all services that are still to come.
     left: u64,
 }
 
-impl Model for Services {
+impl<'a> Model for Services<'a> {
     ghost use Rattle.std.specs.Prelude.{◌≡◌, ◌≤◌, map, length};
     ghost use Rattle.mux_core.specs.Services.{packets_in, Serving, packet_total};
 
@@ -32,7 +32,7 @@ impl Model for Services {
 }
 
 /// The first of the services from one on, and before another, that has packets left.
-fn find_from(lanes: &[Lane], from: usize, to: usize) -> Option<usize>
+fn find_from(lanes: &[Lane<'_>], from: usize, to: usize) -> Option<usize>
     requires { to ≤ length lanes.now }
     ensures { result ≡ find (has_packets (map packets_in lanes.now)) (range_with_len from (to - from)) }
 {
@@ -45,7 +45,7 @@ fn find_from(lanes: &[Lane], from: usize, to: usize) -> Option<usize>
 }
 
 /// The packets of all services.
-fn total(lanes: &[Lane]) -> u64
+fn total(lanes: &[Lane<'_>]) -> u64
     requires few { length lanes.now ≤ 64 }
     requires short { All (λ lane. length (packets_in lane) ≤ 2 ^ 48) lanes.now }
     ensures read { result ≡ packet_total (map packets_in lanes.now) }
@@ -59,7 +59,11 @@ fn total(lanes: &[Lane]) -> u64
 }
 
 /// The packets of each service.
-fn lanes_of(alloc: Global, plan: &Plan, lists: &Lists) -> Result<Vec<Lane>, OutOfMemory>
+fn lanes_of<'a>(
+    alloc: Global,
+    plan: &'a Plan,
+    lists: &'a Lists,
+) -> Result<Vec<Lane<'a>>, OutOfMemory>
     requires { AreLists (plan_fields plan.now) lists.now }
     ensures written { IfOk result (λ lanes. map packets_in lanes.items ≡ packets_from_lists (plan_fields plan.now).services lists.now) }
     ensures short { IfOk result (λ lanes. All (λ lane. length (packets_in lane) ≤ 2 ^ 48) lanes.items) }
@@ -73,13 +77,17 @@ fn lanes_of(alloc: Global, plan: &Plan, lists: &Lists) -> Result<Vec<Lane>, OutO
     Ok(lanes)
 }
 
-impl Services {
+impl<'a> Services<'a> {
     ghost use Rattle.std.specs.Prelude.{◌≡◌, ◌+◌, ◌<◌, ◌≤◌, ◌^◌, [], length, slice_index_or, IfOk, IfSome, IsSome};
     ghost use Rattle.service_plan.specs.PlanView.{plan_fields};
     ghost use Rattle.mux_core.specs.Services.{packet_total, turn_of, TakesTurn, packets_from_lists, AreLists};
 
     /// The services of a plan with these datagrams, before the first slot.
-    pub(crate) fn new(alloc: Global, plan: &Plan, lists: &Lists) -> Result<Services, OutOfMemory>
+    pub(crate) fn new(
+        alloc: Global,
+        plan: &'a Plan,
+        lists: &'a Lists,
+    ) -> Result<Services<'a>, OutOfMemory>
         requires { AreLists (plan_fields plan.now) lists.now }
         ensures written { IfOk result (λ s. s ≡ record { packets = packets_from_lists (plan_fields plan.now).services lists.now; first = 0 }) }
         ensures most { IfOk result (λ s. packet_total s.packets ≤ 2 ^ 54) }

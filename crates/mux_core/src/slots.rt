@@ -17,7 +17,7 @@ use service_plan::Plan;
 /// The packet of a slot: that of the INT in the first slots of a cycle, else that of the service whose turn it is.
 fn take_packet(
     plan: &Plan,
-    services: &mut Services,
+    services: &mut Services<'_>,
     table: &mut TablePackets,
     slot: u64,
 ) -> [u8; 188]
@@ -41,7 +41,7 @@ fn take_packet(
 /// Writes the records of all slots, and answers how many they are.
 pub(crate) fn put_slots<K: Sink>(
     plan: &Plan,
-    services: &mut Services,
+    services: &mut Services<'_>,
     table: &mut TablePackets,
     sink: &mut K,
 ) -> Result<u64, Failed>

@@ -15,8 +15,7 @@ ghost use Rattle.mux_core.specs.Slots.{is_early};
 ghost use Rattle.wire_spec.specs.Bytes.{AreBytes};
 ghost use Rattle.mux_core.specs.Tables.{IsTableAt, packet_of_table};
 
-use crate::lanes::UnitPackets;
-use crate::units::Units;
+use crate::packets::{UnitPackets, Units};
 use addr_rules::{Rule, RuleList};
 use int_table::{IntEntry, IntTable};
 use ip_datagram::IpAddress;

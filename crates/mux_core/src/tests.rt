@@ -229,6 +229,38 @@ fn streams_are_these_packets(rt: HostRuntime) -> Result<(), Fail> {
     Ok(())
 }
 
+/// Two of the longest SNDUs, which do not stand in the buffer together: the second begins behind the last 20 bytes of the first.
+#[test]
+fn the_longest_units_follow_one_another(rt: HostRuntime) -> Result<(), Fail> {
+    let alloc = rt.alloc();
+    let Ok(plan) = read_plan(alloc, ULE) else {
+        return Err(Fail::new("settings"));
+    };
+    let mut sink = MemSink::new(alloc, 131072, &[])?;
+    let sent = Sent {
+        packets: 361,
+        datagrams: 2,
+    };
+    assert_eq!(rt;
+        send(alloc, &plan, [(32757, B), (32757, B)], &mut sink)?,
+        Ok(sent)
+    );
+    assert_eq!(rt; sink.bytes().len(), 67868);
+    let pieces: [(usize, &[u8]); 5] = [
+        (33840, &[0x47, 0x42, 1, 0x12, 20]),
+        (33865, &[0x7F, 0xFF, 8, 0, 1, 0, 0x5E]),
+        (33872, &[2, 0, 1, 0x45, 0, 0x7F, 0xF5]),
+        (67680, &[0x47, 2, 1, 0x14]),
+        (67724, &[0xFF, 0xFF]),
+    ];
+    for (place, piece) in pieces {
+        for i in 0..piece.len() {
+            assert_eq!(rt; sink.bytes().get(place.saturating_add(i)), Some(&piece[i]));
+        }
+    }
+    Ok(())
+}
+
 /// A sink that fails, or is full, ends the stream with a prefix of it.
 #[test]
 fn a_sink_that_fails_ends_the_stream(rt: HostRuntime) -> Result<(), Fail> {

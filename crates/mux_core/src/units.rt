@@ -1,12 +1,9 @@
-//! The datagrams of a service -> its units, one behind another.
+//! A datagram of a service -> its unit.
 ghost use Rattle.std.specs.Prelude.{◌≡◌, ℕ, ◌+◌, ◌*◌, ◌<◌, ◌≤◌, ◌^◌, ◌++◌, List, true, length, take, drop, map, All, IfOk};
-ghost use Rattle.wire_spec.specs.Datagram.{IsDatagram};
-ghost use Rattle.unit_stream.specs.Packing.{byte_count};
-ghost use Rattle.plan_spec.specs.Route.{longest_of};
 ghost use Rattle.stream_spec.specs.Units.{ether_type_of};
 ghost use Rattle.stream_law.specs.Words.{is_of_units};
 ghost use Rattle.service_plan.specs.Parts.{kind_seen};
-ghost use Rattle.mux_core.specs.Units.{unit_of, HoldUnits, IsFor, AreFor};
+ghost use Rattle.mux_core.specs.Units.{unit_of, unit_bytes, ends_from, IsFor, AreFor};
 
 use addr_rules::mac_of;
 use ip_datagram::{DatagramList, destination};
@@ -15,20 +12,15 @@ use service_plan::{Kind, Service};
 use std::alloc::{AllocError as OutOfMemory, Global};
 
 /// Bytes of a unit beside its datagram at most: the head and the CRC_32 of a datagram_section (EN 301 192 clause 7.1).
-const BESIDE: usize = 16;
+pub(crate) const BESIDE: usize = 16;
+
+/// Bytes of an SNDU beside its datagram and its NPA address: D, Length, Type and the CRC-32 (RFC 4326 section 4).
+const BESIDE_SNDU: usize = 8;
 
 /// EtherType of IPv4 and of IPv6.
 const IPV4: u16 = 0x0800;
 
 const IPV6: u16 = 0x86DD;
-
-/// Units that stand one behind another in a buffer, which may be longer.
-#[derive(Drop)]
-pub(crate) struct Units {
-    pub(crate) bytes: Vec<u8>,
-    /// Where each of them ends.
-    pub(crate) ends: Vec<usize>,
-}
 
 /// EtherType of a datagram.
 fn ether_type(datagram: &[u8]) -> u16
@@ -59,7 +51,7 @@ fn write_unit(service: &Service, datagram: &[u8], into: &mut [u8]) -> usize
 }
 
 /// Writes the unit of a datagram to a place of `into`; answers its length.
-fn put_unit(service: &Service, datagram: &[u8], at: usize, into: &mut [u8]) -> usize
+pub(crate) fn put_unit(service: &Service, datagram: &[u8], at: usize, into: &mut [u8]) -> usize
     requires built { is_of_units (kind_seen service.now.kind) ≡ true }
     requires datagram { IsFor (kind_seen service.now.kind) datagram.now }
     requires room { at + (length datagram.now + 16) ≤ length into.old }
@@ -70,45 +62,48 @@ fn put_unit(service: &Service, datagram: &[u8], at: usize, into: &mut [u8]) -> u
     write_unit(service, datagram, &mut into[at..])
 }
 
-/// Bytes that the units of these datagrams have at most.
-fn room_for(datagrams: &DatagramList) -> usize
-    requires few { length datagrams.now < 2 ^ 32 }
-    requires short { All (λ datagram. length datagram ≤ 32757) datagrams.now }
-    ensures read { result ≡ byte_count datagrams.now + 16 * length datagrams.now }
-    ensures most { result ≤ 32773 * length datagrams.now }
+/// Bytes of the NPA address of a service.
+fn address_size(unicast: &[u8; 6]) -> usize
+    ensures read { result ≡ 6 }
+    ensures size { length unicast.now ≡ 6 }
 {
-    let mut room = 0;
-    for place in 0..datagrams.len() {
-        room += datagrams.at(place).len() + BESIDE;
+    unicast.len()
+}
+
+/// Bytes of the unit of a datagram.
+fn unit_size(service: &Service, datagram: &[u8]) -> usize
+    requires built { is_of_units (kind_seen service.now.kind) ≡ true }
+    requires datagram { IsFor (kind_seen service.now.kind) datagram.now }
+    ensures size { result ≡ length (unit_of (kind_seen service.now.kind) service.now.unicast datagram.now) }
+    ensures most { result ≤ 32773 }
+{
+    let npa = address_size(&service.unicast);
+    match service.kind {
+        Kind::Ule { address, .. } => {
+            datagram.len() + BESIDE_SNDU + if address { npa } else { 0 }
+        }
+        Kind::Mpe { .. } => datagram.len() + BESIDE,
+        Kind::Fec { .. } | Kind::Gse { .. } => unreachable!(),
     }
-    room
 }
 
-/// So many zeros.
-fn zeros(alloc: Global, count: usize) -> Result<Vec<u8>, OutOfMemory>
-    ensures size { IfOk result (λ bytes. length bytes.items ≡ count) }
-{
-    vec![in alloc; 0u8; count]
-}
-
-/// The units of datagrams that the service takes, one of each.
-pub(crate) fn units_of(
+/// Where the units end, one behind another, of datagrams that the service takes.
+pub(crate) fn ends_of(
     alloc: Global,
     service: &Service,
     datagrams: &DatagramList,
-) -> Result<Units, OutOfMemory>
+) -> Result<Vec<usize>, OutOfMemory>
     requires built { is_of_units (kind_seen service.now.kind) ≡ true }
     requires datagrams { AreFor (kind_seen service.now.kind) datagrams.now }
     requires few { length datagrams.now < 2 ^ 32 }
-    ensures written { IfOk result (λ units. HoldUnits (map (unit_of (kind_seen service.now.kind) service.now.unicast) datagrams.now) units.bytes.items units.ends.items) }
-    ensures most { IfOk result (λ units. length units.bytes.items ≤ 32773 * length datagrams.now) }
+    ensures written { IfOk result (λ ends. ends.items ≡ ends_from 0 (map (unit_of (kind_seen service.now.kind) service.now.unicast) datagrams.now)) }
+    ensures most { IfOk result (λ _. length (unit_bytes (kind_seen service.now.kind) service.now.unicast datagrams.now) ≤ 32773 * length datagrams.now) }
 {
-    let mut bytes = zeros(alloc, room_for(datagrams))?;
-    let mut ends = Vec::new(alloc);
+    let mut ends = Vec::with_capacity(alloc, datagrams.len())?;
     let mut end = 0;
     for place in 0..datagrams.len() {
-        end += put_unit(service, datagrams.at(place), end, &mut bytes);
+        end += unit_size(service, datagrams.at(place));
         ends.push(end)?;
     }
-    Ok(Units { bytes, ends })
+    Ok(ends)
 }

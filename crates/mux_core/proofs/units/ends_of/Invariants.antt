@@ -1,0 +1,12 @@
+-- The ends of the units so far.
+use Rattle.std.proofs.Common.{◌≡◌, ◌*◌, ◌≤◌, length, map, take}
+use Rattle.service_plan.specs.Parts.{kind_seen}
+use Rattle.mux_core.specs.Units.{unit_of, unit_bytes, ends_from}
+use Rattle.mux_core.proofs.units.ends_of.Given as goal
+
+abbrev pub invariant-loop-place : goal.invariant-loop-place
+invariant-loop-place l = record {
+  ends : l.ends.items ≡ ends_from 0 (map (unit_of (kind_seen l.service.kind) l.service.unicast) (take l.place l.datagrams));
+  end : l.end ≡ length (unit_bytes (kind_seen l.service.kind) l.service.unicast (take l.place l.datagrams));
+  most : l.end ≤ 32773 * l.place;
+}

@@ -1,0 +1,126 @@
+//! The units of a service, written one behind another into a small buffer as they are due.
+ghost use Rattle.std.specs.Prelude.{◌≡◌, ◌+◌, ◌-◌, ◌≤◌, ◌<◌, true, false, length, take, drop, min, IfOk};
+ghost use Rattle.service_plan.specs.Parts.{kind_seen};
+ghost use Rattle.mux_core.specs.Units.{unit_bytes};
+ghost use Rattle.mux_core.specs.Windows.{IsWindow};
+
+use crate::units::{BESIDE, put_unit};
+use ip_datagram::DatagramList;
+use service_plan::Service;
+use std::alloc::{AllocError as OutOfMemory, Global};
+
+/// Bytes of the buffer, in which the longest unit, of 32,773 bytes, has room behind what is left of others.
+const SIZE: usize = 65536;
+
+/// Bytes that a packet carries at most (ISO/IEC 13818-1 clause 2.4.3.2).
+const PAYLOAD: usize = 184;
+
+/// Some of the units of a service, one behind another: from bytes that are not out to the last unit that was written.
+#[derive(Drop)]
+pub(crate) struct Window {
+    buffer: Vec<u8>,
+    /// The place of the buffer's first byte among the bytes of all units.
+    pub(crate) from: usize,
+    /// How many bytes of the buffer are of units.
+    fill: usize,
+    /// How many units were written.
+    count: usize,
+}
+
+/// So many zeros.
+fn zeros(alloc: Global, count: usize) -> Result<Vec<u8>, OutOfMemory>
+    ensures size { IfOk result (λ bytes. length bytes.items ≡ count) }
+{
+    vec![in alloc; 0u8; count]
+}
+
+impl Window {
+    ghost use Rattle.std.specs.Prelude.{◌≡◌, ◌+◌, ◌-◌, ◌≤◌, ◌<◌, true, false, length, take, drop, min, IfOk};
+    ghost use Rattle.service_plan.specs.Parts.{kind_seen};
+    ghost use Rattle.mux_core.specs.Units.{unit_bytes};
+    ghost use Rattle.mux_core.specs.Windows.{IsWindow};
+
+    /// Before the first unit.
+    pub(crate) fn new(alloc: Global) -> Result<Window, OutOfMemory>
+        ensures empty { IfOk result (λ window. (window.from ≡ 0) × (window.fill ≡ 0) × (window.count ≡ 0)) }
+        ensures size { IfOk result (λ window. length window.buffer.items ≡ 65536) }
+    {
+        Ok(Window {
+            buffer: zeros(alloc, SIZE)?,
+            from: 0,
+            fill: 0,
+            count: 0,
+        })
+    }
+
+    /// The bytes of units.
+    pub(crate) fn bytes(&self) -> &[u8]
+        requires { self.now.fill ≤ length self.now.buffer.items }
+        ensures read { result.now ≡ take self.now.fill self.now.buffer.items }
+    {
+        &self.buffer[..self.fill]
+    }
+
+    /// Forgets the bytes before this place.
+    fn begin_at(&mut self, at: usize)
+        requires at { (self.old.from ≤ at) × (at ≤ self.old.from + self.old.fill) }
+        requires fits { self.old.fill ≤ length self.old.buffer.items }
+        ensures from { self.new.from ≡ at }
+        ensures fill { self.new.from + self.new.fill ≡ self.old.from + self.old.fill }
+        ensures count { self.new.count ≡ self.old.count }
+        ensures size { length self.new.buffer.items ≡ length self.old.buffer.items }
+        ensures kept { take self.new.fill self.new.buffer.items ≡ drop (at - self.old.from) (take self.old.fill self.old.buffer.items) }
+    {
+        let out = at - self.from;
+        self.buffer.copy_within(out..self.fill, 0);
+        self.from = at;
+        self.fill -= out;
+    }
+
+    /// Writes the next unit where it has room, or answers false.
+    fn write_next(&mut self, service: &Service, datagrams: &DatagramList) -> bool
+        requires window { IsWindow (kind_seen service.now.kind) service.now.unicast datagrams.now self.old }
+        requires more { self.old.count < length datagrams.now }
+        ensures window { IsWindow (kind_seen service.now.kind) service.now.unicast datagrams.now self.new }
+        ensures from { self.new.from ≡ self.old.from }
+        ensures count { result ≡ true → self.new.count ≡ self.old.count + 1 }
+        ensures full { result ≡ false → 184 ≤ self.new.fill }
+    {
+        let datagram = datagrams.at(self.count);
+        if self.buffer.len() - self.fill < datagram.len() + BESIDE {
+            return false;
+        }
+        self.fill += put_unit(service, datagram, self.fill, &mut self.buffer);
+        self.count += 1;
+        true
+    }
+
+    /// Writes units as long as they have room.
+    fn write_units(&mut self, service: &Service, datagrams: &DatagramList)
+        requires window { IsWindow (kind_seen service.now.kind) service.now.unicast datagrams.now self.old }
+        ensures window { IsWindow (kind_seen service.now.kind) service.now.unicast datagrams.now self.new }
+        ensures from { self.new.from ≡ self.old.from }
+        ensures full { self.new.count < length datagrams.now → 184 ≤ self.new.fill }
+    {
+        while self.count < datagrams.len() {
+            if !self.write_next(service, datagrams) {
+                return;
+            }
+        }
+    }
+
+    /// Writes further units where the buffer lacks some of the next 184 bytes behind those that are out.
+    pub(crate) fn reach(&mut self, service: &Service, datagrams: &DatagramList, at: usize)
+        requires window { IsWindow (kind_seen service.now.kind) service.now.unicast datagrams.now self.old }
+        requires at { (self.old.from ≤ at) × (at ≤ self.old.from + self.old.fill) }
+        ensures window { IsWindow (kind_seen service.now.kind) service.now.unicast datagrams.now self.new }
+        ensures before { self.new.from ≤ at }
+        ensures reach { min (at + 184) (length (unit_bytes (kind_seen service.now.kind) service.now.unicast datagrams.now)) ≤ self.new.from + self.new.fill }
+    {
+        if self.count == datagrams.len() || at + PAYLOAD <= self.from + self.fill {
+            return;
+        }
+        self.begin_at(at);
+        self.write_units(service, datagrams);
+    }
+}
