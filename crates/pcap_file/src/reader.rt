@@ -45,6 +45,7 @@ impl CaptureReader {
         ensures read { IfOk result (λ reader. (head : List ℕ) × Consumes (S.left source.old) (S.left source.new) head × HasRead reader head []) }
         ensures opened { IfOk result (λ reader. reader.is_open ≡ true) }
         ensures refused { IfErr result (λ e. OnOpenFault e (λ fault. IfSome (S.left source.old) (λ bytes. Tells bytes [] (Some fault)))) }
+        ensures head { IfErr result (λ e. OnOpenFault e (λ fault. IfSome (S.left source.old) (λ bytes. head_fault bytes ≡ Some fault))) }
         ensures cut { IfErr result (λ e. OnOpenFault e (λ fault. is_cut fault ≡ true → S.ended source.new ≡ true)) }
         ensures cause { HasOpenCause (S.faults source.old) (S.faults source.new) result }
     {

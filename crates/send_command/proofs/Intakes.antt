@@ -1,24 +1,25 @@
 -- What was read and offered, with one record more, and at its end.
-use Rattle.std.proofs.Common.{◌≡◌, inl, inr, ℕ, ◌+◌, ◌-◌, ◌<◌, ◌≤◌, ◌^◌, true, List, [], ◌∷◌, ◌++◌, length, map, Option, Some, None, IfSome, option_map, refl, ap, sym, ◌∙◌, subst, arith}
+use Rattle.std.proofs.Common.{◌≡◌, ℕ, ◌+◌, ◌-◌, ◌<◌, ◌≤◌, ◌^◌, true, List, [], ◌∷◌, ◌++◌, length, map, is_some, if◌then◌else◌, Option, Some, None, IfSome, option_map, refl, ap, sym, ◌∙◌, subst, arith}
 use Rattle.std.specs.Io.KnownBytes.{Consumes}
 use Rattle.std.proofs.lemmas.List.{map_push, length-map, length_push}
-use Rattle.pcap_file.specs.Reading.{link_at, most_records}
-use Rattle.pcap_file.specs.Told.{Tells}
+use Rattle.pcap_file.specs.Reading.{head_fault, link_at, most_records}
+use Rattle.pcap_file.specs.Told.{Tells, place_of_fault}
 use Rattle.pcap_file.specs.Known.{ReaderState}
 use Rattle.pcap_file.specs.Reader.{HasRead}
 use Rattle.pcap_file.specs.Captured.{captured_datagram}
 use Rattle.pcap_file.specs.declared.captured.LinkType.{LinkType}
 use Rattle.pcap_file.specs.declared.faults.CaptureFault.{CaptureFault}
-use Rattle.pcap_file.proofs.FileHeads.{link_at-append, head_is_whole}
+use Rattle.pcap_file.proofs.FileHeads.{head_fault-append, link_at-append, head_is_whole}
+use Rattle.pcap_file.proofs.Longest.{Tells-nothing}
 use Rattle.plan_spec.specs.Plan.{PlanFields}
 use Rattle.plan_spec.specs.Offered.{Records}
 use Rattle.stream_law.specs.Captures.{datagram_in, given_by}
 use Rattle.offered_datagrams.specs.Offering.{IsOffered, HasRoom}
 use Rattle.offered_datagrams.specs.declared.offered.Offered.{Offered}
 use Rattle.mux_core.specs.Sending.{IsUnderPlan}
-use Rattle.send_command.specs.Sending.{IsPlace}
 use Rattle.send_command.specs.Gathering.{IsIntake, IsGathered}
 use Rattle.send_command.specs.declared.gather.Gathered.{Gathered}
+use Rattle.send_command.specs.declared.gather.PlacedFault.{PlacedFault}
 use Rattle.std.specs.Prelude.{Result, Ok, Err}
 use Rattle.pcap_file.specs.declared.faults.CaptureFault.TheVariants as cut
 use Rattle.send_command.specs.declared.gather.Next.{Next}
@@ -96,10 +97,19 @@ pub by_told : (a : Option (List ℕ)) (P Q : List ℕ → Type 0) → ((bytes : 
 by_told None P Q f h = tt
 by_told (Some xs) P Q f h = f xs h
 
+-- behind a right head a fault is in the record behind those that are told
+place_behind_records : (front rest : List ℕ) (captured : List (List ℕ)) → head_fault front ≡ None → place_of_fault (front ++ rest) captured ≡ length captured + 1
+place_behind_records front rest captured right =
+    ap (λ (f : Option CaptureFault). if is_some f then 0 else length captured + 1) (head_fault-append front rest (head_is_whole front right) ∙ right)
+
+placed : (o : Option PlacedFault) (m n : ℕ) → m ≡ n → IfSome o (λ found. found.place ≡ m) → IfSome o (λ found. found.place ≡ n)
+placed None m n same at = tt
+placed (Some found) m n same at = at ∙ same
+
 -- all of a capture was offered
 pub gathered_all : (plan : PlanFields) (reader : ReaderState) (offer : Offered) (front : List ℕ) (captured : List (List ℕ)) (a b : Option (List ℕ)) (g : Gathered)
     → IsIntake plan reader offer front captured → Consumes a b front
-    → IfSome b (λ rest. Tells (front ++ rest) captured (option_map (λ found. found.fault) g.fault)) → g.offered ≡ offer → IfSome g.fault (λ found. IsPlace found.place captured)
+    → IfSome b (λ rest. Tells (front ++ rest) captured (option_map (λ found. found.fault) g.fault)) → g.offered ≡ offer → IfSome g.fault (λ found. found.place ≡ length captured + 1)
     → IfSome a (λ bytes. IsGathered plan bytes g)
 gathered_all plan reader offer front captured a b g intake read told same at =
     by_rest a b front (λ bytes. IsGathered plan bytes g) read
@@ -109,21 +119,28 @@ gathered_all plan reader offer front captured a b g intake read told same at =
       told = tells;
       offered = subst (λ (o : Offered). IsOffered plan (given_by (front ++ rest) captured) o) (sym same)
           (subst (λ (records : Records). IsOffered plan records offer) (sym (given_by-append front rest captured (head_is_whole front intake.has_read.capture.head))) intake.offered);
-      at = at;
+      places = placed g.fault (length captured + 1) (place_of_fault (front ++ rest) captured) (sym (place_behind_records front rest captured intake.has_read.capture.head)) at;
     })
     told)
 
 -- the head of a capture has a fault
-pub gathered_none : (plan : PlanFields) (fault : CaptureFault) (offer : Offered) (a : Option (List ℕ)) → IsOffered plan [] offer → IfSome a (λ bytes. Tells bytes [] (Some fault))
+pub gathered_none : (plan : PlanFields) (fault : CaptureFault) (offer : Offered) (a : Option (List ℕ)) → IsOffered plan [] offer → IfSome a (λ bytes. head_fault bytes ≡ Some fault)
     → IfSome a (λ bytes. IsGathered plan bytes (record { offered = offer; fault = Some (record { fault = fault; place = 0 }) }))
-gathered_none plan fault offer a stands told =
+gathered_none plan fault offer a stands head =
     let g : Gathered = record { offered = offer; fault = Some (record { fault = fault; place = 0 }) } in
-    by_told a (λ bytes. Tells bytes [] (Some fault)) (λ bytes. IsGathered plan bytes g)
-    (λ bytes tells. record { captured = []; told = tells; offered = stands; at = inl (refl, refl) }) told
+    by_told a (λ bytes. head_fault bytes ≡ Some fault) (λ bytes. IsGathered plan bytes g)
+    (λ bytes is. record {
+      captured = [];
+      told = Tells-nothing bytes fault is;
+      offered = stands;
+      places = sym (ap (λ (f : Option CaptureFault). if is_some f then 0 else length {A = List ℕ} [] + 1) is);
+    })
+    head
 
 -- the place of a fault behind the records
-pub place_behind : (reader : ReaderState) (front : List ℕ) (captured : List (List ℕ)) (place : ℕ) → HasRead reader front captured → place ≡ reader.records + 1 → IsPlace place captured
-place_behind reader front captured place read e = inr (e ∙ ap (λ n. n + 1) read.count)
+pub place_behind : (reader : ReaderState) (front : List ℕ) (captured : List (List ℕ)) (place : ℕ) → HasRead reader front captured → place ≡ reader.records + 1
+    → place ≡ length captured + 1
+place_behind reader front captured place read e = e ∙ ap (λ n. n + 1) read.count
 
 -- a record more, and the reader is nearer to its last
 pub nearer : (plan : PlanFields) (old new : ReaderState) (before offer : Offered) (front piece : List ℕ) (captured : List (List ℕ)) (bytes : List ℕ)

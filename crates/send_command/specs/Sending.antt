@@ -2,7 +2,7 @@
 use Rattle.std.specs.Prelude.{◌≡◌, ◌⊎◌, ℕ, ◌+◌, Bool, true, false, List, [], length, take, Option, Some, None, ⊤}
 use Rattle.std.specs.Io.KnownBytes.{Appends}
 use Rattle.wire_spec.specs.Lists.{joined}
-use Rattle.pcap_file.specs.Told.{Tells}
+use Rattle.pcap_file.specs.Told.{Tells, place_of_fault}
 use Rattle.pcap_file.specs.declared.faults.CaptureFault.{CaptureFault}
 use Rattle.plan_spec.specs.Plan.{PlanFields}
 use Rattle.plan_spec.specs.Offered.{offered}
@@ -18,10 +18,6 @@ pub record IsSendOf (plan : PlanFields) (bytes : List ℕ) (captured : List (Lis
   pub told : Tells bytes captured fault
   pub stream_is : IsStream plan (offered plan (given_by bytes captured)) stream
 
--- where a fault is: in the head, and no record is told, or in the record behind those that are told
-abbrev pub IsPlace : ℕ → List (List ℕ) → Type 0
-IsPlace place captured = ((place ≡ 0) × (captured ≡ [])) ⊎ (place ≡ length captured + 1)
-
 -- a capture without fault: all of its stream was written, and these are the numbers
 pub record SendsAll (plan : PlanFields) (bytes : List ℕ) (tally : Tally) (old new : Option (List ℕ)) : Type 0 where
   pub captured : List (List ℕ)
@@ -36,7 +32,7 @@ pub record SendsToFault (plan : PlanFields) (bytes : List ℕ) (fault : CaptureF
   pub stream : List (List ℕ)
   pub is : IsSendOf plan bytes captured (Some fault) stream
   pub written : Appends old new (joined stream)
-  pub at : IsPlace place captured
+  pub place_is : place ≡ place_of_fault bytes captured
 
 -- a capture with or without fault: a front of its stream was written
 pub record SendsFront (plan : PlanFields) (bytes : List ℕ) (old new : Option (List ℕ)) : Type 0 where

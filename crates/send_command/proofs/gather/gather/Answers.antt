@@ -3,7 +3,7 @@ use Rattle.std.proofs.KnownBytes.{Consumes-trans}
 use Rattle.service_plan.specs.PlanView.{plan_fields}
 use Rattle.offered_datagrams.specs.declared.offered.Offered.{Offered}
 use Rattle.mux_core.specs.Sending.{IsUnderPlan}
-use Rattle.send_command.proofs.Intakes.{nearer, gathered_all, intake_under, place_behind}
+use Rattle.send_command.proofs.Intakes.{nearer, gathered_none, gathered_all, intake_under, place_behind}
 use Rattle.send_command.proofs.gather.gather.Goals as goal
 
 pub records-smaller : goal.records-smaller
@@ -54,3 +54,8 @@ pub returns-in-Ok-Fault-clause-offered : goal.returns-in-Ok-Fault-clause-offered
 returns-in-Ok-Fault-clause-offered g c =
     subst (λ (o : Offered). IsUnderPlan (plan_fields c.args.plan.now) o) (sym (c.in-Ok-Fault.ensures.kept_fault c.in-Ok-Fault.fault (ap (λ n. Ok n) c.in-Ok-Fault.field-0-is)))
     (intake_under (plan_fields c.args.plan.now) c.records.reader c.records.offered c.records.invariant.0 c.records.invariant.1 c.records.invariant.2.intake)
+
+pub returns-in-Err-Capture-clause-told : goal.returns-in-Err-Capture-clause-told
+returns-in-Err-Capture-clause-told g c =
+    gathered_none (plan_fields c.args.plan.now) c.in-Err-Capture.fault c.in-Ok.offered (g.I.Source.left c.args.input.now) c.in-Ok.ensures.stands
+    (rw c.in-Err-Capture.field-0-is at c.in-Err-Capture.ensures.head)
