@@ -1,5 +1,5 @@
 -- The files of services: a capture for each, in the order of the services.
-use Rattle.std.specs.Prelude.{◌≡◌, ◌⊎◌, ℕ, ◌<◌, Bool, false, List, [], ◌∷◌, ◌++◌, length, take, map, codes, if◌then◌else◌, Option, None, Some, ⊤}
+use Rattle.std.specs.Prelude.{◌≡◌, ◌⊎◌, ℕ, ◌+◌, ◌<◌, Bool, false, List, [], ◌∷◌, ◌++◌, length, take, drop, map, codes, if◌then◌else◌, All, Option, None, Some, ⊤}
 use Rattle.wire_spec.specs.Content.{File, AddsFile, Stays}
 use Rattle.ts_spec.specs.Recording.{Record}
 use Rattle.plan_spec.specs.Plan.{ServiceFields}
@@ -67,3 +67,19 @@ file_of name bytes = record { name = file_name name; bytes = bytes; flushed = 0 
 -- no file was added, or one of that name with a prefix of its head
 abbrev pub AddsPart : List ℕ → Option (List File) → Option (List File) → Type 0
 AddsPart name old new = Stays old new ⊎ ((n : ℕ) × AddsFile old new (file_of name (take n capture_head)))
+
+-- nothing of these files is flushed
+abbrev pub AreUnflushed : List File → Type 0
+AreUnflushed files = All (λ file. file.flushed ≡ 0) files
+
+-- of the files that were added, nothing is flushed behind the first ones, which are so many
+abbrev pub UnflushedFrom : ℕ → Option (List File) → Option (List File) → Type 0
+UnflushedFrom count None new = ⊤
+UnflushedFrom count (Some old) None = ⊥
+UnflushedFrom count (Some old) (Some new) = AreUnflushed (drop (length old + count) new)
+
+-- not all files of so many services are flushed: behind the first ones, which are fewer, nothing is
+pub record IsUnflushed (services : ℕ) (old new : Option (List File)) : Type 0 where
+  pub count : ℕ
+  pub fewer : count < services
+  pub unflushed : UnflushedFrom count old new

@@ -4,7 +4,7 @@ ghost use Rattle.wire_spec.specs.Causes.{Rose, RoseBy, raised};
 ghost use Rattle.ts_spec.specs.Recording.{record_size, Record as ReadRecord};
 ghost use Rattle.service_plan.specs.PlanView.{plan_fields};
 ghost use Rattle.demux_core.specs.Receiving.{HasReceived};
-ghost use Rattle.receive_command.specs.Files.{AddsHeads};
+ghost use Rattle.receive_command.specs.Files.{AddsHeads, IsUnflushed};
 ghost use Rattle.receive_command.specs.Flushes.{Flush};
 ghost use Rattle.receive_command.specs.Reading.{most_records};
 ghost use Rattle.receive_command.specs.Ends.{WritesWhole, EndsFront, EndsAtLimit, EndsPart};
@@ -52,6 +52,7 @@ pub(crate) fn write_captures<I: Source, R: Rack>(
     ensures front { result ≡ CapturesEnd.SourceFault → EndsFront (plan_fields plan.now) (I.left input.old) (I.left input.new) (R.files rack.old) (R.files rack.new) }
     ensures limit { result ≡ CapturesEnd.TooLong → EndsAtLimit (plan_fields plan.now) (I.left input.old) (I.left input.new) (R.files rack.old) (R.files rack.new) }
     ensures part { result ≡ CapturesEnd.RackFault → EndsPart (plan_fields plan.now) (I.left input.old) (I.left input.new) (R.files rack.old) (R.files rack.new) }
+    ensures unflushed { result ≡ CapturesEnd.RackFault → IsUnflushed (length (plan_fields plan.now).services) (R.files rack.old) (R.files rack.new) }
     ensures memory { result ≡ CapturesEnd.OutOfMemory → (input.new ≡ input.old) × ((heads : AddsHeads (plan_fields plan.now).services (R.files rack.old) (R.files rack.new))
         × (R.count rack.new ≡ R.count rack.old + heads.count)) }
     ensures source { result ≡ CapturesEnd.SourceFault → Rose (I.faults input.old) (I.faults input.new) }
@@ -87,7 +88,7 @@ fn end_captures<R: Rack>(
     ensures received { (records : List ReadRecord) → HasReceived (plan_fields plan.now) records receiver.old → HasReceived (plan_fields plan.now) records receiver.new }
     ensures tail { (bytes : ℕ) → result ≡ CapturesEnd.Whole bytes → tail ≡ bytes }
     ensures flushed { (bytes : ℕ) → result ≡ CapturesEnd.Whole bytes → Flush (R.files rack.old) (R.files rack.new) first (first + length plan.now.services) }
-    ensures stopped { result ≡ CapturesEnd.RackFault → (count : ℕ) × (count ≤ length plan.now.services) × Flush (R.files rack.old) (R.files rack.new) first (first + count) }
+    ensures stopped { result ≡ CapturesEnd.RackFault → (count : ℕ) × (count < length plan.now.services) × Flush (R.files rack.old) (R.files rack.new) first (first + count) }
     ensures file { result ≡ CapturesEnd.RackFault → Rose (R.faults rack.old) (R.faults rack.new) }
     ensures kinds { (result ≡ CapturesEnd.Whole tail) ⊎ (result ≡ CapturesEnd.RackFault) }
 {

@@ -5,7 +5,7 @@ ghost use Rattle.wire_spec.specs.Content.{Stays, AddsFile};
 ghost use Rattle.ipe_io.specs.Counts.{HasAddCause};
 ghost use Rattle.pcap_file.specs.Capture.{capture_head};
 ghost use Rattle.service_plan.specs.Parts.{service_seen};
-ghost use Rattle.receive_command.specs.Files.{file_name as name_of_file, file_of, AddsPart, AddsCaptures, AddsHeads, AddsParts, head_of};
+ghost use Rattle.receive_command.specs.Files.{file_name as name_of_file, file_of, AddsPart, AddsCaptures, AddsHeads, AddsParts, UnflushedFrom, head_of};
 ghost use Rattle.receive_command.specs.Flushes.{Flush};
 
 use ipe_io::{AddFault, Failed, OutOfMemory, Rack, put_file};
@@ -59,6 +59,7 @@ pub(crate) fn add_files<R: Rack>(
     ensures count { OnOk result (R.count rack.new ≡ R.count rack.old + length services.now) }
     ensures written { OnOk result (AddsCaptures false head_of (map service_seen services.now) (R.files rack.old) (R.files rack.new)) }
     ensures failed { IsErrOf result AddFault.Failed → AddsParts head_of (map service_seen services.now) (R.files rack.old) (R.files rack.new) }
+    ensures unflushed { IsErrOf result AddFault.Failed → UnflushedFrom 0 (R.files rack.old) (R.files rack.new) }
     ensures memory { IsErrOf result AddFault.OutOfMemory → (heads : AddsHeads (map service_seen services.now) (R.files rack.old) (R.files rack.new))
         × (R.count rack.new ≡ R.count rack.old + heads.count) }
     ensures cause { HasAddCause (R.faults rack.old) (R.faults rack.new) result }
@@ -81,7 +82,7 @@ pub(crate) fn flush_files<R: Rack>(rack: &mut R, first: u32, services: u32) -> R
     requires there { first + services ≤ R.count rack.old }
     requires places { first + services ≤ 2 ^ 32 }
     ensures flushed { OnOk result (Flush (R.files rack.old) (R.files rack.new) first (first + services)) }
-    ensures stopped { OnErr result ((count : ℕ) × (count ≤ services) × Flush (R.files rack.old) (R.files rack.new) first (first + count)) }
+    ensures stopped { OnErr result ((count : ℕ) × (count < services) × Flush (R.files rack.old) (R.files rack.new) first (first + count)) }
     ensures cause { HasCause (R.faults rack.old) (R.faults rack.new) result }
 {
     for k in 0..services {

@@ -7,7 +7,7 @@ ghost use Rattle.service_plan.specs.PlanView.{plan_fields};
 ghost use Rattle.ipe_io.specs.Counts.{IsFlushed};
 ghost use Rattle.loss_report.specs.Names.{IsServiceName};
 ghost use Rattle.demux_core.specs.Receiving.{are_built, HasReceived};
-ghost use Rattle.receive_command.specs.Files.{AddsHeads};
+ghost use Rattle.receive_command.specs.Files.{AddsHeads, IsUnflushed};
 ghost use Rattle.receive_command.specs.Reading.{most_records};
 ghost use Rattle.receive_command.specs.Ends.{EndsWhole, EndsFront, EndsAtLimit, EndsPart, EndsReported, EndsInReport, Reports, ReportsPart};
 
@@ -55,6 +55,7 @@ pub fn receive<I: Source, O: Sink, R: Rack>(
     ensures front { result ≡ ReceiveEnd.SourceFault → EndsFront (plan_fields plan.now) (I.left input.old) (I.left input.new) (R.files rack.old) (R.files rack.new) }
     ensures limit { result ≡ ReceiveEnd.TooLong → EndsAtLimit (plan_fields plan.now) (I.left input.old) (I.left input.new) (R.files rack.old) (R.files rack.new) }
     ensures part { result ≡ ReceiveEnd.RackFault → EndsPart (plan_fields plan.now) (I.left input.old) (I.left input.new) (R.files rack.old) (R.files rack.new) }
+    ensures unflushed { result ≡ ReceiveEnd.RackFault → IsUnflushed (length (plan_fields plan.now).services) (R.files rack.old) (R.files rack.new) }
     ensures report { result ≡ ReceiveEnd.SinkFault → EndsInReport (plan_fields plan.now) (I.left input.old) (I.left input.new) (R.files rack.old) (R.files rack.new) (O.held output.old) (O.held output.new) }
     ensures memory { result ≡ ReceiveEnd.OutOfMemory → ((input.new ≡ input.old) × AddsHeads (plan_fields plan.now).services (R.files rack.old) (R.files rack.new))
         ⊎ EndsWhole (plan_fields plan.now) (I.left input.old) (I.left input.new) (R.files rack.old) (R.files rack.new) }

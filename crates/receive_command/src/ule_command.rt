@@ -3,6 +3,7 @@ ghost use Rattle.std.specs.Prelude.{◌≡◌, ℕ, ◌*◌, ◌<◌, ◌≤◌,
 ghost use Rattle.wire_spec.specs.Causes.{Rose, RoseBy, raised};
 ghost use Rattle.wire_spec.specs.Content.{Stays};
 ghost use Rattle.plan_spec.specs.Given.{plan_of_pid};
+ghost use Rattle.receive_command.specs.Files.{IsUnflushed};
 ghost use Rattle.receive_command.specs.Reading.{most_records};
 ghost use Rattle.receive_command.specs.Ends.{EndsWhole, EndsFront, EndsAtLimit, EndsPart};
 
@@ -39,6 +40,7 @@ pub fn ule<I: Source, R: Rack>(alloc: Global, pid: u16, input: &mut I, rack: &mu
     ensures front { result ≡ UleEnd.SourceFault → EndsFront (plan_of_pid pid) (I.left input.old) (I.left input.new) (R.files rack.old) (R.files rack.new) }
     ensures limit { result ≡ UleEnd.TooLong → EndsAtLimit (plan_of_pid pid) (I.left input.old) (I.left input.new) (R.files rack.old) (R.files rack.new) }
     ensures part { result ≡ UleEnd.RackFault → EndsPart (plan_of_pid pid) (I.left input.old) (I.left input.new) (R.files rack.old) (R.files rack.new) }
+    ensures unflushed { result ≡ UleEnd.RackFault → IsUnflushed 1 (R.files rack.old) (R.files rack.new) }
     ensures memory { result ≡ UleEnd.OutOfMemory → (input.new ≡ input.old) × (R.count rack.new ≡ R.count rack.old) × Stays (R.files rack.old) (R.files rack.new) }
     ensures source { result ≡ UleEnd.SourceFault → Rose (I.faults input.old) (I.faults input.new) }
     ensures file { result ≡ UleEnd.RackFault → Rose (R.faults rack.old) (R.faults rack.new) }

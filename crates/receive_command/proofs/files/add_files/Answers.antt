@@ -8,6 +8,7 @@ use Rattle.plan_spec.specs.Plan.{ServiceFields}
 use Rattle.service_plan.specs.Parts.{service_seen}
 use Rattle.receive_command.specs.Files.{file_of, head_of, AddsPart}
 use Rattle.receive_command.proofs.Adding.{adds_none, captures_next, parts_of_next, heads_of_next}
+use Rattle.receive_command.proofs.Unflushed.{unflushed_next}
 use Rattle.receive_command.proofs.files.add_files.Goals as goal
 
 pub returns-in-Err-clause-failed : goal.returns-in-Err-clause-failed
@@ -16,6 +17,11 @@ returns-in-Err-clause-failed g c = λ e.
     (slice_get-map service_seen c.args.services.now 0 ∙ ap (option_map service_seen) c.at.ensures.read)
     (adds_none (g.R.Rack.files c.args.rack.now))
     (subst (λ (n : List ℕ). AddsPart n (g.R.Rack.files c.args.rack.now) (g.R.Rack.files c.add_file.new.rack)) c.text.ensures.read (c.in-Err.ensures.failed e))
+
+pub returns-in-Err-clause-unflushed : goal.returns-in-Err-clause-unflushed
+returns-in-Err-clause-unflushed g c = λ e.
+    unflushed_next (map service_seen c.args.services.now) 0 c.text.result.now (g.R.Rack.files c.args.rack.now) (g.R.Rack.files c.args.rack.now) (g.R.Rack.files c.add_file.new.rack)
+    (adds_none (g.R.Rack.files c.args.rack.now)) (c.in-Err.ensures.failed e)
 
 pub loop-k-init : goal.loop-k-init
 loop-k-init g c = record {
@@ -35,6 +41,11 @@ returns-in-Err-add_file-clause-failed g c = λ e.
     (slice_get-map service_seen c.args.services.now c.loop-k.k ∙ ap (option_map service_seen) c.at-in-loop-k.ensures.read)
     c.loop-k.invariant.added
     (subst (λ (n : List ℕ). AddsPart n (g.R.Rack.files c.loop-k.rack) (g.R.Rack.files c.add_file-in-loop-k.new.rack)) c.text-in-loop-k.ensures.read (c.in-Err-add_file.ensures.failed e))
+
+pub returns-in-Err-add_file-clause-unflushed : goal.returns-in-Err-add_file-clause-unflushed
+returns-in-Err-add_file-clause-unflushed g c = λ e.
+    unflushed_next (map service_seen c.args.services.now) c.loop-k.k c.text-in-loop-k.result.now (g.R.Rack.files c.args.rack.now) (g.R.Rack.files c.loop-k.rack) (g.R.Rack.files c.add_file-in-loop-k.new.rack)
+    c.loop-k.invariant.added (c.in-Err-add_file.ensures.failed e)
 
 pub loop-k-preserved : goal.loop-k-preserved
 loop-k-preserved g c = record {
