@@ -1,5 +1,5 @@
 -- The words that form a command name one PID.
-use Rattle.std.proofs.Common.{◌≡◌, ◌⊎◌, inl, inr, ℕ, List, refl, ap, sym, subst, ◌∙◌, ◌≢◌, Bor}
+use Rattle.std.proofs.Common.{◌≡◌, ◌⊎◌, inl, inr, ℕ, List, refl, ap, sym, subst, ◌∙◌, Bor}
 use Rattle.std.specs.Str.Parse.{digits_value}
 use Rattle.command_words.specs.Words.{AsksWith, AsksForUle, AsksForCheck, AsksForSend, AsksForReceive, IsNoCommand}
 use Rattle.ipencap_engine.specs.Words.{IsNoBuiltCommand, AsksToDo}

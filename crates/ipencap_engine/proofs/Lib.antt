@@ -1,14 +1,9 @@
-pub mod Texts
-pub mod Units
-pub mod Writing
-pub mod Records
-pub mod Advance
-pub mod Adding
-pub mod Cuts
+pub mod Pieces
+pub mod Longer
+pub mod OnePid
 pub mod Commands
 pub mod Lines
 pub mod Losses
-pub mod Checked
 pub mod Sending
 pub mod Receiving
 pub mod Kept

@@ -6,8 +6,7 @@ use Rattle.ts_spec.specs.Recording.{Record, plain, records_of}
 use Rattle.pcap_file.specs.Capture.{capture_text}
 use Rattle.carriage_law.proofs.Datagrams.{delivered_numbers, delivered_include_intact, delivered_are, delivered_were_sent}
 use Rattle.ts_record.proofs.Cuts.{one_cut}
-use Rattle.ipencap_engine.specs.Reading.{delivered_in}
-use Rattle.ipencap_engine.specs.Files.{AddsCapture, AddsPrefix, AddsPart, file_of}
+use Rattle.ipencap_engine.specs.Files.{delivered_in, AddsCapture, AddsPrefix, AddsPart, file_of}
 use Rattle.ipencap_engine.specs.Loss.{CarriesUle, IsRecorded, DeliversIntact, KeepsIntact, KeepsPart}
 
 module _ (pid : ℕ) (sent : List Record) (datagrams : List (List ℕ)) (carries : CarriesUle pid sent datagrams) (bytes : List ℕ)

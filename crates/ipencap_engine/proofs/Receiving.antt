@@ -1,7 +1,7 @@
 -- What `receive SETTINGS` makes of settings, and how it ends.
-use Rattle.std.proofs.Common.{◌≡◌, ◌⊎◌, inl, inr, ℕ, ◌*◌, ◌+◌, ◌^◌, ◌≤◌, Bool, true, false, List, [], ◌∷◌, map, refl, ap, sym, subst, ◌∙◌, ◌≢◌, arith, Option, Some, None, IfSome}
+use Rattle.std.proofs.Common.{◌≡◌, ◌⊎◌, inl, inr, ℕ, ◌*◌, true, List, [], ◌∷◌, refl, ap, sym, subst, ◌∙◌, ◌≢◌, arith, Option, Some, IfSome}
 use Rattle.std.specs.List.{list_all}
-use Rattle.wire_spec.specs.Causes.{Rose, RoseBy}
+use Rattle.wire_spec.specs.Causes.{RoseBy}
 use Rattle.wire_spec.specs.Content.{File}
 use Rattle.ts_spec.specs.Recording.{RecordingForm, plain, stamped, m2ts, record_size}
 use Rattle.plan_spec.specs.Plan.{KindFields, ule, mpe, fec, gse, PlanFields}
@@ -13,7 +13,7 @@ use Rattle.stream_law.specs.Words.{is_of_units}
 use Rattle.demux_core.specs.Receiving.{is_built}
 use Rattle.receive_command.specs.Files.{AddsHeads}
 use Rattle.receive_command.specs.Ends.{EndsWhole}
-use Rattle.ipencap_engine.specs.Reading.{most_records}
+use Rattle.receive_command.specs.Reading.{most_records}
 use Rattle.ipencap_engine.specs.Statuses.{IsOfReceive, IsOutcomeOfReceive, status_of}
 use Rattle.ipencap_engine.specs.Send.{IsPlanInUse}
 use Rattle.ipencap_engine.specs.Receive.{most_bytes, LacksMemory, before_records, before_report}

@@ -2,8 +2,10 @@
 use Rattle.std.specs.Prelude.{◌≡◌, ◌⊎◌, ℕ, ◌+◌, ◌*◌, ◌<◌, ◌≤◌, List, length, take, drop, Option, Some, codes}
 use Rattle.wire_spec.specs.Lists.{IsCut}
 use Rattle.wire_spec.specs.Content.{File, AddsFile, Stays}
+use Rattle.ts_spec.specs.Recording.{plain, records_of}
+use Rattle.carriage_spec.specs.Delivered.{delivered_by_ule}
 use Rattle.pcap_file.specs.Capture.{capture_text}
-use Rattle.ipencap_engine.specs.Reading.{delivered_in, most_records}
+use Rattle.receive_command.specs.Reading.{most_records}
 
 -- the name of the one file
 abbrev pub file_name : List ℕ
@@ -12,6 +14,10 @@ file_name = codes "ule.pcap"
 -- the file with these bytes, of which so many were flushed
 abbrev pub file_of : List ℕ → ℕ → File
 file_of bytes flushed = record { name = file_name; bytes = bytes; flushed = flushed }
+
+-- the datagrams that the packets of a plain recording deliver on a PID
+abbrev pub delivered_in : ℕ → List (List ℕ) → List (List ℕ)
+delivered_in pid packets = delivered_by_ule pid (records_of plain packets)
 
 -- no file was added, or the one file with a prefix of the text
 abbrev pub AddsPart : Option (List File) → Option (List File) → List ℕ → Type 0

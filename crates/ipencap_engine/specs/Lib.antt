@@ -1,11 +1,8 @@
 pub mod Words
-pub mod Delivery
-pub mod Reading
 pub mod Files
 pub mod Statuses
 pub mod Check
 pub mod Send
 pub mod Receive
 pub mod Kept
-pub mod Outcome
 pub mod Loss

@@ -3,7 +3,7 @@ ghost use Rattle.std.specs.Prelude.{◌≡◌, ◌≢◌, ◌⊎◌, ◌≤◌, 
 ghost use Rattle.wire_spec.specs.Causes.{Rose, RoseBy};
 ghost use Rattle.plan_spec.specs.Plan.{PlanFields};
 ghost use Rattle.settings_file.specs.Settings.{Refusal, IsAcceptedFile};
-ghost use Rattle.ipencap_engine.specs.Reading.{most_records};
+ghost use Rattle.receive_command.specs.Reading.{most_records};
 ghost use Rattle.ipencap_engine.specs.Statuses.{IsOutcomeOfReceive, refusal_in, status_of};
 ghost use Rattle.ipencap_engine.specs.Send.{unbuilt_fault, IsRefusedForUse};
 ghost use Rattle.ipencap_engine.specs.Receive.{EndsReceive, most_bytes};

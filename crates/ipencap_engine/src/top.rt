@@ -12,20 +12,20 @@ ghost use Rattle.send_command.specs.Lines.{tally_line, fault_line};
 ghost use Rattle.send_command.specs.declared.ends.Tally.{Tally};
 ghost use Rattle.settings_file.specs.Settings.{Refusal, IsAcceptedFile, IsRefusedFile};
 ghost use Rattle.ipencap_engine.specs.Words.{AsksForSettings, IsBuiltCommand, IsNoBuiltCommand};
-ghost use Rattle.ipencap_engine.specs.Reading.{most_records};
+ghost use Rattle.receive_command.specs.Reading.{most_records};
 ghost use Rattle.ipencap_engine.specs.Files.{AddsCapture, AddsPrefix, AddsFront};
 ghost use Rattle.ipencap_engine.specs.Loss.{CarriesUle, IsRecorded, KeepsIntact, KeepsPart};
 ghost use Rattle.ipencap_engine.specs.Check.{ListsPlan, ListsPart, ComplainsOfFile};
 ghost use Rattle.ipencap_engine.specs.Send.{unbuilt_fault, IsRefusedForUse, SendsWhole, SendsBefore, SendsPart, ComplainsOfUse, end_of_capture};
 ghost use Rattle.ipencap_engine.specs.Receive.{EndsReceive, most_bytes};
-ghost use Rattle.ipencap_engine.specs.Kept.{KeepsEach};
+ghost use Rattle.ipencap_engine.specs.Kept.{KeepsEach, KeepsApart, KeepsParts, StopsReceiving};
 ghost use Rattle.ipencap_engine.specs.Statuses.{IsOfUle, IsOfCheck, IsOfSend, IsOfReceive, Complains, status_line};
 
 use crate::check::check;
 use crate::receive::receive_recording;
 use crate::send::send_capture;
 use crate::status::{Outcome, Status, complain};
-use crate::ule::ule;
+use crate::ule::receive_pid;
 use crate::words::{Task, read_words};
 use command_words::WordsFault;
 use ipe_io::{Rack, Shelf, Sink, Source};
@@ -158,13 +158,17 @@ pub fn run<S: Shelf, I: Source, O: Sink, R: Rack, E: Sink>(
     ensures by_capture { (name capture : List ℕ) (records : List (List ℕ)) (fault : Option CaptureFault) → AsksForSend (map (λ word. string_bytes word) words.now) name → I.left input.old ≡ Some capture
         → Tells capture records fault → (result ≡ Status.Done) ⊎ (result ≡ Status.Capture) → result ≡ end_of_capture fault }
 
-    // `receive` writes the captures of the services and the report, and the loss law holds of each; where it refuses the settings,
-    // no file is added.
+    // `receive` writes the captures of the services and the report, the loss law holds of each, and none depends on the packets of
+    // others; where it refuses the settings, no file is added.
     ensures received { (name : List ℕ) → AsksForReceive (map (λ word. string_bytes word) words.now) name
         → EndsReceive result (S.file shelf.old name) (I.left input.old) (I.left input.new) (I.ended input.new) (I.taken input.old) (I.taken input.new)
         (R.files rack.old) (R.files rack.new) (O.held output.old) (O.held output.new) (O.flushed output.new) }
     ensures keeps { (name bytes : List ℕ) → AsksForReceive (map (λ word. string_bytes word) words.now) name → I.left input.old ≡ Some bytes → result ≡ Status.Done
         → KeepsEach (S.file shelf.old name) bytes (R.files rack.old) (R.files rack.new) }
+    ensures apart { (name bytes : List ℕ) → AsksForReceive (map (λ word. string_bytes word) words.now) name → I.left input.old ≡ Some bytes → result ≡ Status.Done
+        → KeepsApart (S.file shelf.old name) bytes (R.files rack.old) (R.files rack.new) }
+    ensures keeps_part { (name bytes : List ℕ) → AsksForReceive (map (λ word. string_bytes word) words.now) name → I.left input.old ≡ Some bytes → StopsReceiving result
+        → KeepsParts (S.file shelf.old name) bytes (R.files rack.old) (R.files rack.new) }
     ensures untouched { (result ≡ Status.Settings) ⊎ (result ≡ Status.ShelfFault) → rack.new ≡ rack.old }
 
     // Settings that `receive` refuses, where the shelf tells them.
@@ -184,7 +188,10 @@ pub fn run<S: Shelf, I: Source, O: Sink, R: Rack, E: Sink>(
         → Complains (E.held complaints.old) (E.held complaints.new) (E.faults complaints.old) (E.faults complaints.new) (status_line result) }
 {
     match read_words(alloc, words) {
-        Ok(Task::Ule(pid)) => complain(Outcome::Ended(ule(alloc, pid, input, rack)), complaints),
+        Ok(Task::Ule(pid)) => complain(
+            Outcome::Ended(receive_pid(alloc, pid, input, rack)),
+            complaints,
+        ),
         Ok(Task::Check(name)) => complain(check(alloc, name, shelf, output), complaints),
         Ok(Task::Send(name)) => {
             complain(send_capture(alloc, name, shelf, input, output), complaints)

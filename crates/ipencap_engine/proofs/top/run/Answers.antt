@@ -3,14 +3,14 @@ use Rattle.wire_spec.specs.Causes.{Rose}
 use Rattle.ipe_io.proofs.Told.{stays-refl}
 use Rattle.command_words.specs.Words.{asks_for_ule as ule_command, asks_for_check as check_command, asks_for_send as send_command, asks_for_receive as receive_command}
 use Rattle.ipencap_engine.specs.Words.{asks_for_ule, asks_for_check, asks_for_send, asks_for_receive}
-use Rattle.ipencap_engine.specs.Files.{AddsCapture, AddsPrefix}
-use Rattle.ipencap_engine.specs.Outcome.{EndsWhole, EndsFront, EndsAtLimit, EndsPart}
-use Rattle.ipencap_engine.proofs.Adding.{ends_head}
-use Rattle.ipencap_engine.proofs.Cuts.{capture_added, front_added, limit_added, prefix_added}
+use Rattle.receive_command.specs.Reading.{most_records}
+use Rattle.ipencap_engine.specs.Files.{AddsCapture, AddsPrefix, AddsFront}
+use Rattle.ipencap_engine.proofs.OnePid.{prefix_of_nothing}
 use Rattle.ipencap_engine.proofs.Commands.{one_pid, one_name, ule_asked, check_asked, send_asked, receive_asked, no_settings}
 use Rattle.ipencap_engine.proofs.Sending.{send_ends, end_is}
 use Rattle.ipencap_engine.proofs.Receiving.{receive_ends}
-use Rattle.ipencap_engine.proofs.Kept.{keeps_each}
+use Rattle.ipencap_engine.proofs.Kept.{keeps_each, keeps_apart, keeps_parts}
+use Rattle.ipencap_engine.specs.Kept.{StopsReceiving}
 use Rattle.ipencap_engine.specs.Receive.{EndsReceive, before_files}
 use Rattle.ipencap_engine.specs.declared.status.Status.{Status}
 use Rattle.ipencap_engine.specs.declared.status.Status.TheVariants.{Settings, ShelfFault, OutOfMemory}
@@ -25,40 +25,38 @@ returns-in-Ok-Ule-clause-command g c = λ n. ule_command c.in-Ok-Ule.pid (ule_as
 pub returns-in-Ok-Ule-clause-built : goal.returns-in-Ok-Ule-clause-built
 returns-in-Ok-Ule-clause-built g c = λ n m. asks_for_ule c.in-Ok-Ule.pid (ule_asked _ c.in-Ok-Ule.field-0 c.in-Ok-Ule.pid c.in-Ok-Ule.field-0-is c.in-Ok-Ule.ensures.read)
 
-pub returns-in-Ok-Ule-clause-loss : goal.returns-in-Ok-Ule-clause-loss
-returns-in-Ok-Ule-clause-loss g c = λ pid bytes sent datagrams carries recorded words told done.
-    let added : AddsCapture pid bytes (g.R.Rack.files c.args.rack.now) (g.R.Rack.files c.ule.new.rack) =
-    capture_added pid bytes (g.I.Source.left c.args.input.now) (g.I.Source.left c.ule.new.input) (g.R.Rack.files c.args.rack.now) (g.R.Rack.files c.ule.new.rack) told
-    (subst (λ (p : ℕ). EndsWhole p (g.I.Source.left c.args.input.now) (g.I.Source.left c.ule.new.input) (g.R.Rack.files c.args.rack.now) (g.R.Rack.files c.ule.new.rack))
-    (one_pid _ c.in-Ok-Ule.pid pid (ule_asked _ c.in-Ok-Ule.field-0 c.in-Ok-Ule.pid c.in-Ok-Ule.field-0-is c.in-Ok-Ule.ensures.read) words) (c.ule.ensures.done (sym c.complain.ensures.status ∙ done))) in
-    keeps_intact pid sent datagrams carries bytes recorded (g.R.Rack.files c.args.rack.now) (g.R.Rack.files c.ule.new.rack) added
+pub receive_pid-requires : goal.receive_pid-requires
+receive_pid-requires g c = (ule_asked _ c.in-Ok-Ule.field-0 c.in-Ok-Ule.pid c.in-Ok-Ule.field-0-is c.in-Ok-Ule.ensures.read).written.most
 
-pub returns-in-Ok-Ule-clause-loss_part : goal.returns-in-Ok-Ule-clause-loss_part
-returns-in-Ok-Ule-clause-loss_part g c = λ pid bytes sent datagrams carries recorded words told other.
-    let added : AddsPrefix pid bytes (g.R.Rack.files c.args.rack.now) (g.R.Rack.files c.ule.new.rack) =
-    prefix_added pid bytes (g.I.Source.left c.args.input.now) (g.I.Source.left c.ule.new.input) (g.R.Rack.files c.args.rack.now) (g.R.Rack.files c.ule.new.rack) told
-    (subst (λ (p : ℕ). EndsPart p (g.I.Source.left c.args.input.now) (g.I.Source.left c.ule.new.input) (g.R.Rack.files c.args.rack.now) (g.R.Rack.files c.ule.new.rack))
-    (one_pid _ c.in-Ok-Ule.pid pid (ule_asked _ c.in-Ok-Ule.field-0 c.in-Ok-Ule.pid c.in-Ok-Ule.field-0-is c.in-Ok-Ule.ensures.read) words) (c.ule.ensures.other (λ done. other (c.complain.ensures.status ∙ done)))) in
-    keeps_part pid sent datagrams carries bytes recorded (g.R.Rack.files c.args.rack.now) (g.R.Rack.files c.ule.new.rack) added
-
-pub returns-in-Ok-Ule-clause-front : goal.returns-in-Ok-Ule-clause-front
-returns-in-Ok-Ule-clause-front g c = λ pid bytes words told stopped.
-    let ends : EndsFront pid (g.I.Source.left c.args.input.now) (g.I.Source.left c.ule.new.input) (g.R.Rack.files c.args.rack.now) (g.R.Rack.files c.ule.new.rack) =
-    subst (λ (p : ℕ). EndsFront p (g.I.Source.left c.args.input.now) (g.I.Source.left c.ule.new.input) (g.R.Rack.files c.args.rack.now) (g.R.Rack.files c.ule.new.rack))
-    (one_pid _ c.in-Ok-Ule.pid pid (ule_asked _ c.in-Ok-Ule.field-0 c.in-Ok-Ule.pid c.in-Ok-Ule.field-0-is c.in-Ok-Ule.ensures.read) words) (c.ule.ensures.front (sym c.complain.ensures.status ∙ stopped)) in
-    (length ends.packets, front_added pid bytes (g.I.Source.left c.args.input.now) (g.I.Source.left c.ule.new.input) (g.R.Rack.files c.args.rack.now) (g.R.Rack.files c.ule.new.rack) told ends)
-
-pub returns-in-Ok-Ule-clause-limit : goal.returns-in-Ok-Ule-clause-limit
-returns-in-Ok-Ule-clause-limit g c = λ pid bytes words told long.
-    limit_added pid bytes (g.I.Source.left c.args.input.now) (g.I.Source.left c.ule.new.input) (g.R.Rack.files c.args.rack.now) (g.R.Rack.files c.ule.new.rack) told
-    (subst (λ (p : ℕ). EndsAtLimit p (g.I.Source.left c.args.input.now) (g.I.Source.left c.ule.new.input) (g.R.Rack.files c.args.rack.now) (g.R.Rack.files c.ule.new.rack))
-    (one_pid _ c.in-Ok-Ule.pid pid (ule_asked _ c.in-Ok-Ule.field-0 c.in-Ok-Ule.pid c.in-Ok-Ule.field-0-is c.in-Ok-Ule.ensures.read) words) (c.ule.ensures.limit (sym c.complain.ensures.status ∙ long)))
+pub returns-in-Ok-Ule-clause-written : goal.returns-in-Ok-Ule-clause-written
+returns-in-Ok-Ule-clause-written g c = λ pid bytes words told done.
+    subst (λ (p : ℕ). AddsCapture p bytes (g.R.Rack.files c.args.rack.now) (g.R.Rack.files c.receive_pid.new.rack))
+    (one_pid _ c.in-Ok-Ule.pid pid (ule_asked _ c.in-Ok-Ule.field-0 c.in-Ok-Ule.pid c.in-Ok-Ule.field-0-is c.in-Ok-Ule.ensures.read) words) (c.receive_pid.ensures.written bytes told (sym c.complain.ensures.status ∙ done))
 
 pub returns-in-Ok-Ule-clause-other : goal.returns-in-Ok-Ule-clause-other
 returns-in-Ok-Ule-clause-other g c = λ pid bytes words told other.
-    prefix_added pid bytes (g.I.Source.left c.args.input.now) (g.I.Source.left c.ule.new.input) (g.R.Rack.files c.args.rack.now) (g.R.Rack.files c.ule.new.rack) told
-    (subst (λ (p : ℕ). EndsPart p (g.I.Source.left c.args.input.now) (g.I.Source.left c.ule.new.input) (g.R.Rack.files c.args.rack.now) (g.R.Rack.files c.ule.new.rack))
-    (one_pid _ c.in-Ok-Ule.pid pid (ule_asked _ c.in-Ok-Ule.field-0 c.in-Ok-Ule.pid c.in-Ok-Ule.field-0-is c.in-Ok-Ule.ensures.read) words) (c.ule.ensures.other (λ done. other (c.complain.ensures.status ∙ done))))
+    subst (λ (p : ℕ). AddsPrefix p bytes (g.R.Rack.files c.args.rack.now) (g.R.Rack.files c.receive_pid.new.rack))
+    (one_pid _ c.in-Ok-Ule.pid pid (ule_asked _ c.in-Ok-Ule.field-0 c.in-Ok-Ule.pid c.in-Ok-Ule.field-0-is c.in-Ok-Ule.ensures.read) words) (c.receive_pid.ensures.other bytes told (λ done. other (c.complain.ensures.status ∙ done)))
+
+pub returns-in-Ok-Ule-clause-loss : goal.returns-in-Ok-Ule-clause-loss
+returns-in-Ok-Ule-clause-loss g c = λ pid bytes sent datagrams carries recorded words told done.
+    keeps_intact pid sent datagrams carries bytes recorded (g.R.Rack.files c.args.rack.now) (g.R.Rack.files c.receive_pid.new.rack)
+    (returns-in-Ok-Ule-clause-written g c pid bytes words told done)
+
+pub returns-in-Ok-Ule-clause-loss_part : goal.returns-in-Ok-Ule-clause-loss_part
+returns-in-Ok-Ule-clause-loss_part g c = λ pid bytes sent datagrams carries recorded words told other.
+    keeps_part pid sent datagrams carries bytes recorded (g.R.Rack.files c.args.rack.now) (g.R.Rack.files c.receive_pid.new.rack)
+    (returns-in-Ok-Ule-clause-other g c pid bytes words told other)
+
+pub returns-in-Ok-Ule-clause-front : goal.returns-in-Ok-Ule-clause-front
+returns-in-Ok-Ule-clause-front g c = λ pid bytes words told stopped.
+    subst (λ (p : ℕ). (count : ℕ) × AddsFront p count bytes (g.I.Source.left c.receive_pid.new.input) (g.R.Rack.files c.args.rack.now) (g.R.Rack.files c.receive_pid.new.rack))
+    (one_pid _ c.in-Ok-Ule.pid pid (ule_asked _ c.in-Ok-Ule.field-0 c.in-Ok-Ule.pid c.in-Ok-Ule.field-0-is c.in-Ok-Ule.ensures.read) words) (c.receive_pid.ensures.front bytes told (sym c.complain.ensures.status ∙ stopped))
+
+pub returns-in-Ok-Ule-clause-limit : goal.returns-in-Ok-Ule-clause-limit
+returns-in-Ok-Ule-clause-limit g c = λ pid bytes words told long.
+    subst (λ (p : ℕ). AddsFront p most_records bytes (g.I.Source.left c.receive_pid.new.input) (g.R.Rack.files c.args.rack.now) (g.R.Rack.files c.receive_pid.new.rack))
+    (one_pid _ c.in-Ok-Ule.pid pid (ule_asked _ c.in-Ok-Ule.field-0 c.in-Ok-Ule.pid c.in-Ok-Ule.field-0-is c.in-Ok-Ule.ensures.read) words) (c.receive_pid.ensures.limit bytes told (sym c.complain.ensures.status ∙ long))
 
 -- `check SETTINGS`
 
@@ -122,6 +120,18 @@ returns-in-Ok-Receive-clause-keeps g c = λ name bytes words told done.
     (g.O.Sink.held c.args.output.now) (g.O.Sink.held c.receive_recording.new.output) (g.O.Sink.flushed c.receive_recording.new.output) bytes told done
     (returns-in-Ok-Receive-clause-received g c name words)
 
+pub returns-in-Ok-Receive-clause-apart : goal.returns-in-Ok-Receive-clause-apart
+returns-in-Ok-Receive-clause-apart g c = λ name bytes words told done.
+    keeps_apart (g.S.Shelf.file c.args.shelf.now name) bytes (g.R.Rack.files c.args.rack.now) (g.R.Rack.files c.receive_recording.new.rack)
+    (returns-in-Ok-Receive-clause-keeps g c name bytes words told done)
+
+pub returns-in-Ok-Receive-clause-keeps_part : goal.returns-in-Ok-Receive-clause-keeps_part
+returns-in-Ok-Receive-clause-keeps_part g c = λ name bytes words told stops.
+    keeps_parts c.complain-in-Ok-Receive.result (g.S.Shelf.file c.args.shelf.now name) (g.I.Source.left c.args.input.now) (g.I.Source.left c.receive_recording.new.input)
+    (g.I.Source.ended c.receive_recording.new.input) (g.I.Source.taken c.args.input.now) (g.I.Source.taken c.receive_recording.new.input) (g.R.Rack.files c.args.rack.now) (g.R.Rack.files c.receive_recording.new.rack)
+    (g.O.Sink.held c.args.output.now) (g.O.Sink.held c.receive_recording.new.output) (g.O.Sink.flushed c.receive_recording.new.output) bytes told stops
+    (returns-in-Ok-Receive-clause-received g c name words)
+
 pub returns-in-Ok-Receive-clause-refused_for_receiving : goal.returns-in-Ok-Receive-clause-refused_for_receiving
 returns-in-Ok-Receive-clause-refused_for_receiving g c = λ name bytes refusal words told refuses.
     subst (λ (s : Status). (s ≡ Settings) ⊎ ((s ≡ ShelfFault) ⊎ (s ≡ OutOfMemory))) (sym c.complain-in-Ok-Receive.ensures.status)
@@ -142,7 +152,7 @@ returns-in-Ok-Receive-clause-receives g c = λ name bytes plan words told accept
 
 pub returns-in-Ok-Ule-clause-untouched : goal.returns-in-Ok-Ule-clause-untouched
 returns-in-Ok-Ule-clause-untouched g c = λ either.
-    absurd (no_settings c.ule.result c.ule.ensures.kinds (subst (λ (s : Status). (s ≡ Settings) ⊎ (s ≡ ShelfFault)) c.complain.ensures.status either))
+    absurd (no_settings c.receive_pid.result c.receive_pid.ensures.kinds (subst (λ (s : Status). (s ≡ Settings) ⊎ (s ≡ ShelfFault)) c.complain.ensures.status either))
 
 -- no command that is built
 
@@ -166,16 +176,14 @@ returns-in-Err-Usage-clause-complete g c = λ pid words a b d.
 pub returns-in-Err-OutOfMemory-clause-command : goal.returns-in-Err-OutOfMemory-clause-command
 returns-in-Err-OutOfMemory-clause-command g c = λ n. c.in-Err-OutOfMemory.ensures.memory (ap (λ f. Err f) c.in-Err-OutOfMemory.field-0-is)
 
+pub returns-in-Err-OutOfMemory-clause-other : goal.returns-in-Err-OutOfMemory-clause-other
+returns-in-Err-OutOfMemory-clause-other g c = λ pid bytes words told other.
+    prefix_of_nothing pid bytes (g.R.Rack.files c.args.rack.now) (g.R.Rack.files c.args.rack.now) (stays-refl (g.R.Rack.files c.args.rack.now))
+
 pub returns-in-Err-OutOfMemory-clause-loss_part : goal.returns-in-Err-OutOfMemory-clause-loss_part
 returns-in-Err-OutOfMemory-clause-loss_part g c = λ pid bytes sent datagrams carries recorded words told other.
     keeps_part pid sent datagrams carries bytes recorded (g.R.Rack.files c.args.rack.now) (g.R.Rack.files c.args.rack.now)
-    (prefix_added pid bytes (g.I.Source.left c.args.input.now) (g.I.Source.left c.args.input.now) (g.R.Rack.files c.args.rack.now) (g.R.Rack.files c.args.rack.now) told
-    (ends_head pid (g.I.Source.left c.args.input.now) (g.R.Rack.files c.args.rack.now) (g.R.Rack.files c.args.rack.now) (inl (stays-refl (g.R.Rack.files c.args.rack.now)))))
-
-pub returns-in-Err-OutOfMemory-clause-other : goal.returns-in-Err-OutOfMemory-clause-other
-returns-in-Err-OutOfMemory-clause-other g c = λ pid bytes words told other.
-    prefix_added pid bytes (g.I.Source.left c.args.input.now) (g.I.Source.left c.args.input.now) (g.R.Rack.files c.args.rack.now) (g.R.Rack.files c.args.rack.now) told
-    (ends_head pid (g.I.Source.left c.args.input.now) (g.R.Rack.files c.args.rack.now) (g.R.Rack.files c.args.rack.now) (inl (stays-refl (g.R.Rack.files c.args.rack.now))))
+    (returns-in-Err-OutOfMemory-clause-other g c pid bytes words told other)
 
 pub returns-in-Err-Usage-clause-received : goal.returns-in-Err-Usage-clause-received
 returns-in-Err-Usage-clause-received g c = λ name words.
@@ -187,3 +195,10 @@ returns-in-Err-OutOfMemory-clause-received g c = λ name words.
     (g.I.Source.taken c.args.input.now) (g.I.Source.taken c.args.input.now) (g.R.Rack.files c.args.rack.now) (g.R.Rack.files c.args.rack.now) (g.O.Sink.held c.args.output.now)
     (g.O.Sink.held c.args.output.now) (g.O.Sink.flushed c.args.output.now)) (sym c.complain-in-Err-OutOfMemory.ensures.status)
     (before_files refl refl (stays-refl (g.R.Rack.files c.args.rack.now)))
+
+pub returns-in-Err-OutOfMemory-clause-keeps_part : goal.returns-in-Err-OutOfMemory-clause-keeps_part
+returns-in-Err-OutOfMemory-clause-keeps_part g c = λ name bytes words told stops. absurd (subst StopsReceiving c.complain-in-Err-OutOfMemory.ensures.status stops)
+
+pub returns-in-Err-Usage-clause-keeps_part : goal.returns-in-Err-Usage-clause-keeps_part
+returns-in-Err-Usage-clause-keeps_part g c = λ name bytes words told stops.
+    absurd ((c.in-Err-Usage.ensures.usage (ap (λ f. Err f) c.in-Err-Usage.field-0-is)).no_receive name words)
