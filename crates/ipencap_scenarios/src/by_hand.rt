@@ -1,9 +1,10 @@
 //! SNDUs and packets by hand -> a recording, the run of `ule 256` over it, and the file that it must write.
 //!
 //! No code of the program builds them: the CRC-32 of each SNDU was computed apart, over the polynomial 0x04C11DB7.
-use ipe_io::{MemRack, MemShelf, MemSink, MemSource};
-use ipencap_engine::{Status, run};
+use crate::runs::{faultless, ran};
+use ipencap_engine::Status;
 use std::alloc::Global;
+use std::process::Abort;
 use std::test::Fail;
 
 /// An SNDU: its bytes before the datagram, the datagram's length and mark, and the CRC-32.
@@ -126,40 +127,28 @@ pub fn written(alloc: Global, stream: &[Sndu], packets: &[Packet]) -> Result<Vec
     receive(alloc, &recording)
 }
 
+/// The file that `ule 256` writes for each case is the one that it must be.
+pub fn all_come(rt: &impl Abort, alloc: Global, cases: &[Case<'_>]) -> Result<(), Fail> {
+    for case in cases {
+        let want = capture_of(alloc, case.want)?;
+        let got = written(alloc, case.stream, case.packets)?;
+        assert_eq!(rt; got, want, "{}", case.name);
+    }
+    Ok(())
+}
+
 /// The file that `ule 256` writes for a recording: the one of the rack, and flushed.
 fn receive(alloc: Global, recording: &[u8]) -> Result<Vec<u8>, Fail> {
-    let mut input = MemSource::new(alloc, recording, 100, &[])?;
-    let mut rack = MemRack::new(alloc, 1, 10_000, &[])?;
-    if obey(alloc, &mut input, &mut rack)? != Status::Done {
+    let ended = ran(alloc, &faultless(&["ule", "256"], &[], recording))?;
+    if ended.status != Status::Done {
         Err("not done")?;
     }
-    if rack.files() != 1 {
+    if ended.rack.files() != 1 {
         Err("not one file")?;
     }
-    if rack.name(0) != "ule.pcap" || rack.flushed(0) != rack.file(0).len() {
+    let file = ended.rack.file(0);
+    if ended.rack.name(0) != "ule.pcap" || ended.rack.flushed(0) != file.len() {
         Err("another name, or not flushed")?;
     }
-    Ok(Vec::from_slice(alloc, rack.file(0))?)
-}
-
-/// Runs the program with the words `ule 256`.
-fn obey(alloc: Global, input: &mut MemSource, rack: &mut MemRack) -> Result<Status, Fail> {
-    let words = words(alloc)?;
-    let mut shelf = MemShelf::new(alloc, "plan", &[], &[])?;
-    let mut output = MemSink::new(alloc, 0, &[])?;
-    let mut complaints = MemSink::new(alloc, 0, &[])?;
-    Ok(run(
-        alloc,
-        &words,
-        &mut shelf,
-        input,
-        &mut output,
-        rack,
-        &mut complaints,
-    ))
-}
-
-/// The words behind the program's name.
-fn words(alloc: Global) -> Result<Vec<String>, Fail> {
-    Ok(vec![in alloc; "ule".to_string(alloc)?, "256".to_string(alloc)?]?)
+    Ok(Vec::from_slice(alloc, file)?)
 }

@@ -1,5 +1,5 @@
 //! A unit that is hurt, and its neighbours. The heads of packets are those of `tests`.
-use crate::by_hand::{Case, LAST, LONG, NEXT, SHORT, Sndu, capture_of, written};
+use crate::by_hand::{Case, LAST, LONG, NEXT, SHORT, Sndu, all_come};
 use std::test::Fail;
 
 // SHORT with another CRC-32, and with a Length that is 1 too much.
@@ -123,10 +123,5 @@ fn a_hurt_unit_is_not_delivered_and_its_neighbours_are(rt: HostRuntime) -> Resul
             want: &[SHORT, LAST],
         },
     ];
-    for case in &cases {
-        let want = capture_of(rt.alloc(), case.want)?;
-        let got = written(rt.alloc(), case.stream, case.packets)?;
-        assert_eq!(rt; got, want, "{}", case.name);
-    }
-    Ok(())
+    all_come(&rt, rt.alloc(), &cases)
 }

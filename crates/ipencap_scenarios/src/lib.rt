@@ -1,16 +1,37 @@
-//! Whole recordings by hand through the program: packets -> [ipencap_engine] -> the file `ule.pcap`.
+//! The program's public call over objects in memory: what is given -> [ipencap_engine] -> what is left.
 //!
-//! Tests alone, over objects in memory. Begin with `tests`; `by_hand` builds the recordings and the files.
+//! Tests alone. Begin with `runs`, which has the one call of `run`. `by_hand` and `small` build recordings and captures without the
+//! program's code, `pair` what is sent, damaged on its way and received.
 //! `packing_tests` looks at packets that are sent: SNDUs -> [unit_stream] -> packets.
 #![tactic(auto)]
 
 #[cfg(test)]
 mod by_hand;
 #[cfg(test)]
+mod check_tests;
+#[cfg(test)]
 mod damage_tests;
+#[cfg(test)]
+mod fault_tests;
 #[cfg(test)]
 mod header_tests;
 #[cfg(test)]
+mod losses;
+#[cfg(test)]
 mod packing_tests;
 #[cfg(test)]
+mod pair;
+#[cfg(test)]
+mod pair_tests;
+#[cfg(test)]
+mod receive_tests;
+#[cfg(test)]
+mod runs;
+#[cfg(test)]
+mod send_tests;
+#[cfg(test)]
+mod small;
+#[cfg(test)]
 mod tests;
+#[cfg(test)]
+mod ule_tests;

@@ -2,7 +2,7 @@
 //!
 //! The 4 bytes of a packet's head tell payload_unit_start_indicator (0x40 of byte 1), the PID (256 is 0x100) and the
 //! continuity counter (the low half of byte 3); the fifth is the pointer.
-use crate::by_hand::{Case, LONG, NEXT, OTHER, SHORT, Sndu, capture_of, written};
+use crate::by_hand::{Case, LONG, NEXT, OTHER, SHORT, Sndu, all_come};
 use std::test::Fail;
 
 // SNDUs that leave two bytes of their second packet, one, and none.
@@ -74,12 +74,7 @@ fn sixteen_lost_packets_hide_from_the_counter(rt: HostRuntime) -> Result<(), Fai
             want: &[NEXT],
         },
     ];
-    for case in &cases {
-        let want = capture_of(rt.alloc(), case.want)?;
-        let got = written(rt.alloc(), case.stream, case.packets)?;
-        assert_eq!(rt; got, want, "{}", case.name);
-    }
-    Ok(())
+    all_come(&rt, rt.alloc(), &cases)
 }
 
 /// RFC 4326 section 6: Length is not split, so that no SNDU starts at the last byte. A pointer past the end is bad.
@@ -139,12 +134,7 @@ fn pointers_lead_to_the_last_bytes_of_a_packet(rt: HostRuntime) -> Result<(), Fa
             want: &[NEXT],
         },
     ];
-    for case in &cases {
-        let want = capture_of(rt.alloc(), case.want)?;
-        let got = written(rt.alloc(), case.stream, case.packets)?;
-        assert_eq!(rt; got, want, "{}", case.name);
-    }
-    Ok(())
+    all_come(&rt, rt.alloc(), &cases)
 }
 
 /// Only what can be read of PID 256 counts, and a discontinuity indicator cuts a unit.
@@ -201,10 +191,5 @@ fn packets_of_others_lie_between(rt: HostRuntime) -> Result<(), Fail> {
             want: &[NEXT],
         },
     ];
-    for case in &cases {
-        let want = capture_of(rt.alloc(), case.want)?;
-        let got = written(rt.alloc(), case.stream, case.packets)?;
-        assert_eq!(rt; got, want, "{}", case.name);
-    }
-    Ok(())
+    all_come(&rt, rt.alloc(), &cases)
 }
