@@ -13,4 +13,4 @@ mod tests;
 
 pub use continuity::{Continuity, Link};
 pub use laws::{null_packet_is_read, written_packets_are_read};
-pub use packet::{Packet, PacketFault, parse, write_null, write_packet};
+pub use packet::{Packet, PacketFault, parse, write_header, write_null, write_packet};

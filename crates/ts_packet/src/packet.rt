@@ -1,5 +1,5 @@
 //! Packets of 188 bytes: fields are read, or the first test that fails is named; packets are written.
-ghost use Rattle.std.specs.Prelude.{◌≡◌, ℕ, ◌≤◌, ◌++◌, length, Some, None, MatchResult, IfOk, is_ok};
+ghost use Rattle.std.specs.Prelude.{◌≡◌, ℕ, ◌≤◌, length, drop, Some, None, MatchResult, IfOk, is_ok};
 ghost use Rattle.ts_spec.specs.Packet.{fields_of, is_packet, packet_bytes, null_packet};
 ghost use Rattle.ts_packet.specs.Fields.{fields_in, refusal};
 
@@ -123,14 +123,23 @@ pub fn write_packet(into: &mut [u8; 188], pid: u16, starts: bool, counter: u8, p
     requires counter { counter ≤ 15 }
     ensures written { into.new ≡ packet_bytes pid starts counter payload.now }
 {
+    write_header(into, pid, starts, counter);
+    into[4..].copy_from_slice(payload);
+}
+
+/// Writes bytes 0 to 3 of the packet with these fields, without an adaptation field; the 184 bytes behind them stay.
+///
+/// For a caller that writes the payload to its place itself.
+pub fn write_header(into: &mut [u8; 188], pid: u16, starts: bool, counter: u8)
+    requires pid { pid ≤ 8191 }
+    requires counter { counter ≤ 15 }
+    ensures written { into.new ≡ packet_bytes pid starts counter (drop 4 into.old) }
+{
     let start = if starts { START } else { 0 };
-    let head = [
-        SYNC,
-        start + (pid / 256) as u8,
-        (pid % 256) as u8,
-        PAYLOAD_ALONE + counter,
-    ];
-    put(into, &head, payload);
+    into[0] = SYNC;
+    into[1] = start + (pid / 256) as u8;
+    into[2] = (pid % 256) as u8;
+    into[3] = PAYLOAD_ALONE + counter;
 }
 
 /// Writes the null packet (clause 2.4.3.3): PID 0x1FFF, counter 0, a payload of bytes FF.
@@ -138,12 +147,4 @@ pub fn write_null(into: &mut [u8; 188])
     ensures written { into.new ≡ null_packet }
 {
     write_packet(into, NULL_PID, false, 0, &[FILL; 184]);
-}
-
-/// Writes a header and the payload behind it.
-fn put(into: &mut [u8; 188], head: &[u8; 4], payload: &[u8; 184])
-    ensures { into.new ≡ head.now ++ payload.now }
-{
-    into[..4].copy_from_slice(head);
-    into[4..].copy_from_slice(payload);
 }

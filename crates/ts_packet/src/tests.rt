@@ -1,5 +1,5 @@
 //! Packets by hand, after ISO/IEC 13818-1 clause 2.4.3.2.
-use crate::{Continuity, Link, PacketFault, parse, write_null, write_packet};
+use crate::{Continuity, Link, PacketFault, parse, write_header, write_null, write_packet};
 
 /// A packet with these first bytes, and bytes FF behind them.
 fn packet(front: [u8; 6]) -> [u8; 188] {
@@ -100,6 +100,9 @@ fn packets_are_written(rt: HostRuntime) {
         write_packet(&mut bytes, pid, starts, counter, &payload);
         assert!(rt; bytes == packet(front), "at {front:?}");
     }
+    // a header alone: the payload of the last packet stays
+    write_header(&mut bytes, 0x0100, false, 1);
+    assert!(rt; bytes == packet([0x47, 0x01, 0x00, 0x11, 0x00, 0x42]));
     write_null(&mut bytes);
     assert!(rt; bytes == packet([0x47, 0x1F, 0xFF, 0x10, 0xFF, 0xFF]));
 }
