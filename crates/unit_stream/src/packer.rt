@@ -1,14 +1,17 @@
 //! Packetization: units that stand one after another come in, and the packets that carry them go out.
-ghost use Rattle.std.specs.Prelude.{◌≡◌, ◌≤◌, ◌<◌, ℕ, ◌+◌, ◌==◌, ◌&&◌, ◌||◌, ◌++◌, List, length, take, drop, nat_le, true, if◌then◌else◌, IfSome};
+ghost use Rattle.std.specs.Prelude.{◌≡◌, ◌≤◌, ◌<◌, ℕ, ◌+◌, ◌-◌, ◌==◌, ◌&&◌, ◌||◌, ◌++◌, List, length, take, replicate, nat_le, true, if◌then◌else◌, IfSome};
 ghost use Rattle.unit_stream.specs.Packers.{AreRising, end_of, units_of};
 ghost use Rattle.unit_stream.specs.Packing.{packetized};
 ghost use Rattle.unit_stream.specs.Parts.{NextPart, Fills, IsPart, payload_with};
 
 use crate::form::UnitForm;
 use std::marker::{Model, PhantomData};
-use ts_packet::write_packet;
+use ts_packet::write_header;
 
-/// Bytes of a payload (ISO/IEC 13818-1 clause 2.4.3.2).
+/// Bytes of a packet's header (ISO/IEC 13818-1 clause 2.4.3.2).
+const HEADER: usize = 4;
+
+/// Bytes of a payload (clause 2.4.3.2).
 const PAYLOAD: usize = 184;
 
 /// Bytes of a payload behind pointer_field (clause 2.4.4.2).
@@ -105,28 +108,27 @@ fn next_part<F: UnitForm>(ends: &[usize], begun: usize, at: usize, packing: bool
     })
 }
 
-/// A payload that carries these bytes, behind a pointer where a unit begins in it.
-fn payload_of(starts: bool, pointer: usize, bytes: &[u8]) -> [u8; 184]
+/// Writes to its place in a packet the payload that carries these bytes, behind a pointer where a unit begins in it.
+fn write_payload(into: &mut [u8; 188], starts: bool, pointer: usize, bytes: &[u8])
     requires pointer { starts ≡ true → pointer ≤ 183 }
     requires room { length bytes.now ≤ (if starts then 183 else 184) }
-    ensures { result ≡ payload_with starts pointer bytes.now }
+    ensures { into.new ≡ take 4 into.old ++ payload_with starts pointer bytes.now }
 {
-    let mut payload = [STUFFING; PAYLOAD];
     if starts {
-        payload[0] = pointer as u8;
-        copy_at(&mut payload, 1, bytes);
+        into[HEADER] = pointer as u8;
+        write_stuffed(&mut into[HEADER + 1..], bytes);
     } else {
-        copy_at(&mut payload, 0, bytes);
+        write_stuffed(&mut into[HEADER..], bytes);
     }
-    payload
 }
 
-/// Copies these bytes to a place of a buffer.
-fn copy_at(into: &mut [u8], at: usize, bytes: &[u8])
-    requires { at + length bytes.now ≤ length into.old }
-    ensures { into.new ≡ take at into.old ++ (bytes.now ++ drop (at + length bytes.now) into.old) }
+/// Writes these bytes to the front of a buffer, and bytes FF to what is left of it.
+fn write_stuffed(into: &mut [u8], bytes: &[u8])
+    requires { length bytes.now ≤ length into.old }
+    ensures { into.new ≡ bytes.now ++ replicate (length into.old - length bytes.now) 0xFF }
 {
-    into[at..at + bytes.len()].copy_from_slice(bytes);
+    into[..bytes.len()].copy_from_slice(bytes);
+    into[bytes.len()..].fill(STUFFING);
 }
 
 /// Packetization of units into the packets of one PID (ISO/IEC 13818-1 clause 2.4.4, RFC 4326 section 6).
@@ -232,8 +234,8 @@ impl<F: UnitForm> Packer<F> {
         };
         let pointer = end_of_unit(ends, self.begun) - self.at;
         let piece = &window[self.at - from..part.at - from];
-        let payload = payload_of(part.starts, pointer, piece);
-        write_packet(into, self.pid, part.starts, self.counter, &payload);
+        write_payload(into, part.starts, pointer, piece);
+        write_header(into, self.pid, part.starts, self.counter);
         self.counter = (self.counter + 1) % COUNTERS;
         self.begun = part.begun;
         self.at = part.at;

@@ -2,6 +2,7 @@ use Rattle.std.proofs.Common.{◌≡◌, ◌≤◌, ℕ, length, ◌+◌, ◌-�
 use Rattle.ts_spec.specs.Packet.{packet_bytes}
 use Rattle.unit_stream.specs.Packers.{PackerState, between, end_of, Writes}
 use Rattle.unit_stream.specs.Parts.{payload_with}
+use Rattle.unit_stream.proofs.Buffers.{payload_behind}
 use Rattle.unit_stream.proofs.Between.{below_last, between-window, part_within}
 use Rattle.unit_stream.proofs.Written.{writes_part}
 use Rattle.unit_stream.proofs.packer.Packer.next_within.Goals as goal
@@ -14,12 +15,14 @@ pub returns-clause-writes : goal.returns-clause-writes
 returns-clause-writes g c = λ bytes within stands.
     let old : PackerState = record { pid = c.self.inside.pid; packing = c.self.inside.packing; counter = c.self.inside.counter; begun = c.self.inside.begun; at = c.self.inside.at } in
     let new : PackerState = record { pid = c.self.inside.pid; packing = c.self.inside.packing; counter = (c.self.inside.counter + 1) % 16; begun = c.in-Some.part.begun; at = c.in-Some.part.at } in
-    subst (λ (s : PackerState). Writes g.F.UnitForm.form s new bytes c.args.ends.now c.write_packet.new.into true) c.self.view_is
-    (writes_part g.F.UnitForm.form old bytes c.args.ends.now c.write_packet.new.into c.in-Some.part
+    subst (λ (s : PackerState). Writes g.F.UnitForm.form s new bytes c.args.ends.now c.write_header.new.into true) c.self.view_is
+    (writes_part g.F.UnitForm.form old bytes c.args.ends.now c.write_header.new.into c.in-Some.part
     (c.in-Some.ensures.next bytes within)
-    (c.write_packet.ensures.written
+    (c.write_header.ensures.written
     ∙ ap (packet_bytes c.self.inside.pid c.in-Some.part.starts c.self.inside.counter)
-    (c.payload_of-payload.ensures
+    (payload_behind c.args.into.now c.write_payload.new.into
+    (payload_with c.in-Some.part.starts (c.end_of_unit.result - c.self.inside.at) (between c.args.window.now (c.self.inside.at - c.args.from) (c.in-Some.part.at - c.args.from)))
+    c.told-into c.write_payload.ensures
     ∙ ap (λ (end : ℕ). payload_with c.in-Some.part.starts (end - c.self.inside.at) (between c.args.window.now (c.self.inside.at - c.args.from) (c.in-Some.part.at - c.args.from))) c.end_of_unit.ensures
     ∙ ap (payload_with c.in-Some.part.starts (end_of c.args.ends.now c.self.inside.begun - c.self.inside.at))
     (between-window c.args.window.now bytes c.args.from c.self.inside.at c.in-Some.part.at stands
