@@ -11,6 +11,7 @@ pub mod Filled
 pub mod Left
 pub mod Parts
 pub mod Written
+pub mod Coming
 pub mod Edges
 pub mod Laid
 pub mod Carried

@@ -164,7 +164,7 @@ impl<F: UnitForm> Model for Packer<F> {
 }
 
 impl<F: UnitForm> Packer<F> {
-    ghost use Rattle.std.specs.Prelude.{◌≡◌, ◌+◌, ◌≤◌, ◌%◌, ℕ, List, length, true, false};
+    ghost use Rattle.std.specs.Prelude.{◌≡◌, ◌+◌, ◌≤◌, ◌%◌, ℕ, List, length, nat_lt, true, false};
     ghost use Rattle.unit_stream.specs.Packing.{packetized};
     ghost use Rattle.unit_stream.specs.Packers.{AreRising, AreEnds, IsOnWay, HasNext, StandAt, Writes, end_of, packets_left, units_of};
 
@@ -191,6 +191,15 @@ impl<F: UnitForm> Packer<F> {
         ensures read { result ≡ self.now.at }
     {
         self.at
+    }
+
+    /// Whether packets of the units that end at `ends` are still to come.
+    pub fn has_next(&self, ends: &[usize]) -> bool
+        requires rising { AreRising F.START 0 ends.now }
+        requires on_way { IsOnWay self.now ends.now }
+        ensures next { (bytes : List ℕ) → end_of ends.now (length ends.now) ≤ length bytes → result ≡ nat_lt 0 (length (packets_left F.form self.now bytes ends.now)) }
+    {
+        self.begun < ends.len() || self.at < end_of_unit(ends, self.begun)
     }
 
     /// Writes the next packet of the units, or answers false where all are out.
