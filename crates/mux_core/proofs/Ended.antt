@@ -1,9 +1,9 @@
 -- The end of a transmission: when no packets are left, and that slots before it are of it.
 use Rattle.std.proofs.Common.{◌≡◌, ℕ, zero, suc, ◌+◌, ◌-◌, ◌*◌, ◌%◌, ◌<◌, ◌≤◌, Bool, true, false, cond, ltb, List, [], ◌∷◌, ◌++◌, length, map, take, drop, refl, sym, ap, ◌∙◌, arith, append_assoc, append-nil, length-drop, replicate, subst, Option, Some, None}
-use Rattle.std.specs.Prelude.{slice_index_or, if◌then◌else◌}
+use Rattle.std.specs.Prelude.{if◌then◌else◌}
 use Rattle.std.specs.List.{range_with_len}
 use Rattle.std.specs.Io.KnownBytes.{Appends}
-use Rattle.std.proofs.KnownBytes.{Appends-trans}
+use Rattle.std.proofs.KnownBytes.{Appends-nil, Appends-trans}
 use Rattle.std.proofs.lemmas.List.{length-map, take_at, take-append-drop}
 use Rattle.std.proofs.lemmas.List.FromFn.{map-range_with_len_more}
 use Rattle.wire_spec.specs.Lists.{joined}
@@ -12,23 +12,18 @@ use Rattle.plan_spec.specs.Plan.{PlanFields}
 use Rattle.plan_spec.specs.Signalling.{table_packets}
 use Rattle.plan_spec.specs.Valid.{is_plan}
 use Rattle.stream_spec.specs.Slots.{Slot, is_of_service, Turns, turns_at, kept_for_table, IsSlotCount}
-use Rattle.stream_spec.specs.Stream.{packet_counts, slot_in, stamp_bytes, record_of_slot, records_of_slots}
+use Rattle.stream_spec.specs.Stream.{packet_counts, slot_in, record_of_slot, records_of_slots}
 use Rattle.stream_spec.proofs.Over.{over_from}
 use Rattle.stream_law.proofs.Ends.{ends, table_keeps_none, table_leaves_slots}
 use Rattle.stream_law.proofs.Out.{out_there}
 use Rattle.stream_law.proofs.Turns.{within_at, turns_pass}
 use Rattle.mux_core.specs.Services.{Serving, packet_total, turn_of, left_of, AreAt}
-use Rattle.mux_core.specs.Slots.{turns_in, is_early, TakesSlot}
-use Rattle.mux_core.proofs.Turned.{found_has}
+use Rattle.mux_core.specs.Slots.{turns_in, is_early, AddsRecord}
+use Rattle.mux_core.proofs.Turned.{found_has, total_at}
 use Rattle.mux_core.proofs.Signalled.{leaves, some_early, next_place}
 use Rattle.mux_core.proofs.Stepped.{same_turn}
 
 -- Nothing is left.
-
-total_at : (services : List (List PacketFields)) (k : ℕ) → length (slice_index_or services k []) ≤ packet_total services
-total_at [] k = omega arith
-total_at (packets ∷ services) zero = omega arith
-total_at (packets ∷ services) (suc k) = omega (arith, total_at services k)
 
 no_turn : (serving : Serving) → serving.first ≤ length serving.packets → packet_total serving.packets ≡ 0 → turn_of serving ≡ None
 no_turn serving le none = by_turn (turn_of serving) refl
@@ -83,27 +78,6 @@ module _ (plan : PlanFields) (services : List (List PacketFields)) where
         ap bytes_to next ∙ one_record_more (slot + d) ∙ ap (λ (t : List ℕ). t ++ record_of_slot plan services (slot + d)) before.1
             ∙ append_assoc (bytes_to slot) before.0 (record_of_slot plan services (slot + d)),
       )
-
-  -- a part of the next record is a part of what follows
-  pub part_of : (slots slot n : ℕ) → slot < slots → (m : ℕ) × (take m (bytes_to slots) ≡ bytes_to slot ++ take n (record_of_slot plan services slot))
-  part_of slots slot n less = (
-    length front,
-    ap (take (length front)) whole ∙ take_at front (drop n (record_of_slot plan services slot) ++ behind.0) (length front) refl,
-  )
-    where
-      front : List ℕ
-      front = bytes_to slot ++ take n (record_of_slot plan services slot)
-
-      behind : (rest : List ℕ) × (bytes_to (slot + 1 + (slots - (slot + 1))) ≡ bytes_to (slot + 1) ++ rest)
-      behind = more_records (slots - (slot + 1)) (slot + 1)
-
-      whole : bytes_to slots ≡ front ++ (drop n (record_of_slot plan services slot) ++ behind.0)
-      whole =
-          let place : slots ≡ slot + 1 + (slots - (slot + 1)) = omega (arith, less) in
-          ap bytes_to place ∙ behind.1 ∙ ap (λ (t : List ℕ). t ++ behind.0) (one_record_more slot)
-          ∙ ap (λ (t : List ℕ). (bytes_to slot ++ t) ++ behind.0) (sym (take-append-drop n (record_of_slot plan services slot)))
-          ∙ ap (λ (t : List ℕ). t ++ behind.0) (sym (append_assoc (bytes_to slot) (take n (record_of_slot plan services slot)) (drop n (record_of_slot plan services slot))))
-          ∙ append_assoc front (drop n (record_of_slot plan services slot)) behind.0
 
   -- The end.
 
@@ -172,34 +146,70 @@ unfolding turns_at
 at_start plan services serving packets first = record { packets = packets ∙ sym (nothing_sent services (length (packet_counts services))); first = first }
 
 -- where the last packet was taken the slot is a service's
-pub last_one : (plan : PlanFields) (services : List (List PacketFields)) (slot old new : ℕ) (serving : Serving) (bytes : List ℕ) → TakesSlot plan services slot serving bytes → 0 < old
+pub last_one : (plan : PlanFields) (services : List (List PacketFields)) (slot old new : ℕ) → (is_early plan slot ≡ false → is_of_service (slot_in plan services slot) ≡ true) → 0 < old
     → old ≡ new + (if is_early plan slot then 0 else 1) → new ≡ 0 → (s : ℕ) → slot + 1 ≡ s + 1 → is_of_service (slot_in plan services s) ≡ true
-last_one plan services slot old new serving bytes took some left none s same =
+last_one plan services slot old new of_service some left none s same =
     let here : slot ≡ s = omega (arith, same) in
     ap (λ (n : ℕ). is_of_service (slot_in plan services n)) (sym here) ∙ by_place (is_early plan slot) refl left
   where
     by_place : (early : Bool) → is_early plan slot ≡ early → old ≡ new + cond early 0 1 → is_of_service (slot_in plan services slot) ≡ true
     by_place true e is = absurd (omega (arith, some, none, is))
-    by_place false e is = took.of_service e
+    by_place false e is = of_service e
 
--- the records so far, and the bytes of the next one
-pub next_bytes : (plan : PlanFields) (services : List (List PacketFields)) (slot : ℕ) (serving : Serving) (bytes : List ℕ) → TakesSlot plan services slot serving bytes
-    → stamp_bytes plan.recording plan.packet_rate slot ++ bytes ≡ record_of_slot plan services slot
-next_bytes plan services slot serving bytes took = ap (λ (t : List ℕ). stamp_bytes plan.recording plan.packet_rate slot ++ t) took.bytes_are
+-- Records that are handed on in pieces.
 
-pub all_written : (plan : PlanFields) (services : List (List PacketFields)) (slot : ℕ) (serving : Serving) (bytes : List ℕ) (old mid new : Option (List ℕ)) → TakesSlot plan services slot serving bytes
-    → Appends old mid (joined (records_of_slots plan services slot)) → Appends mid new (stamp_bytes plan.recording plan.packet_rate slot ++ bytes) → Appends old new (joined (records_of_slots plan services (slot + 1)))
-all_written plan services slot serving bytes old mid new took before here =
-    subst (Appends old new) (ap (λ (t : List ℕ). joined (records_of_slots plan services slot) ++ t) (next_bytes plan services slot serving bytes took) ∙ sym (one_record_more plan services slot))
-    (Appends-trans old mid new (joined (records_of_slots plan services slot)) (stamp_bytes plan.recording plan.packet_rate slot ++ bytes) before here)
+-- of the records before a slot a front was appended, and these bytes behind it are held back
+pub record AreHanded (plan : PlanFields) (services : List (List PacketFields)) (slot : ℕ) (old new : Option (List ℕ)) (back : List ℕ) : Type 0 where
+  pub front : List ℕ
+  pub appended : Appends old new front
+  pub bytes_are : joined (records_of_slots plan services slot) ≡ front ++ back
 
-pub part_written : (plan : PlanFields) (services : List (List PacketFields)) (slots slot : ℕ) (serving : Serving) (bytes : List ℕ) (old mid new : Option (List ℕ)) → slot < slots
-    → TakesSlot plan services slot serving bytes → Appends old mid (joined (records_of_slots plan services slot))
-    → (n : ℕ) × Appends mid new (take n (stamp_bytes plan.recording plan.packet_rate slot ++ bytes)) → (m : ℕ) × Appends old new (take m (joined (records_of_slots plan services slots)))
-part_written plan services slots slot serving bytes old mid new less took before here =
-    let part = part_of plan services slots slot here.0 less in (
-      part.0,
-      subst (Appends old new)
-          (ap (λ (t : List ℕ). joined (records_of_slots plan services slot) ++ take here.0 t) (next_bytes plan services slot serving bytes took) ∙ sym part.1)
-          (Appends-trans old mid new (joined (records_of_slots plan services slot)) (take here.0 (stamp_bytes plan.recording plan.packet_rate slot ++ bytes)) before here.1),
-    )
+pub none_handed : (plan : PlanFields) (services : List (List PacketFields)) (old : Option (List ℕ)) (back : List ℕ) → back ≡ [] → AreHanded plan services 0 old old back
+none_handed plan services old back none = record { front = []; appended = Appends-nil old; bytes_are = sym none }
+
+-- a record was added to those that are held back
+pub added_bytes : (plan : PlanFields) (services : List (List PacketFields)) (slot : ℕ) (serving : Serving) (old mid : Option (List ℕ)) (before back : List ℕ)
+    → AddsRecord plan services slot serving before back → (handed : AreHanded plan services slot old mid before) → joined (records_of_slots plan services (slot + 1)) ≡ handed.front ++ back
+added_bytes plan services slot serving old mid before back adds handed =
+    one_record_more plan services slot
+    ∙ ap (λ (t : List ℕ). t ++ record_of_slot plan services slot) handed.bytes_are
+    ∙ append_assoc handed.front before (record_of_slot plan services slot)
+    ∙ ap (λ (t : List ℕ). handed.front ++ t) (sym adds.bytes_are)
+
+-- a record was added to those that are held back, and then a front of these was appended
+pub one_handed : (plan : PlanFields) (services : List (List PacketFields)) (slot : ℕ) (serving : Serving) (old mid new : Option (List ℕ)) (before back after : List ℕ)
+    → AddsRecord plan services slot serving before back → AreHanded plan services slot old mid before → (front : List ℕ) × Appends mid new front × (back ≡ front ++ after)
+    → AreHanded plan services (slot + 1) old new after
+one_handed plan services slot serving old mid new before back after adds handed piece = record {
+  front = handed.front ++ piece.0;
+  appended = Appends-trans old mid new handed.front piece.0 handed.appended piece.1;
+  bytes_are = added_bytes plan services slot serving old mid before back adds handed ∙ ap (λ (t : List ℕ). handed.front ++ t) piece.2 ∙ sym (append_assoc handed.front piece.0 after);
+}
+
+-- all that was held back was appended
+pub all_handed : (plan : PlanFields) (services : List (List PacketFields)) (slot : ℕ) (old mid new : Option (List ℕ)) (back : List ℕ) → AreHanded plan services slot old mid back → Appends mid new back
+    → Appends old new (joined (records_of_slots plan services slot))
+all_handed plan services slot old mid new back handed last = subst (Appends old new) (sym handed.bytes_are) (Appends-trans old mid new handed.front back handed.appended last)
+
+-- a prefix of what was held back was appended: a prefix of all records
+pub part_handed : (plan : PlanFields) (services : List (List PacketFields)) (slots slot : ℕ) (old mid new : Option (List ℕ)) (front back : List ℕ) → slot ≤ slots
+    → joined (records_of_slots plan services slot) ≡ front ++ back → Appends old mid front
+    → (n : ℕ) × Appends mid new (take n back) → (m : ℕ) × Appends old new (take m (joined (records_of_slots plan services slots)))
+part_handed plan services slots slot old mid new front back le bytes_are appended part = (
+  length piece,
+  subst (Appends old new) (sym (ap (take (length piece)) whole ∙ take_at piece (drop part.0 back ++ behind.0) (length piece) refl)) (Appends-trans old mid new front (take part.0 back) appended part.1),
+)
+  where
+    piece : List ℕ
+    piece = front ++ take part.0 back
+
+    behind : (rest : List ℕ) × (joined (records_of_slots plan services (slot + (slots - slot))) ≡ joined (records_of_slots plan services slot) ++ rest)
+    behind = more_records plan services (slots - slot) slot
+
+    whole : joined (records_of_slots plan services slots) ≡ piece ++ (drop part.0 back ++ behind.0)
+    whole =
+        let place : slots ≡ slot + (slots - slot) = omega (arith, le) in
+        ap (λ (n : ℕ). joined (records_of_slots plan services n)) place ∙ behind.1 ∙ ap (λ (t : List ℕ). t ++ behind.0) bytes_are
+        ∙ ap (λ (t : List ℕ). (front ++ t) ++ behind.0) (sym (take-append-drop part.0 back))
+        ∙ ap (λ (t : List ℕ). t ++ behind.0) (sym (append_assoc front (take part.0 back) (drop part.0 back)))
+        ∙ append_assoc piece (drop part.0 back) behind.0

@@ -6,4 +6,5 @@ pub mod Laned
 pub mod Signalled
 pub mod Stepped
 pub mod Ended
+pub mod Recorded
 pub mod Streamed

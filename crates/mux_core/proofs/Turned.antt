@@ -1,9 +1,9 @@
 -- Services by turns: which has its turn, and what it leaves.
-use Rattle.std.proofs.Common.{◌≡◌, ℕ, zero, suc, ◌+◌, ◌-◌, ◌<◌, ◌≤◌, Bool, true, false, cond, ltb, List, [], ◌∷◌, length, map, drop, get_or, set, refl, sym, ap, ◌∙◌, arith, Option, Some, None, subst}
-use Rattle.std.specs.Prelude.{find, slice_index, slice_index_or, IsSome, IfSome}
+use Rattle.std.proofs.Common.{◌≡◌, ℕ, zero, suc, ◌+◌, ◌-◌, ◌*◌, ◌^◌, ◌<◌, ◌≤◌, Bool, true, false, cond, ltb, List, [], ◌∷◌, length, map, get_or, set, refl, sym, ap, ◌∙◌, arith, Option, Some, None, subst}
+use Rattle.std.specs.Prelude.{All, find, slice_index, slice_index_or, is_some, IsSome}
 use Rattle.std.specs.List.{range_with_len}
 use Rattle.std.specs.Option.{option_or}
-use Rattle.std.proofs.lemmas.List.{length-map, drop_more, map-set}
+use Rattle.std.proofs.lemmas.List.{length-map, map-set}
 use Rattle.std.proofs.lemmas.List.Folds.{find-append}
 use Rattle.ts_spec.specs.Packet.{PacketFields}
 use Rattle.stream_spec.specs.Slots.{asked, Turns}
@@ -30,21 +30,15 @@ lane_at [] k lane less is = absurd (omega (arith, less))
 lane_at (first ∷ lanes) zero lane less is = ap packets_in (sym is)
 lane_at (first ∷ lanes) (suc k) lane less is = lane_at lanes k lane (omega (arith, less)) is
 
-pub none_there : (lanes : List Lane) (k : ℕ) (lane : Lane) → k < length lanes → lane ≡ get_or lanes k lane → length (packets_in lane) ≤ 0 → has_packets (map packets_in lanes) k ≡ false
-none_there lanes k lane less is none =
-    not_some (slice_index (packet_counts (map packets_in lanes)) k)
-    (omega (arith, count_of (map packets_in lanes) k, ap (λ (ps : List PacketFields). length ps) (lane_at lanes k lane less is), none))
-  where
-    not_some : (n : ℕ) → n ≤ 0 → ltb 0 n ≡ false
-    not_some n le = grind (arith, le)
+pub has_there : (lanes : List Lane) (k : ℕ) (lane : Lane) → k < length lanes → lane ≡ get_or lanes k lane → has_packets (map packets_in lanes) k ≡ ltb 0 (length (packets_in lane))
+has_there lanes k lane less is =
+    ap (λ (n : ℕ). ltb 0 n) (count_of (map packets_in lanes) k ∙ ap (λ (ps : List PacketFields). length ps) (lane_at lanes k lane less is))
 
-pub some_there : (lanes : List Lane) (k : ℕ) (lane : Lane) → k < length lanes → lane ≡ get_or lanes k lane → 0 < length (packets_in lane) → has_packets (map packets_in lanes) k ≡ true
-some_there lanes k lane less is some =
-    is_some_of (slice_index (packet_counts (map packets_in lanes)) k)
-    (omega (arith, count_of (map packets_in lanes) k, ap (λ (ps : List PacketFields). length ps) (lane_at lanes k lane less is), some))
-  where
-    is_some_of : (n : ℕ) → 0 < n → ltb 0 n ≡ true
-    is_some_of n less2 = grind (arith, less2)
+-- one service has no more packets than all
+pub total_at : (services : List (List PacketFields)) (k : ℕ) → length (slice_index_or services k []) ≤ packet_total services
+total_at [] k = omega arith
+total_at (packets ∷ services) zero = omega arith
+total_at (packets ∷ services) (suc k) = omega (arith, total_at services k)
 
 module _ (services : List (List PacketFields)) (first : ℕ) (le : first ≤ length services) where
   abbrev counts : List ℕ
@@ -97,19 +91,42 @@ turn_two items seen first count found rest same size le found_is rest_is =
 -- what is known of the turn
 pub record IsTurn (serving : Serving) (turn : Option ℕ) : Type 0 where
   pub read : turn ≡ turn_of serving
-  pub some : 0 < packet_total serving.packets → IsSome turn
-  pub has : IfSome turn (λ k. (k < length serving.packets) × (0 < length (slice_index_or serving.packets k [])))
+  pub left : ltb 0 (packet_total serving.packets) ≡ is_some turn
 
 pub is_turn : (serving : Serving) (turn : Option ℕ) → serving.first ≤ length serving.packets → turn_of serving ≡ turn → IsTurn serving turn
-is_turn serving turn le e = record {
-  read = sym e;
-  some = λ left. subst (λ (o : Option ℕ). IsSome o) e (some_asked serving.packets serving.first le left);
-  has = by_turn turn e;
-}
+is_turn serving turn le e = record { read = sym e; left = by_turn turn e }
   where
-    by_turn : (o : Option ℕ) → turn_of serving ≡ o → IfSome o (λ k. (k < length serving.packets) × (0 < length (slice_index_or serving.packets k [])))
-    by_turn None e2 = tt
-    by_turn (Some k) e2 = found_has serving.packets serving.first le k e2
+    total : ℕ
+    total = packet_total serving.packets
+
+    some_so : (n : ℕ) → 0 < n → ltb 0 n ≡ true
+    some_so n less = grind (arith, less)
+
+    so_some : (n : ℕ) → ltb 0 n ≡ true → 0 < n
+    so_some n e2 = grind (arith, e2)
+
+    by_turn : (o : Option ℕ) → turn_of serving ≡ o → ltb 0 total ≡ is_some o
+    by_turn (Some k) e2 = some_so total (omega (arith, (found_has serving.packets serving.first le k e2).1, total_at serving.packets k))
+    by_turn None e2 = by_left (ltb 0 total) refl
+      where
+        nothing : Option ℕ
+        nothing = None
+
+        none_found : IsSome nothing → ⊥
+        none_found e3 = cc
+
+        by_left : (left : Bool) → ltb 0 total ≡ left → left ≡ false
+        by_left false e3 = refl
+        by_left true e3 = absurd (none_found (subst (λ (o : Option ℕ). IsSome o) e2 (some_asked serving.packets serving.first le (so_some total e3))))
+
+-- the service whose turn it is has packets left
+pub turn_has : (serving : Serving) (turn : ℕ) → serving.first ≤ length serving.packets → turn_of serving ≡ Some turn → (turn < length serving.packets) × (0 < length (slice_index_or serving.packets turn []))
+turn_has serving turn le e = found_has serving.packets serving.first le turn e
+
+-- the packets of so many services
+pub total_most : (lanes : List Lane) → All (λ (lane : Lane). length (packets_in lane) ≤ 2 ^ 48) lanes → packet_total (map packets_in lanes) ≤ 2 ^ 48 * length lanes
+total_most [] each = omega arith
+total_most (lane ∷ lanes) each = omega (arith, each 0 lane (omega arith), total_most lanes (λ k d less. each (suc k) d (omega (arith, less))))
 
 -- one packet less is left
 pub total_set : (services : List (List PacketFields)) (k : ℕ) (packet : PacketFields) (rest : List PacketFields) → k < length services → slice_index_or services k [] ≡ packet ∷ rest
@@ -118,21 +135,16 @@ total_set [] k packet rest less is = absurd (omega (arith, less))
 total_set (packets ∷ services) zero packet rest less is = omega (arith, ap (λ (ps : List PacketFields). length ps) is)
 total_set (packets ∷ services) (suc k) packet rest less is = omega (arith, total_set services k packet rest (omega (arith, less)) is)
 
--- the packets of the next services are counted
-pub total_next : (lanes : List Lane) (i : ℕ) (lane : Lane) → i < length lanes → lane ≡ get_or lanes i lane
-    → packet_total (map packets_in (drop i lanes)) ≡ length (packets_in lane) + packet_total (map packets_in (drop (i + 1) lanes))
-total_next lanes i lane less is = ap (λ (ls : List Lane). packet_total (map packets_in ls)) (drop_more lanes i lane less ∙ ap (λ (l : Lane). l ∷ drop (i + 1) lanes) (sym is))
-
 -- the service whose turn it is gave a packet
 pub turn_taken : (items : List Lane) (first k : ℕ) (old new : Lane) (now : Serving) (packet : PacketFields) (into : List ℕ)
     → let serving : Serving = record { packets = map packets_in items; first = first } in serving ≡ now
-    → k < length now.packets → Some k ≡ turn_of now → old ≡ get_or items k old → packets_in old ≡ packet ∷ packets_in new → into ≡ written packet
+    → k < length items → turn_of now ≡ Some k → old ≡ get_or items k old → packets_in old ≡ packet ∷ packets_in new → into ≡ written packet
     → let behind : Serving = record { packets = map packets_in (set items k new); first = k + 1 } in
     TakesTurn now behind into × (packet_total now.packets ≡ packet_total (map packets_in (set items k new)) + 1)
 turn_taken items first k old new now packet into is less turn old_is took into_is = (
   record {
     service = k;
-    turn = sym turn;
+    turn = turn;
     packet = packet;
     rest = packets_in new;
     next = there;
@@ -140,17 +152,17 @@ turn_taken items first k old new now packet into is less turn old_is took into_i
     first = refl;
     bytes_are = into_is;
   },
-  total_set now.packets k packet (packets_in new) less there ∙ ap (λ (ps : List (List PacketFields)). packet_total ps + 1) (sym set_is),
+  total_set now.packets k packet (packets_in new) within there ∙ ap (λ (ps : List (List PacketFields)). packet_total ps + 1) (sym set_is),
 )
   where
     same : map packets_in items ≡ now.packets
     same = ap (λ (s : Serving). s.packets) is
 
-    inside : k < length items
-    inside = omega (arith, less, ap (λ (ps : List (List PacketFields)). length ps) same, length-map items packets_in)
+    within : k < length now.packets
+    within = omega (arith, less, ap (λ (ps : List (List PacketFields)). length ps) same, length-map items packets_in)
 
     there : slice_index_or now.packets k [] ≡ packet ∷ packets_in new
-    there = ap (λ (ps : List (List PacketFields)). slice_index_or ps k []) (sym same) ∙ lane_at items k old inside old_is ∙ took
+    there = ap (λ (ps : List (List PacketFields)). slice_index_or ps k []) (sym same) ∙ lane_at items k old less old_is ∙ took
 
     set_is : map packets_in (set items k new) ≡ set now.packets k (packets_in new)
     set_is = map-set packets_in items k new ∙ ap (λ (ps : List (List PacketFields)). set ps k (packets_in new)) same

@@ -74,6 +74,10 @@ module _ (kind : KindFields) (unicast : List ℕ) (datagrams : List (List ℕ)) 
         let it : IsFor kind datagram = all_at (IsFor kind) datagrams window.count datagram found is.datagrams_are in
         (it, short_for kind datagram is.built it)
 
+    -- where a packet lacks bytes the next unit has room
+    pub next_fits : (datagram : List ℕ) → slice_get datagrams window.count ≡ Some datagram → window.fill < 184 → window.fill + (length datagram + 16) ≤ length window.buffer.items
+    next_fits datagram found lacks = omega (arith, lacks, (short_next datagram found).1, is.room)
+
     -- one unit more is written
     pub window_more : (new : Window) (datagram : List ℕ) (size : ℕ) → slice_get datagrams window.count ≡ Some datagram → window.count < length datagrams
         → size ≡ length (unit_of kind unicast datagram) → size ≤ length datagram + 16 → window.fill + (length datagram + 16) ≤ length window.buffer.items
@@ -188,7 +192,7 @@ moved items new out fill le fits is =
 
 -- before the first unit
 pub window_first : (kind : KindFields) (unicast : List ℕ) (datagrams : List (List ℕ)) (window : Window) → is_of_units kind ≡ true → AreFor kind datagrams → length datagrams < 2 ^ 32
-    → window.from ≡ 0 → window.fill ≡ 0 → window.count ≡ 0 → length window.buffer.items ≡ 65536 → IsWindow kind unicast datagrams window
+    → window.from ≡ 0 → window.fill ≡ 0 → window.count ≡ 0 → length window.buffer.items ≡ 32957 → IsWindow kind unicast datagrams window
 window_first kind unicast datagrams window built are few from_is fill_is count_is size = record {
   built = built;
   datagrams_are = are;
@@ -210,20 +214,16 @@ at_first packer way = by_begun packer.begun packer.at way.begun way.at
     by_begun zero at le here = omega (arith, here)
     by_begun (suc begun) at le here = absurd (omega (arith, le))
 
-pub sending_first : (start : ℕ) (form : UnitForm) (kind : KindFields) (unicast : List ℕ) (datagrams : List (List ℕ)) (ends : List ℕ) (window : Window) (packer : PackerState) (left : ℕ) (packing : Bool) (pid : ℕ)
+pub sending_first : (start : ℕ) (kind : KindFields) (unicast : List ℕ) (datagrams : List (List ℕ)) (ends : List ℕ) (window : Window) (packer : PackerState)
     → IsWindow kind unicast datagrams window → window.from ≡ 0 → ends ≡ ends_from 0 (map (unit_of kind unicast) datagrams) → AreRising start 0 ends
-    → ((es : List ℕ) → IsOnWay packer es)
-    → ((bytes es : List ℕ) → packets_left form packer bytes es ≡ packetized form packing pid 0 (units_of bytes es))
-    → ((bytes : List ℕ) → end_of ends (length ends) ≤ length bytes → left ≡ length (packetized form packing pid 0 (units_of bytes ends)))
-    → IsSending start form kind unicast datagrams ends window packer left
-sending_first start form kind unicast datagrams ends window packer left packing pid is from_is are rising way begins counted = record {
+    → ((es : List ℕ) → IsOnWay packer es) → IsSending start kind unicast datagrams ends window packer
+sending_first start kind unicast datagrams ends window packer is from_is are rising way = record {
   window_is = is;
   ends_are = are;
   rising = rising;
   way = way ends;
   from = omega (arith, from_is);
   to = omega (arith, at_first packer (way []));
-  left_is = counted (unit_bytes kind unicast datagrams) (omega (arith, last_end kind unicast datagrams ends are)) ∙ ap length (sym (begins (unit_bytes kind unicast datagrams) ends));
 }
 
 -- all packets are those of the units

@@ -1,7 +1,6 @@
 -- The units of a service that are due, one behind another in a buffer.
 use Rattle.std.specs.Prelude.{◌≡◌, ℕ, ◌+◌, ◌*◌, ◌≤◌, ◌<◌, ◌^◌, true, List, ◌++◌, length, map, take}
-use Rattle.ts_spec.specs.Form.{UnitForm}
-use Rattle.unit_stream.specs.Packers.{PackerState, AreRising, IsOnWay, packets_left}
+use Rattle.unit_stream.specs.Packers.{PackerState, AreRising, IsOnWay}
 use Rattle.plan_spec.specs.Plan.{KindFields}
 use Rattle.stream_law.specs.Words.{is_of_units}
 use Rattle.mux_core.specs.Units.{unit_of, unit_bytes, ends_from, AreFor}
@@ -21,12 +20,11 @@ pub record IsWindow (kind : KindFields) (unicast : List ℕ) (datagrams : List (
   pub before_is : length before ≡ window.from
   pub bytes_are : unit_bytes kind unicast (take window.count datagrams) ≡ before ++ take window.fill window.buffer.items
 
--- a packer is on its way through the units of these datagrams, of which it has so many packets left
-pub record IsSending (start : ℕ) (form : UnitForm) (kind : KindFields) (unicast : List ℕ) (datagrams : List (List ℕ)) (ends : List ℕ) (window : Window) (packer : PackerState) (left : ℕ) : Type 0 where
+-- a packer is on its way through the units of these datagrams
+pub record IsSending (start : ℕ) (kind : KindFields) (unicast : List ℕ) (datagrams : List (List ℕ)) (ends : List ℕ) (window : Window) (packer : PackerState) : Type 0 where
   pub window_is : IsWindow kind unicast datagrams window
   pub ends_are : ends ≡ ends_from 0 (map (unit_of kind unicast) datagrams)
   pub rising : AreRising start 0 ends
   pub way : IsOnWay packer ends
   pub from : window.from ≤ packer.at
   pub to : packer.at ≤ window.from + window.fill
-  pub left_is : left ≡ length (packets_left form packer (unit_bytes kind unicast datagrams) ends)

@@ -1,5 +1,5 @@
 //! The datagrams of a service -> its packets, one after another.
-ghost use Rattle.std.specs.Prelude.{◌≡◌, ℕ, ◌<◌, ◌≤◌, ◌^◌, ◌∷◌, List, true, length, map, IfOk, All};
+ghost use Rattle.std.specs.Prelude.{◌≡◌, ℕ, ◌<◌, ◌≤◌, ◌^◌, ◌∷◌, List, true, length, map, nat_lt, IfOk, All};
 ghost use Rattle.ts_spec.specs.Packet.{PacketFields};
 ghost use Rattle.stream_spec.specs.Stream.{written};
 ghost use Rattle.stream_spec.specs.Units.{packets_of_kind};
@@ -16,7 +16,7 @@ use service_plan::{Kind, Service};
 use std::alloc::{AllocError as OutOfMemory, Global};
 use std::marker::Model;
 use ule_unit::UleForm;
-use unit_stream::{Packer, UnitForm, count_packets};
+use unit_stream::{Packer, UnitForm};
 
 /// Datagrams of a service on their way into the packets of its PID.
 #[derive(Drop)]
@@ -28,8 +28,6 @@ pub(crate) struct LanePackets<'a, F: UnitForm> {
     /// The units that are due.
     window: Window,
     packer: Packer<F>,
-    /// The packets still to come.
-    left: u64,
 }
 
 impl<'a, F: UnitForm> Model for LanePackets<'a, F> {
@@ -44,11 +42,11 @@ impl<'a, F: UnitForm> Model for LanePackets<'a, F> {
 
     ghost view = { λ p. packets_left F.form p.packer (unit_bytes (kind_seen p.service.now.kind) p.service.now.unicast p.datagrams.now) p.ends.items };
 
-    ghost invariant = { λ p. IsSending F.START F.form (kind_seen p.service.now.kind) p.service.now.unicast p.datagrams.now p.ends.items p.window p.packer p.left };
+    ghost invariant = { λ p. IsSending F.START (kind_seen p.service.now.kind) p.service.now.unicast p.datagrams.now p.ends.items p.window p.packer };
 }
 
 impl<'a, F: UnitForm> LanePackets<'a, F> {
-    ghost use Rattle.std.specs.Prelude.{◌≡◌, ℕ, ◌<◌, ◌≤◌, ◌^◌, ◌∷◌, List, true, length, map, IfOk, All};
+    ghost use Rattle.std.specs.Prelude.{◌≡◌, ℕ, ◌<◌, ◌≤◌, ◌^◌, ◌∷◌, List, true, length, map, nat_lt, IfOk, All};
     ghost use Rattle.ts_spec.specs.Packet.{PacketFields};
     ghost use Rattle.stream_spec.specs.Stream.{written};
     ghost use Rattle.stream_law.specs.Words.{is_of_units};
@@ -74,22 +72,20 @@ impl<'a, F: UnitForm> LanePackets<'a, F> {
     {
         let ends = ends_of(alloc, service, datagrams)?;
         let window = Window::new(alloc)?;
-        let left = count_packets::<F>(&ends, packing);
         Ok(LanePackets {
             service,
             datagrams,
             ends,
             window,
             packer: Packer::new(pid, packing),
-            left,
         })
     }
 
-    /// How many are still to come.
-    fn left(&self) -> u64
-        ensures read { result ≡ length self.now }
+    /// Whether there are more to come.
+    fn has_next(&self) -> bool
+        ensures read { result ≡ nat_lt 0 (length self.now) }
     {
-        self.left
+        self.packer.has_next(&self.ends)
     }
 
     /// Writes the next one.
@@ -100,11 +96,11 @@ impl<'a, F: UnitForm> LanePackets<'a, F> {
         self.window
             .reach(self.service, self.datagrams, self.packer.at());
         let from = self.window.from;
-        if self
+        if !self
             .packer
             .next_within(self.window.bytes(), from, &self.ends, into)
         {
-            self.left -= 1;
+            unreachable!();
         }
     }
 }
@@ -145,13 +141,13 @@ impl<'a> Lane<'a> {
         }
     }
 
-    /// How many packets are still to come.
-    pub(crate) fn left(&self) -> u64
-        ensures read { result ≡ length (packets_in self.now) }
+    /// Whether there are more packets to come.
+    pub(crate) fn has_next(&self) -> bool
+        ensures read { result ≡ nat_lt 0 (length (packets_in self.now)) }
     {
         match self {
-            Lane::Ule(packets) => packets.left(),
-            Lane::Mpe(packets) => packets.left(),
+            Lane::Ule(packets) => packets.has_next(),
+            Lane::Mpe(packets) => packets.has_next(),
         }
     }
 

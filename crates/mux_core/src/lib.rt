@@ -4,6 +4,7 @@
 //! Begin with `stream`.
 #![tactic(auto)]
 
+mod batch;
 #[cfg(test)]
 mod built;
 mod lanes;

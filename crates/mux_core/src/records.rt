@@ -1,12 +1,10 @@
-//! A packet and its slot -> the record: its time stamp, where records have one, and the packet.
-ghost use Rattle.std.specs.Prelude.{◌≡◌, ◌≤◌, ◌<◌, ◌++◌};
-ghost use Rattle.wire_spec.specs.Causes.{HasCause};
-ghost use Rattle.wire_spec.specs.Content.{Puts, Stays};
+//! A slot -> the time stamp of its record, where records have one.
+ghost use Rattle.std.specs.Prelude.{◌≡◌, ◌≤◌, ◌<◌, ◌++◌, length, drop};
 ghost use Rattle.stream_spec.specs.Stream.{stamp_bytes};
 ghost use Rattle.ts_spec.specs.Recording.{stamped, m2ts};
 ghost use Rattle.service_plan.specs.Parts.{form_of};
 
-use ipe_io::{Failed, Recording, Sink, put_all};
+use ipe_io::Recording;
 
 /// Microseconds in a second.
 const MICROS: u128 = 1_000_000;
@@ -20,48 +18,56 @@ const TICK_VALUES: u128 = 1 << 30;
 /// Values of 64 bits.
 const MICRO_VALUES: u128 = 1 << 64;
 
-/// The packet behind the whole microseconds from the first slot to this one.
-fn stamped_record(packet_rate: u32, slot: u64, packet: &[u8; 188]) -> [u8; 196]
+/// The whole microseconds from the first slot to this one.
+fn micros_of(packet_rate: u32, slot: u64) -> [u8; 8]
     requires { 0 < packet_rate }
-    ensures { result ≡ stamp_bytes stamped packet_rate slot ++ packet.now }
+    ensures { result ≡ stamp_bytes stamped packet_rate slot }
 {
     let micros = u128::from(slot) * MICROS / u128::from(packet_rate);
     let stamp = (micros % MICRO_VALUES) as u64;
-    let mut record = [0u8; 196];
-    record[..8].copy_from_slice(&stamp.to_be_bytes());
-    record[8..].copy_from_slice(packet);
-    record
+    stamp.to_be_bytes()
 }
 
-/// The packet behind the time at 27 MHz from the first slot to this one.
-fn m2ts_record(packet_rate: u32, slot: u64, packet: &[u8; 188]) -> [u8; 192]
+/// The time at 27 MHz from the first slot to this one.
+fn ticks_of(packet_rate: u32, slot: u64) -> [u8; 4]
     requires { 0 < packet_rate }
-    ensures { result ≡ stamp_bytes m2ts packet_rate slot ++ packet.now }
+    ensures { result ≡ stamp_bytes m2ts packet_rate slot }
 {
     let ticks = u128::from(slot) * TICKS / u128::from(packet_rate);
     let stamp = (ticks % TICK_VALUES) as u32;
-    let mut record = [0u8; 192];
-    record[..4].copy_from_slice(&stamp.to_be_bytes());
-    record[4..].copy_from_slice(packet);
-    record
+    stamp.to_be_bytes()
 }
 
-/// Appends the record of a slot. On `Failed` a prefix of it was appended.
-pub(crate) fn put_record<K: Sink>(
+/// Writes these bytes to the front of `into`.
+fn put(into: &mut [u8], bytes: &[u8])
+    requires { length bytes.now ≤ length into.old }
+    ensures { into.new ≡ bytes.now ++ drop (length bytes.now) into.old }
+{
+    into[..bytes.len()].copy_from_slice(bytes);
+}
+
+/// Writes the stamp of a slot's record to the front of `into`, and answers its length: 0, 4 or 8 bytes.
+pub(crate) fn write_stamp(
     recording: Recording,
     packet_rate: u32,
     slot: u64,
-    packet: &[u8; 188],
-    sink: &mut K,
-) -> Result<(), Failed>
-    requires { 0 < packet_rate }
-    ensures written { Puts result (K.held sink.old) (K.held sink.new) (stamp_bytes (form_of recording) packet_rate slot ++ packet.now) }
-    ensures flushed { Stays (K.flushed sink.old) (K.flushed sink.new) }
-    ensures cause { HasCause (K.faults sink.old) (K.faults sink.new) result }
+    into: &mut [u8],
+) -> usize
+    requires rate { 0 < packet_rate }
+    requires room { 8 ≤ length into.old }
+    ensures size { result ≡ length (stamp_bytes (form_of recording) packet_rate slot) }
+    ensures most { result ≤ 8 }
+    ensures written { into.new ≡ stamp_bytes (form_of recording) packet_rate slot ++ drop result into.old }
 {
     match recording {
-        Recording::Plain => put_all(sink, packet),
-        Recording::Stamped => put_all(sink, &stamped_record(packet_rate, slot, packet)),
-        Recording::M2ts => put_all(sink, &m2ts_record(packet_rate, slot, packet)),
+        Recording::Plain => 0,
+        Recording::Stamped => {
+            put(into, &micros_of(packet_rate, slot));
+            8
+        }
+        Recording::M2ts => {
+            put(into, &ticks_of(packet_rate, slot));
+            4
+        }
     }
 }

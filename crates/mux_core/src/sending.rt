@@ -9,6 +9,7 @@ ghost use Rattle.offered_datagrams.specs.Offering.{IsOffered};
 ghost use Rattle.mux_core.specs.Sending.{are_built, IsUnderPlan, WritesStream};
 ghost use Rattle.mux_core.specs.declared.sending.MuxFault.TheVariants.{Sink as SinkFault, OutOfMemory as NoMemory};
 
+use crate::batch::Batch;
 use crate::services::Services;
 use crate::slots::put_slots;
 use crate::table::TablePackets;
@@ -81,8 +82,12 @@ pub fn stream<K: Sink>(
         Ok(table) => table,
         Err(_) => return Err(MuxFault::OutOfMemory),
     };
+    let mut batch = match Batch::new(alloc) {
+        Ok(batch) => batch,
+        Err(_) => return Err(MuxFault::OutOfMemory),
+    };
     let datagrams = count_datagrams(&offered.lists);
-    match put_slots(plan, &mut services, &mut table, sink) {
+    match put_slots(plan, &mut services, &mut table, &mut batch, sink) {
         Ok(packets) => Ok(Sent { packets, datagrams }),
         Err(Failed) => Err(MuxFault::Sink),
     }

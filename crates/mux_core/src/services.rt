@@ -1,8 +1,8 @@
 //! The services by turns: one packet of the next of them that has packets left.
-ghost use Rattle.std.specs.Prelude.{◌≡◌, ℕ, ◌+◌, ◌-◌, ◌<◌, ◌≤◌, ◌^◌, All, map, length, find, slice_index_or, IfOk, IfSome, IsSome};
+ghost use Rattle.std.specs.Prelude.{◌≡◌, ◌-◌, ◌≤◌, ◌^◌, All, map, length, find, IfOk};
 ghost use Rattle.std.specs.List.{range_with_len};
 ghost use Rattle.service_plan.specs.PlanView.{plan_fields};
-ghost use Rattle.mux_core.specs.Services.{packets_in, packet_total, has_packets, turn_of, TakesTurn, packets_from_lists, AreLists};
+ghost use Rattle.mux_core.specs.Services.{packets_in, has_packets, packets_from_lists, AreLists};
 
 use crate::lanes::Lane;
 use offered_datagrams::Lists;
@@ -16,19 +16,17 @@ pub(crate) struct Services<'a> {
     lanes: Vec<Lane<'a>>,
     /// The service behind the one served last.
     first: usize,
-    /// The packets of all services that are still to come.
-    left: u64,
 }
 
 impl<'a> Model for Services<'a> {
-    ghost use Rattle.std.specs.Prelude.{◌≡◌, ◌≤◌, map, length};
-    ghost use Rattle.mux_core.specs.Services.{packets_in, Serving, packet_total};
+    ghost use Rattle.std.specs.Prelude.{◌≤◌, map, length};
+    ghost use Rattle.mux_core.specs.Services.{packets_in, Serving};
 
     ghost Value = { Serving };
 
     ghost view = { λ s. record { packets = map packets_in s.lanes.items; first = s.first } };
 
-    ghost invariant = { λ s. (s.left ≡ packet_total (map packets_in s.lanes.items)) × (s.first ≤ length s.lanes.items) };
+    ghost invariant = { λ s. s.first ≤ length s.lanes.items };
 }
 
 /// The first of the services from one on, and before another, that has packets left.
@@ -37,25 +35,11 @@ fn find_from(lanes: &[Lane<'_>], from: usize, to: usize) -> Option<usize>
     ensures { result ≡ find (has_packets (map packets_in lanes.now)) (range_with_len from (to - from)) }
 {
     for k in from..to {
-        if lanes[k].left() > 0 {
+        if lanes[k].has_next() {
             return Some(k);
         }
     }
     None
-}
-
-/// The packets of all services.
-fn total(lanes: &[Lane<'_>]) -> u64
-    requires few { length lanes.now ≤ 64 }
-    requires short { All (λ lane. length (packets_in lane) ≤ 2 ^ 48) lanes.now }
-    ensures read { result ≡ packet_total (map packets_in lanes.now) }
-    ensures most { result ≤ 2 ^ 54 }
-{
-    let mut total = 0;
-    for lane in lanes {
-        total += lane.left();
-    }
-    total
 }
 
 /// The packets of each service.
@@ -78,7 +62,7 @@ fn lanes_of<'a>(
 }
 
 impl<'a> Services<'a> {
-    ghost use Rattle.std.specs.Prelude.{◌≡◌, ◌+◌, ◌<◌, ◌≤◌, ◌^◌, [], length, slice_index_or, IfOk, IfSome, IsSome};
+    ghost use Rattle.std.specs.Prelude.{◌≡◌, ◌+◌, ◌≤◌, ◌^◌, nat_lt, is_some, Some, IfOk};
     ghost use Rattle.service_plan.specs.PlanView.{plan_fields};
     ghost use Rattle.mux_core.specs.Services.{packet_total, turn_of, TakesTurn, packets_from_lists, AreLists};
 
@@ -93,26 +77,13 @@ impl<'a> Services<'a> {
         ensures most { IfOk result (λ s. packet_total s.packets ≤ 2 ^ 54) }
     {
         let lanes = lanes_of(alloc, plan, lists)?;
-        let left = total(&lanes);
-        Ok(Services {
-            lanes,
-            first: 0,
-            left,
-        })
+        Ok(Services { lanes, first: 0 })
     }
 
-    /// How many packets are still to come.
-    pub(crate) fn left(&self) -> u64
-        ensures read { result ≡ packet_total self.now.packets }
-    {
-        self.left
-    }
-
-    /// The service whose turn it is.
-    fn turn(&self) -> Option<usize>
+    /// The service whose turn it is; None where no packets are left.
+    pub(crate) fn turn(&self) -> Option<usize>
         ensures read { result ≡ turn_of self.now }
-        ensures some { 0 < packet_total self.now.packets → IsSome result }
-        ensures has { IfSome result (λ k. (k < length self.now.packets) × (0 < length (slice_index_or self.now.packets k []))) }
+        ensures left { nat_lt 0 (packet_total self.now.packets) ≡ is_some result }
     {
         match find_from(&self.lanes, self.first, self.lanes.len()) {
             Some(k) => Some(k),
@@ -121,16 +92,12 @@ impl<'a> Services<'a> {
     }
 
     /// Writes the next packet of the service whose turn it is.
-    pub(crate) fn next(&mut self, into: &mut [u8; 188])
-        requires { 0 < packet_total self.old.packets }
+    pub(crate) fn next(&mut self, turn: usize, into: &mut [u8; 188])
+        requires turn { turn_of self.old ≡ Some turn }
         ensures next { TakesTurn self.old self.new into.new }
         ensures left { packet_total self.old.packets ≡ packet_total self.new.packets + 1 }
     {
-        let Some(k) = self.turn() else {
-            unreachable!();
-        };
-        self.lanes[k].next(into);
-        self.first = k + 1;
-        self.left -= 1;
+        self.lanes[turn].next(into);
+        self.first = turn + 1;
     }
 }

@@ -12,7 +12,7 @@ use service_plan::{Kind, Service};
 use std::alloc::{AllocError as OutOfMemory, Global};
 
 /// Bytes of a unit beside its datagram at most: the head and the CRC_32 of a datagram_section (EN 301 192 clause 7.1).
-pub(crate) const BESIDE: usize = 16;
+const BESIDE: usize = 16;
 
 /// Bytes of an SNDU beside its datagram and its NPA address: D, Length, Type and the CRC-32 (RFC 4326 section 4).
 const BESIDE_SNDU: usize = 8;

@@ -1,19 +1,19 @@
-//! The units of a service, written one behind another into a small buffer as they are due.
+//! The units of a service, written one behind another into a small buffer when they are due.
 ghost use Rattle.std.specs.Prelude.{◌≡◌, ◌+◌, ◌-◌, ◌≤◌, ◌<◌, true, false, length, take, drop, min, IfOk};
 ghost use Rattle.service_plan.specs.Parts.{kind_seen};
 ghost use Rattle.mux_core.specs.Units.{unit_bytes};
 ghost use Rattle.mux_core.specs.Windows.{IsWindow};
 
-use crate::units::{BESIDE, put_unit};
+use crate::units::put_unit;
 use ip_datagram::DatagramList;
 use service_plan::Service;
 use std::alloc::{AllocError as OutOfMemory, Global};
 
-/// Bytes of the buffer, in which the longest unit, of 32,773 bytes, has room behind what is left of others.
-const SIZE: usize = 65536;
-
 /// Bytes that a packet carries at most (ISO/IEC 13818-1 clause 2.4.3.2).
 const PAYLOAD: usize = 184;
+
+/// Bytes of the buffer, in which the longest unit, of 32,773 bytes, has room behind what a packet lacks.
+const SIZE: usize = 32_773 + PAYLOAD;
 
 /// Some of the units of a service, one behind another: from bytes that are not out to the last unit that was written.
 #[derive(Drop)]
@@ -43,7 +43,7 @@ impl Window {
     /// Before the first unit.
     pub(crate) fn new(alloc: Global) -> Result<Window, OutOfMemory>
         ensures empty { IfOk result (λ window. (window.from ≡ 0) × (window.fill ≡ 0) × (window.count ≡ 0)) }
-        ensures size { IfOk result (λ window. length window.buffer.items ≡ 65536) }
+        ensures size { IfOk result (λ window. length window.buffer.items ≡ 32957) }
     {
         Ok(Window {
             buffer: zeros(alloc, SIZE)?,
@@ -77,35 +77,29 @@ impl Window {
         self.fill -= out;
     }
 
-    /// Writes the next unit where it has room, or answers false.
-    fn write_next(&mut self, service: &Service, datagrams: &DatagramList) -> bool
+    /// Writes the next unit, where the buffer lacks bytes of a packet.
+    fn write_next(&mut self, service: &Service, datagrams: &DatagramList)
         requires window { IsWindow (kind_seen service.now.kind) service.now.unicast datagrams.now self.old }
         requires more { self.old.count < length datagrams.now }
+        requires lacks { self.old.fill < 184 }
         ensures window { IsWindow (kind_seen service.now.kind) service.now.unicast datagrams.now self.new }
         ensures from { self.new.from ≡ self.old.from }
-        ensures count { result ≡ true → self.new.count ≡ self.old.count + 1 }
-        ensures full { result ≡ false → 184 ≤ self.new.fill }
+        ensures count { self.new.count ≡ self.old.count + 1 }
     {
         let datagram = datagrams.at(self.count);
-        if self.buffer.len() - self.fill < datagram.len() + BESIDE {
-            return false;
-        }
         self.fill += put_unit(service, datagram, self.fill, &mut self.buffer);
         self.count += 1;
-        true
     }
 
-    /// Writes units as long as they have room.
+    /// Writes units until the buffer has the bytes of a packet, or all units were written.
     fn write_units(&mut self, service: &Service, datagrams: &DatagramList)
         requires window { IsWindow (kind_seen service.now.kind) service.now.unicast datagrams.now self.old }
         ensures window { IsWindow (kind_seen service.now.kind) service.now.unicast datagrams.now self.new }
         ensures from { self.new.from ≡ self.old.from }
         ensures full { self.new.count < length datagrams.now → 184 ≤ self.new.fill }
     {
-        while self.count < datagrams.len() {
-            if !self.write_next(service, datagrams) {
-                return;
-            }
+        while self.fill < PAYLOAD && self.count < datagrams.len() {
+            self.write_next(service, datagrams);
         }
     }
 

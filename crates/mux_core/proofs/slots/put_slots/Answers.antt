@@ -1,92 +1,113 @@
-use Rattle.std.proofs.Common.{◌≡◌, ℕ, List, refl, arith}
-use Rattle.std.proofs.KnownBytes.{Appends-nil}
+use Rattle.std.proofs.Common.{◌≡◌, ◌+◌, ◌<◌, ℕ, List, true, false, ltb, length, refl, ap, arith}
 use Rattle.ipe_io.proofs.Told.{stays-refl, stays-trans}
 use Rattle.ts_spec.specs.Packet.{PacketFields}
 use Rattle.plan_spec.specs.Plan.{PlanFields}
-use Rattle.stream_law.proofs.Plans.{ranges, at_least}
 use Rattle.stream_spec.specs.Slots.{IsSlotCount}
 use Rattle.stream_spec.specs.Stream.{slot_in}
 use Rattle.service_plan.specs.PlanView.{plan_fields}
-use Rattle.mux_core.specs.Slots.{TakesSlot}
+use Rattle.mux_core.specs.Slots.{AddsRecord}
 use Rattle.mux_core.specs.Services.{packet_total}
-use Rattle.mux_core.proofs.Ended.{at_start, falls, last_one, all_written, part_written, over_there, slots_end, goes_on}
+use Rattle.mux_core.proofs.Ended.{AreHanded, at_start, falls, last_one, added_bytes, none_handed, one_handed, all_handed, part_handed, over_there, slots_end, goes_on}
 use Rattle.mux_core.proofs.slots.put_slots.Goals as goal
 
-pub loop-services-init : goal.loop-services-init
-loop-services-init g c = record {
+pub loop-turn-init : goal.loop-turn-init
+loop-turn-init g c = record {
   table = c.requires.table;
   services = at_start (plan_fields c.args.plan.now) c.args.services.now.packets c.args.services.now refl c.requires.first;
   last = λ none s e. absurd (omega (arith, e));
   few = c.requires.count;
   most = omega (arith, c.requires.count);
-  written = Appends-nil (g.K.Sink.held c.args.sink.now);
+  handed = none_handed (plan_fields c.args.plan.now) c.args.services.now.packets (g.K.Sink.held c.args.sink.now) c.args.batch.now c.requires.empty;
+  room = omega (arith, ap (λ (l : List ℕ). length l) c.requires.empty);
   flushed = stays-refl (g.K.Sink.flushed c.args.sink.now);
   later = omega arith;
 }
 
-pub put_record-requires : goal.put_record-requires
-put_record-requires g c = omega (arith, at_least 1 1000000 (plan_fields c.args.plan.now).packet_rate (ranges (plan_fields c.args.plan.now) c.args.plan.now.valid).rate)
+-- packets are left, as it is told
+some_left : (n : ℕ) → ltb 0 n ≡ true → 0 < n
+some_left n e = grind (arith, e)
+
+none_left : (n : ℕ) → ltb 0 n ≡ false → n ≡ 0
+none_left n e = grind (arith, e)
 
 pub returns-in-Err-clause-written : goal.returns-in-Err-clause-written
 returns-in-Err-clause-written g c =
     let plan : PlanFields = plan_fields c.args.plan.now in
     let services : List (List PacketFields) = c.args.services.now.packets in
+    let slot : ℕ = c.loop-turn.slot in
     let end : (slots : ℕ) × IsSlotCount (slot_in plan services) slots = slots_end plan services c.args.plan.now.valid in
-    let took : TakesSlot plan services c.loop-services.slot c.take_packet-packet.new.services c.take_packet-packet.result = c.take_packet-packet.ensures.services services c.loop-services.invariant.services in
+    let adds : AddsRecord plan services slot c.add.new.services c.loop-turn.batch c.add.new.self = c.add.ensures.added services c.loop-turn.invariant.services in
+    let handed : AreHanded plan services slot (g.K.Sink.held c.args.sink.now) (g.K.Sink.held c.loop-turn.sink) c.loop-turn.batch = c.loop-turn.invariant.handed in
+    let some : 0 < packet_total c.loop-turn.services.packets = some_left (packet_total c.loop-turn.services.packets) c.in-Some.ensures.left in
     record {
       slots = end.0;
       count = end.1;
-      written = part_written plan services end.0 c.loop-services.slot c.take_packet-packet.new.services c.take_packet-packet.result (g.K.Sink.held c.args.sink.now) (g.K.Sink.held c.loop-services.sink)
-          (g.K.Sink.held c.put_record.new.sink)
-          (goes_on plan services c.args.plan.now.valid end.0 c.loop-services.slot c.loop-services.services end.1 c.loop-services.invariant.services (omega (arith, c.loop-services-test.true, c.left.ensures.read)))
-          took c.loop-services.invariant.written c.in-Err.ensures.written;
+      written = part_handed plan services end.0 (slot + 1) (g.K.Sink.held c.args.sink.now) (g.K.Sink.held c.loop-turn.sink) (g.K.Sink.held c.put_full.new.sink) handed.front c.add.new.self
+          (omega (arith, goes_on plan services c.args.plan.now.valid end.0 slot c.loop-turn.services end.1 c.loop-turn.invariant.services some))
+          (added_bytes plan services slot c.add.new.services (g.K.Sink.held c.args.sink.now) (g.K.Sink.held c.loop-turn.sink) c.loop-turn.batch c.add.new.self adds handed)
+          handed.appended c.in-Err.ensures.handed;
       packets = tt;
     }
 
-pub loop-services-smaller : goal.loop-services-smaller
-loop-services-smaller g c =
+pub loop-turn-smaller : goal.loop-turn-smaller
+loop-turn-smaller g c =
     omega (
       arith,
-      falls (plan_fields c.args.plan.now) c.args.plan.now.valid c.loop-services.slot (packet_total c.loop-services.services.packets) (packet_total c.take_packet-packet.new.services.packets) c.loop-services.table.count
-          c.loop-services.invariant.table.count c.loop-services.invariant.few c.take_packet-packet.ensures.left,
-      c.take_packet-packet.ensures.count,
+      falls (plan_fields c.args.plan.now) c.args.plan.now.valid c.loop-turn.slot (packet_total c.loop-turn.services.packets) (packet_total c.add.new.services.packets) c.loop-turn.table.count
+          c.loop-turn.invariant.table.count c.loop-turn.invariant.few c.add.ensures.left,
+      c.add.ensures.count,
     )
 
-pub loop-services-preserved : goal.loop-services-preserved
-loop-services-preserved g c =
+pub loop-turn-preserved : goal.loop-turn-preserved
+loop-turn-preserved g c =
     let plan : PlanFields = plan_fields c.args.plan.now in
     let services : List (List PacketFields) = c.args.services.now.packets in
-    let took : TakesSlot plan services c.loop-services.slot c.take_packet-packet.new.services c.take_packet-packet.result = c.take_packet-packet.ensures.services services c.loop-services.invariant.services in
+    let slot : ℕ = c.loop-turn.slot in
+    let adds : AddsRecord plan services slot c.add.new.services c.loop-turn.batch c.add.new.self = c.add.ensures.added services c.loop-turn.invariant.services in
     record {
-      table = c.take_packet-packet.ensures.table;
-      services = took.after;
-      last = last_one plan services c.loop-services.slot (packet_total c.loop-services.services.packets) (packet_total c.take_packet-packet.new.services.packets) c.take_packet-packet.new.services
-          c.take_packet-packet.result took (omega (arith, c.loop-services-test.true, c.left.ensures.read)) c.take_packet-packet.ensures.left;
-      few = omega (arith, c.take_packet-packet.ensures.count, c.loop-services.invariant.few);
+      table = c.add.ensures.table;
+      services = adds.after;
+      last = last_one plan services slot (packet_total c.loop-turn.services.packets) (packet_total c.add.new.services.packets) adds.of_service
+          (some_left (packet_total c.loop-turn.services.packets) c.in-Some.ensures.left) c.add.ensures.left;
+      few = omega (arith, c.add.ensures.count, c.loop-turn.invariant.few);
       most = omega (
         arith,
-        falls plan c.args.plan.now.valid c.loop-services.slot (packet_total c.loop-services.services.packets) (packet_total c.take_packet-packet.new.services.packets) c.loop-services.table.count
-            c.loop-services.invariant.table.count c.loop-services.invariant.few c.take_packet-packet.ensures.left,
-        c.take_packet-packet.ensures.count,
-        c.loop-services.invariant.most,
+        falls plan c.args.plan.now.valid slot (packet_total c.loop-turn.services.packets) (packet_total c.add.new.services.packets) c.loop-turn.table.count
+            c.loop-turn.invariant.table.count c.loop-turn.invariant.few c.add.ensures.left,
+        c.add.ensures.count,
+        c.loop-turn.invariant.most,
       );
-      written = all_written plan services c.loop-services.slot c.take_packet-packet.new.services c.take_packet-packet.result (g.K.Sink.held c.args.sink.now) (g.K.Sink.held c.loop-services.sink)
-          (g.K.Sink.held c.put_record.new.sink) took c.loop-services.invariant.written c.in-Ok.ensures.written;
-      flushed = stays-trans (g.K.Sink.flushed c.args.sink.now) (g.K.Sink.flushed c.loop-services.sink) (g.K.Sink.flushed c.put_record.new.sink) c.loop-services.invariant.flushed c.in-Ok.ensures.flushed;
-      later = omega (arith, c.loop-services.invariant.later, c.in-Ok.ensures.cause.later);
+      handed = one_handed plan services slot c.add.new.services (g.K.Sink.held c.args.sink.now) (g.K.Sink.held c.loop-turn.sink) (g.K.Sink.held c.put_full.new.sink) c.loop-turn.batch c.add.new.self
+          c.put_full.new.self adds c.loop-turn.invariant.handed c.in-Ok.ensures.handed;
+      room = c.in-Ok.ensures.room;
+      flushed = stays-trans (g.K.Sink.flushed c.args.sink.now) (g.K.Sink.flushed c.loop-turn.sink) (g.K.Sink.flushed c.put_full.new.sink) c.loop-turn.invariant.flushed c.in-Ok.ensures.flushed;
+      later = omega (arith, c.loop-turn.invariant.later, c.in-Ok.ensures.cause.later);
     }
 
-pub returns-clause-written : goal.returns-clause-written
-returns-clause-written g c =
+pub returns-in-Ok-put-clause-written : goal.returns-in-Ok-put-clause-written
+returns-in-Ok-put-clause-written g c =
     let plan : PlanFields = plan_fields c.args.plan.now in
     let services : List (List PacketFields) = c.args.services.now.packets in
-    let none : packet_total c.loop-services.services.packets ≡ 0 = omega (arith, c.loop-services-test.false, c.left.ensures.read) in
+    let slot : ℕ = c.loop-turn.slot in
+    let none : packet_total c.loop-turn.services.packets ≡ 0 = none_left (packet_total c.loop-turn.services.packets) c.in_default.ensures.left in
     record {
-      slots = c.loop-services.slot;
-      count = record {
-        last = c.loop-services.invariant.last none;
-        over = over_there plan services c.loop-services.slot c.loop-services.services c.loop-services.invariant.services none;
-      };
-      written = c.loop-services.invariant.written;
+      slots = slot;
+      count = record { last = c.loop-turn.invariant.last none; over = over_there plan services slot c.loop-turn.services c.loop-turn.invariant.services none };
+      written = all_handed plan services slot (g.K.Sink.held c.args.sink.now) (g.K.Sink.held c.loop-turn.sink) (g.K.Sink.held c.put.new.sink) c.loop-turn.batch c.loop-turn.invariant.handed c.in-Ok-put.ensures.written;
       packets = refl;
+    }
+
+pub returns-in-Err-put-clause-written : goal.returns-in-Err-put-clause-written
+returns-in-Err-put-clause-written g c =
+    let plan : PlanFields = plan_fields c.args.plan.now in
+    let services : List (List PacketFields) = c.args.services.now.packets in
+    let slot : ℕ = c.loop-turn.slot in
+    let none : packet_total c.loop-turn.services.packets ≡ 0 = none_left (packet_total c.loop-turn.services.packets) c.in_default.ensures.left in
+    let handed : AreHanded plan services slot (g.K.Sink.held c.args.sink.now) (g.K.Sink.held c.loop-turn.sink) c.loop-turn.batch = c.loop-turn.invariant.handed in
+    record {
+      slots = slot;
+      count = record { last = c.loop-turn.invariant.last none; over = over_there plan services slot c.loop-turn.services c.loop-turn.invariant.services none };
+      written = part_handed plan services slot slot (g.K.Sink.held c.args.sink.now) (g.K.Sink.held c.loop-turn.sink) (g.K.Sink.held c.put.new.sink) handed.front c.loop-turn.batch (omega arith)
+          handed.bytes_are handed.appended c.in-Err-put.ensures.written;
+      packets = tt;
     }

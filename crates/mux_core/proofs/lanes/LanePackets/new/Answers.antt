@@ -1,7 +1,6 @@
-use Rattle.std.proofs.Common.{◌≡◌, ℕ, List, length, map, sym, subst, ◌∙◌, ◌≤◌, ◌^◌}
+use Rattle.std.proofs.Common.{ℕ, List, length, map, sym, subst, ◌≤◌, ◌^◌}
 use Rattle.ts_spec.specs.Packet.{PacketFields}
-use Rattle.unit_stream.specs.Packing.{packetized}
-use Rattle.unit_stream.specs.Packers.{AreRising, units_of, end_of}
+use Rattle.unit_stream.specs.Packers.{AreRising}
 use Rattle.plan_spec.specs.Plan.{KindFields}
 use Rattle.service_plan.specs.Parts.{kind_seen}
 use Rattle.mux_core.specs.Units.{unit_of}
@@ -9,25 +8,18 @@ use Rattle.mux_core.proofs.Held.{rising_held}
 use Rattle.mux_core.proofs.Windows.{window_first, sending_first, packets_first, few_first}
 use Rattle.mux_core.proofs.lanes.LanePackets.new.Goals as goal
 
-pub count_packets-left-requires : goal.count_packets-left-requires
-count_packets-left-requires g c =
-    subst (AreRising g.F.UnitForm.START 0) (sym (c.deref.ensures.value ∙ c.in_ok-ends.ensures.written))
-    (rising_held g.F.UnitForm.START 0 (map (unit_of (kind_seen c.args.service.now.kind) c.args.service.now.unicast) c.args.datagrams.now) c.requires.least)
-
 pub invariant_of-result : goal.invariant_of-result
 invariant_of-result g c =
     let kind : KindFields = kind_seen c.args.service.now.kind in
     let unicast : List ℕ = c.args.service.now.unicast in
     let datagrams : List (List ℕ) = c.args.datagrams.now in
     let ends : List ℕ = c.in_ok-ends.ends.items in
-    sending_first g.F.UnitForm.START g.F.UnitForm.form kind unicast datagrams ends c.in_ok-window.window c.new-2.result c.count_packets-left.result c.args.packing c.args.pid
+    sending_first g.F.UnitForm.START kind unicast datagrams ends c.in_ok-window.window c.new-2.result
     (window_first kind unicast datagrams c.in_ok-window.window c.requires.built c.requires.datagrams c.requires.few
     c.in_ok-window.ensures.empty.0 c.in_ok-window.ensures.empty.1 c.in_ok-window.ensures.empty.2 c.in_ok-window.ensures.size)
     c.in_ok-window.ensures.empty.0 c.in_ok-ends.ensures.written
     (subst (AreRising g.F.UnitForm.START 0) (sym c.in_ok-ends.ensures.written) (rising_held g.F.UnitForm.START 0 (map (unit_of kind unicast) datagrams) c.requires.least))
-    c.new-2.ensures.on_way c.new-2.ensures.begins
-    (subst (λ (es : List ℕ). (bytes : List ℕ) → end_of es (length es) ≤ length bytes → c.count_packets-left.result ≡ length (packetized g.F.UnitForm.form c.args.packing c.args.pid 0 (units_of bytes es)))
-    c.deref.ensures.value (λ bytes within. c.count_packets-left.ensures.counted bytes c.args.pid 0 within))
+    c.new-2.ensures.on_way
 
 pub returns-clause-written : goal.returns-clause-written
 returns-clause-written g c =

@@ -22,9 +22,6 @@ invariant_of-self g c =
     let new : PackerState = c.next_within.new.self in
     let size : length c.bytes.result.now ≡ window.fill
     = handed_size kind unicast datagrams window c.reach.ensures.window c.deref.result.now c.bytes.result.now (c.deref.ensures.value ∙ c.self.invariant.ends_are) c.bytes.ensures.read in
-    let wrote : Writes g.F.UnitForm.form c.self.inside.packer new (unit_bytes kind unicast datagrams) c.self.inside.ends.items c.next_within.new.into true
-    = writes_all kind unicast datagrams window c.reach.ensures.window c.deref.result.now c.bytes.result.now (c.deref.ensures.value ∙ c.self.invariant.ends_are) c.bytes.ensures.read
-    g.F.UnitForm.form c.self.inside.packer new c.self.inside.ends.items c.next_within.new.into c.next_within.result true c.deref.ensures.value c.if-next_within.true c.next_within.ensures.writes in
     record {
       window_is = c.reach.ensures.window;
       ends_are = c.self.invariant.ends_are;
@@ -32,38 +29,27 @@ invariant_of-self g c =
       way = subst (IsOnWay new) c.deref.ensures.value c.next_within.ensures.on_way;
       from = omega (arith, c.reach.ensures.before, c.at.ensures.read, c.next_within.ensures.within.0);
       to = omega (arith, c.next_within.ensures.within.1, size);
-      left_is = omega (arith, c.self.invariant.left_is, ap (λ (ps : List PacketFields). length ps) wrote.1);
     }
 
 none_left : (packets old : List PacketFields) → packets ≡ old → 0 < length old → packets ≡ [] → ⊥
 none_left packets old same some none = omega (arith, ap (λ (ps : List PacketFields). length ps) same, some, ap (λ (ps : List PacketFields). length ps) none)
 
-pub invariant_of-self-else-next_within : goal.invariant_of-self-else-next_within
-invariant_of-self-else-next_within g c =
+pub unreachable-requires : goal.unreachable-requires
+unreachable-requires g c =
     let kind : KindFields = kind_seen c.self.inside.service.now.kind in
     let unicast : List ℕ = c.self.inside.service.now.unicast in
     let datagrams : List (List ℕ) = c.self.inside.datagrams.now in
     let none : Writes g.F.UnitForm.form c.self.inside.packer c.next_within.new.self (unit_bytes kind unicast datagrams) c.self.inside.ends.items c.next_within.new.into false
     = writes_all kind unicast datagrams c.reach.new.self c.reach.ensures.window c.deref.result.now c.bytes.result.now (c.deref.ensures.value ∙ c.self.invariant.ends_are) c.bytes.ensures.read
-    g.F.UnitForm.form c.self.inside.packer c.next_within.new.self c.self.inside.ends.items c.next_within.new.into c.next_within.result false c.deref.ensures.value c.if-next_within.false c.next_within.ensures.writes in
-    absurd (none_left (packets_left g.F.UnitForm.form c.self.inside.packer (unit_bytes kind unicast datagrams) c.self.inside.ends.items) c.args.self.now c.self.view_is c.requires none.0)
+    g.F.UnitForm.form c.self.inside.packer c.next_within.new.self c.self.inside.ends.items c.next_within.new.into c.next_within.result false c.deref.ensures.value c.if-not-next_within.true c.next_within.ensures.writes in
+    none_left (packets_left g.F.UnitForm.form c.self.inside.packer (unit_bytes kind unicast datagrams) c.self.inside.ends.items) c.args.self.now c.self.view_is c.requires none.0
 
-pub returns-then-next_within : goal.returns-then-next_within
-returns-then-next_within g c =
+pub returns : goal.returns
+returns g c =
     let kind : KindFields = kind_seen c.self.inside.service.now.kind in
     let unicast : List ℕ = c.self.inside.service.now.unicast in
     let datagrams : List (List ℕ) = c.self.inside.datagrams.now in
     let wrote : Writes g.F.UnitForm.form c.self.inside.packer c.next_within.new.self (unit_bytes kind unicast datagrams) c.self.inside.ends.items c.next_within.new.into true
     = writes_all kind unicast datagrams c.reach.new.self c.reach.ensures.window c.deref.result.now c.bytes.result.now (c.deref.ensures.value ∙ c.self.invariant.ends_are) c.bytes.ensures.read
-    g.F.UnitForm.form c.self.inside.packer c.next_within.new.self c.self.inside.ends.items c.next_within.new.into c.next_within.result true c.deref.ensures.value c.if-next_within.true c.next_within.ensures.writes in
+    g.F.UnitForm.form c.self.inside.packer c.next_within.new.self c.self.inside.ends.items c.next_within.new.into c.next_within.result true c.deref.ensures.value c.if-not-next_within.false c.next_within.ensures.writes in
     record { next = (wrote.0, sym c.self.view_is ∙ wrote.1, wrote.2) }
-
-pub returns-else-next_within : goal.returns-else-next_within
-returns-else-next_within g c =
-    let kind : KindFields = kind_seen c.self.inside.service.now.kind in
-    let unicast : List ℕ = c.self.inside.service.now.unicast in
-    let datagrams : List (List ℕ) = c.self.inside.datagrams.now in
-    let none : Writes g.F.UnitForm.form c.self.inside.packer c.next_within.new.self (unit_bytes kind unicast datagrams) c.self.inside.ends.items c.next_within.new.into false
-    = writes_all kind unicast datagrams c.reach.new.self c.reach.ensures.window c.deref.result.now c.bytes.result.now (c.deref.ensures.value ∙ c.self.invariant.ends_are) c.bytes.ensures.read
-    g.F.UnitForm.form c.self.inside.packer c.next_within.new.self c.self.inside.ends.items c.next_within.new.into c.next_within.result false c.deref.ensures.value c.if-next_within.false c.next_within.ensures.writes in
-    absurd (none_left (packets_left g.F.UnitForm.form c.self.inside.packer (unit_bytes kind unicast datagrams) c.self.inside.ends.items) c.args.self.now c.self.view_is c.requires none.0)

@@ -13,11 +13,11 @@ returns-in-Some c =
     let first : ℕ = c.self.inside.first in
     let serving : Serving = record { packets = map packets_in items; first = first } in
     let told : IsTurn c.args.self.now (Some c.in-Some.k) = subst (λ (s : Serving). IsTurn s (Some c.in-Some.k)) c.self.view_is
-    (is_turn serving (Some c.in-Some.k) (omega (arith, c.self.invariant.1, length-map items packets_in))
+    (is_turn serving (Some c.in-Some.k) (omega (arith, c.self.invariant, length-map items packets_in))
     (turn_two items c.deref.result.now first c.len.result (Some c.in-Some.k) (find (has_packets (map packets_in items)) (range_with_len 0 first))
-    c.deref.ensures.value (omega (arith, c.len.ensures, c.deref.ensures.len, ap (λ (ls : List Lane). length ls) c.deref.ensures.value)) c.self.invariant.1
+    c.deref.ensures.value (omega (arith, c.len.ensures, c.deref.ensures.len, ap (λ (ls : List Lane). length ls) c.deref.ensures.value)) c.self.invariant
     (sym c.in-Some.is ∙ c.find_from.ensures) refl)) in
-    record { read = told.read; some = told.some; has = told.has }
+    record { read = told.read; left = told.left }
 
 pub returns-in-None : goal.returns-in-None
 returns-in-None c =
@@ -27,10 +27,10 @@ returns-in-None c =
     let rest : Option ℕ = c.find_from-in-None.result in
     let none_off : first - 0 ≡ first = omega arith in
     let told : IsTurn c.args.self.now rest = subst (λ (s : Serving). IsTurn s rest) c.self.view_is
-    (is_turn serving rest (omega (arith, c.self.invariant.1, length-map items packets_in))
+    (is_turn serving rest (omega (arith, c.self.invariant, length-map items packets_in))
     (turn_two items c.deref.result.now first c.len.result None rest
-    c.deref.ensures.value (omega (arith, c.len.ensures, c.deref.ensures.len, ap (λ (ls : List Lane). length ls) c.deref.ensures.value)) c.self.invariant.1
+    c.deref.ensures.value (omega (arith, c.len.ensures, c.deref.ensures.len, ap (λ (ls : List Lane). length ls) c.deref.ensures.value)) c.self.invariant
     (sym c.in-None.is ∙ c.find_from.ensures)
     (c.find_from-in-None.ensures ∙ ap (λ (ls : List Lane). find (has_packets (map packets_in ls)) (range_with_len 0 (first - 0))) c.deref-in-None.ensures.value
     ∙ ap (λ (n : ℕ). find (has_packets (map packets_in items)) (range_with_len 0 n)) none_off))) in
-    record { read = told.read; some = told.some; has = told.has }
+    record { read = told.read; left = told.left }

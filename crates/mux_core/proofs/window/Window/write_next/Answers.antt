@@ -2,7 +2,7 @@ use Rattle.std.proofs.Common.{◌≡◌, ℕ, ◌+◌, ◌≤◌, List, ◌++◌
 use Rattle.service_plan.specs.Parts.{kind_seen}
 use Rattle.mux_core.specs.Units.{unit_of}
 use Rattle.mux_core.proofs.Held.{put_back}
-use Rattle.mux_core.proofs.Windows.{window_more}
+use Rattle.mux_core.proofs.Windows.{next_fits, window_more}
 use Rattle.mux_core.proofs.window.Window.write_next.Goals as goal
 
 pub returns-clause-window : goal.returns-clause-window
@@ -12,7 +12,8 @@ returns-clause-window c =
     let datagram : List ℕ = c.at-datagram.result.now in
     let unit : List ℕ = unit_of (kind_seen c.args.service.now.kind) c.args.service.now.unicast datagram in
     let same : length c.deref_mut.result.now ≡ length items = ap (λ (l : List ℕ). length l) c.deref_mut.ensures.value in
-    let room : fill + (length datagram + 16) ≤ length items = omega (arith, c.if-len-self.false, c.len.ensures, same, c.deref_mut.ensures.len, c.requires.window.fits) in
+    let room : fill + (length datagram + 16) ≤ length items = next_fits (kind_seen c.args.service.now.kind) c.args.service.now.unicast c.args.datagrams.now c.args.self.now c.requires.window datagram
+    c.at-datagram.ensures.read c.requires.lacks in
     let new_is : c.put_unit.new.into ≡ take fill items ++ (unit ++ drop c.put_unit.result (drop fill items))
     = c.put_unit.ensures.written ∙ ap (λ (l : List ℕ). take fill l ++ (unit ++ drop c.put_unit.result (drop fill l))) c.deref_mut.ensures.value in
     let put = put_back items c.put_unit.new.into unit c.args.self.now.buffer.len fill c.put_unit.result (omega (arith, same, c.deref_mut.ensures.len))

@@ -1,0 +1,118 @@
+//! Records on their way to the sink, many in one piece.
+ghost use Rattle.std.specs.Prelude.{◌≡◌, ◌≤◌, ◌<◌, ◌+◌, ℕ, List, [], length, take, Some, IfOk, OnOk, if◌then◌else◌};
+ghost use Rattle.wire_spec.specs.Causes.{HasCause};
+ghost use Rattle.wire_spec.specs.Content.{Puts, Stays};
+ghost use Rattle.ts_spec.specs.Packet.{PacketFields};
+ghost use Rattle.service_plan.specs.PlanView.{plan_fields};
+ghost use Rattle.mux_core.specs.Services.{packet_total, turn_of, AreAt};
+ghost use Rattle.mux_core.specs.Tables.{IsTableAt};
+ghost use Rattle.mux_core.specs.Slots.{turns_in, is_early, AddsRecord, Hands};
+
+use crate::services::Services;
+use crate::slots::write_record;
+use crate::table::TablePackets;
+use ipe_io::{Failed, Sink, put_all};
+use service_plan::Plan;
+use std::alloc::{AllocError as OutOfMemory, Global};
+use std::marker::Model;
+
+/// Bytes with which a batch is full: 1,024 packets, which are 47 pages of memory, so that a file is written page by page.
+const FULL: usize = 1024 * 188;
+
+/// Bytes of the longest record.
+const LONGEST: usize = 196;
+
+/// Records that no sink has yet; contracts see their bytes.
+#[derive(Drop)]
+pub(crate) struct Batch {
+    buffer: Vec<u8>,
+    /// How many bytes of the buffer are of records.
+    fill: usize,
+}
+
+impl Model for Batch {
+    ghost use Rattle.std.specs.Prelude.{◌≡◌, ◌≤◌, ℕ, List, length, take};
+
+    ghost Value = { List ℕ };
+
+    ghost view = { λ b. take b.fill b.buffer.items };
+
+    ghost invariant = { λ b. (b.fill ≤ length b.buffer.items) × (length b.buffer.items ≡ 192708) };
+}
+
+/// So many zeros.
+fn zeros(alloc: Global, count: usize) -> Result<Vec<u8>, OutOfMemory>
+    ensures size { IfOk result (λ bytes. length bytes.items ≡ count) }
+{
+    vec![in alloc; 0u8; count]
+}
+
+impl Batch {
+    ghost use Rattle.std.specs.Prelude.{◌≡◌, ◌≤◌, ◌<◌, ◌+◌, ℕ, List, [], length, take, Some, IfOk, OnOk, if◌then◌else◌};
+    ghost use Rattle.wire_spec.specs.Causes.{HasCause};
+    ghost use Rattle.wire_spec.specs.Content.{Puts, Stays};
+    ghost use Rattle.ts_spec.specs.Packet.{PacketFields};
+    ghost use Rattle.service_plan.specs.PlanView.{plan_fields};
+    ghost use Rattle.mux_core.specs.Services.{packet_total, turn_of, AreAt};
+    ghost use Rattle.mux_core.specs.Tables.{IsTableAt};
+    ghost use Rattle.mux_core.specs.Slots.{turns_in, is_early, AddsRecord, Hands};
+
+    /// Takes memory for the records; there are none yet.
+    pub(crate) fn new(alloc: Global) -> Result<Batch, OutOfMemory>
+        ensures empty { IfOk result (λ batch. batch ≡ []) }
+    {
+        let buffer = zeros(alloc, FULL + LONGEST)?;
+        Ok(Batch { buffer, fill: 0 })
+    }
+
+    /// Writes the record of a slot behind the others.
+    pub(crate) fn add(
+        &mut self,
+        plan: &Plan,
+        services: &mut Services<'_>,
+        turn: usize,
+        table: &mut TablePackets,
+        slot: u64,
+    )
+        requires room { length self.old ≤ 192512 }
+        requires table { IsTableAt (plan_fields plan.now) slot table.old }
+        requires turn { turn_of services.old ≡ Some turn }
+        ensures table { IsTableAt (plan_fields plan.now) (slot + 1) table.new }
+        ensures added { (lists : List (List PacketFields)) → AreAt lists (turns_in (plan_fields plan.now) lists slot) services.old
+            → AddsRecord (plan_fields plan.now) lists slot services.new self.old self.new }
+        ensures left { packet_total services.old.packets ≡ packet_total services.new.packets + (if is_early (plan_fields plan.now) slot then 0 else 1) }
+        ensures count { table.new.count ≡ table.old.count }
+    {
+        let into = &mut self.buffer[self.fill..];
+        self.fill += write_record(plan, services, turn, table, slot, into);
+    }
+
+    /// Appends all records to the sink. On `Failed` a prefix of them was appended.
+    pub(crate) fn put<K: Sink>(&mut self, sink: &mut K) -> Result<(), Failed>
+        ensures written { Puts result (K.held sink.old) (K.held sink.new) self.old }
+        ensures emptied { OnOk result (self.new ≡ []) }
+        ensures flushed { Stays (K.flushed sink.old) (K.flushed sink.new) }
+        ensures cause { HasCause (K.faults sink.old) (K.faults sink.new) result }
+    {
+        match put_all(sink, &self.buffer[..self.fill]) {
+            Ok(()) => {
+                self.fill = 0;
+                Ok(())
+            }
+            Err(Failed) => Err(Failed),
+        }
+    }
+
+    /// Appends all records to the sink where the batch is full. On `Failed` a prefix of them was appended.
+    pub(crate) fn put_full<K: Sink>(&mut self, sink: &mut K) -> Result<(), Failed>
+        ensures handed { Hands result (K.held sink.old) (K.held sink.new) self.old self.new }
+        ensures room { OnOk result (length self.new ≤ 192512) }
+        ensures flushed { Stays (K.flushed sink.old) (K.flushed sink.new) }
+        ensures cause { HasCause (K.faults sink.old) (K.faults sink.new) result }
+    {
+        if self.fill < FULL {
+            return Ok(());
+        }
+        self.put(sink)
+    }
+}
