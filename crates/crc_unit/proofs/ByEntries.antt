@@ -12,11 +12,11 @@ use Rattle.crc_unit.proofs.Steps.{steps_low}
 use Rattle.crc_unit.proofs.Chunks.{eight_is, four_ahead, twelve_are}
 
 -- shifts of a register of CRC_32
-abbrev shifts : ℕ → ℕ → ℕ
+abbrev pub shifts : ℕ → ℕ → ℕ
 shifts n r = register_steps 31 0x04C1_1DB7 n r
 
 -- shifts and then more shifts
-steps-add : (n m r : ℕ) → shifts (n + m) r ≡ shifts m (shifts n r)
+pub steps-add : (n m r : ℕ) → shifts (n + m) r ≡ shifts m (shifts n r)
 steps-add zero m r =
     let count : zero + m ≡ m = omega arith in
     ap (λ t. shifts t r) count ∙ ap (λ t. shifts m t) (sym (steps_none 31 0x04C1_1DB7 r))
@@ -49,7 +49,7 @@ byte_behind r b m small fits =
     sym (steps-add 8 m (bit_xor r (b * 2 ^ 24))) ∙ steps_xor 31 0x04C1_1DB7 (8 + m) r (b * 2 ^ 24) small moved_fits (lit< tt)
 
 -- the register after bytes: its own shifts and the bytes' entries
-run_is : (bytes : List ℕ) (r : ℕ) → r < 2 ^ 32 → AreBytes bytes
+pub run_is : (bytes : List ℕ) (r : ℕ) → r < 2 ^ 32 → AreBytes bytes
     → crc32_run r bytes ≡ bit_xor (shifts (8 * length bytes) r) (entries bytes)
 run_is [] r small all = sym (xor_zero_r (shifts 0 r) ∙ steps_none 31 0x04C1_1DB7 r)
 run_is (b ∷ rest) r small all =
@@ -72,7 +72,7 @@ entry_low n m p x k count whole fits =
     ∙ ap (λ t. shifts n t) (steps_low 31 0x04C1_1DB7 m (x * p) (subst (λ t. t < 2 ^ 32) (sym moved) small) ∙ moved)
 
 -- shifts of a register are the entries of its four bytes, added
-register_is : (n r : ℕ) → r < 2 ^ 32
+pub register_is : (n r : ℕ) → r < 2 ^ 32
     → shifts (24 + n) r
     ≡ bit_xor (crc32_entry (24 + n) (r / 2 ^ 24 % 2 ^ 8)) (bit_xor (crc32_entry (16 + n) (r / 2 ^ 16 % 2 ^ 8)) (bit_xor (crc32_entry (8 + n) (r / 2 ^ 8 % 2 ^ 8)) (crc32_entry n (r % 2 ^ 8))))
 register_is n r small =
@@ -112,7 +112,7 @@ register_is n r small =
     ∙ ap₂ (λ x y. bit_xor x y) (entry_low (24 + n) 0 (2 ^ 24) top k (omega arith) refl top_fits) three_is
 
 -- two sums, added place by place
-swap : (a b x y : ℕ) → bit_xor (bit_xor a b) (bit_xor x y) ≡ bit_xor (bit_xor a x) (bit_xor b y)
+pub swap : (a b x y : ℕ) → bit_xor (bit_xor a b) (bit_xor x y) ≡ bit_xor (bit_xor a x) (bit_xor b y)
 swap a b x y =
     xor_assoc a b (bit_xor x y)
     ∙ ap (λ t. bit_xor a t) (sym (xor_assoc b x y) ∙ ap (λ t. bit_xor t y) (xor_comm b x) ∙ xor_assoc x b y)

@@ -6,9 +6,11 @@
 #![tactic(auto)]
 
 mod eights;
+mod five_terms;
 mod plain;
 mod register32;
 mod register8;
+mod sixteens;
 mod table;
 
 pub use register8::crc8;

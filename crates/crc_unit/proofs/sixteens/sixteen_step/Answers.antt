@@ -5,7 +5,7 @@ use Rattle.wire_spec.specs.Bytes.{AreBytes}
 use Rattle.crc_unit.specs.Entry.{crc32_entry}
 use Rattle.crc_unit.proofs.Entries.{after_104, after_112, after_120, after_128}
 use Rattle.crc_unit.proofs.ByEntries.{sixteen_run}
-use Rattle.crc_unit.proofs.register32.sixteen_step.Goals as goal
+use Rattle.crc_unit.proofs.sixteens.sixteen_step.Goals as goal
 
 pub returns : goal.returns
 returns c =

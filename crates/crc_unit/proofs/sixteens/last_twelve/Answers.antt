@@ -2,7 +2,7 @@ use Rattle.std.proofs.Common.{◌≡◌, ℕ, List, get_or, bit_xor, ap₂, ◌�
 use Rattle.crc_unit.specs.Entry.{crc32_entry}
 use Rattle.crc_unit.proofs.Entries.{after_8, after_16, after_24, after_32, after_40, after_48, after_56, after_64, after_72, after_80, after_88, after_96}
 use Rattle.crc_unit.proofs.ByEntries.{twelve_added}
-use Rattle.crc_unit.proofs.register32.last_twelve.Goals as goal
+use Rattle.crc_unit.proofs.sixteens.last_twelve.Goals as goal
 
 pub returns : goal.returns
 returns c =
