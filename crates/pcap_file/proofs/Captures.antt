@@ -1,14 +1,15 @@
 -- A capture with one more record, and why no longer front of the bytes is a capture.
-use Rattle.std.proofs.Common.{◌≡◌, ℕ, ◌+◌, ◌<◌, ◌≤◌, Bool, List, [], ◌∷◌, ◌++◌, length, take, drop, map, All, Option, Some, None, refl, ap, sym, ◌∙◌, subst, arith, length-append, append_assoc}
+use Rattle.std.proofs.Common.{◌≡◌, ℕ, ◌+◌, ◌<◌, ◌≤◌, Bool, List, [], ◌∷◌, ◌++◌, length, take, drop, map, All, Option, Some, None, IfSome, refl, ap, sym, ◌∙◌, subst, arith, length-append, append_assoc}
+use Rattle.std.specs.Io.{StartsWith}
 use Rattle.std.specs.Io.KnownBytes.{Consumes}
-use Rattle.std.proofs.lemmas.List.{take-append-le, drop_at, map_push, length_push, append-nil, take_all}
+use Rattle.std.proofs.lemmas.List.{take-append-le, take_at, drop_at, map_push, length_push, append-nil, take_all}
 use Rattle.std.proofs.lemmas.List.Elements.{All-push, All-nil}
 use Rattle.std.proofs.lemmas.List.Sums.{sum_by-append}
 use Rattle.wire_spec.specs.Lists.{joined}
 use Rattle.pcap_file.specs.Reading.{head_fault, is_least_first, link_at, captured_length, longest_record, most_records, most_bytes}
 use Rattle.pcap_file.specs.Told.{IsRecord, IsCapture, bytes_in}
 use Rattle.pcap_file.specs.Known.{ReaderState}
-use Rattle.pcap_file.specs.Reader.{HasRead, TakesRecord, with_record}
+use Rattle.pcap_file.specs.Reader.{HasRead, Passes, TakesRecord, with_record}
 use Rattle.pcap_file.proofs.FileHeads.{head_fault-append, is_least_first-append, link_at-append, head_is_whole}
 use Rattle.pcap_file.proofs.RecordFaults.{captured_length-append}
 
@@ -70,9 +71,26 @@ HasRead-more reader front records head bytes so_far l told short few small =
 -- a read that took a record
 pub HasRead-taken : (reader : ReaderState) (front : List ℕ) (records : List (List ℕ)) (a b : Option (List ℕ)) (bytes : List ℕ) → HasRead reader front records
     → TakesRecord reader.least_first reader.records reader.bytes a b bytes
-    → (x : List ℕ) × Consumes a b (x ++ bytes) × HasRead (with_record reader bytes) (front ++ (x ++ bytes)) (records ++ bytes ∷ [])
-HasRead-taken reader front records a b bytes so_far t =
-    (t.head, t.read, HasRead-more reader front records t.head bytes so_far t.head_size t.size t.short t.few t.small)
+    → (head : List ℕ) × (length head ≡ 16) × IfSome a (λ rest. StartsWith rest (head ++ bytes)) × HasRead (with_record reader bytes) (front ++ (head ++ bytes)) (records ++ bytes ∷ [])
+HasRead-taken reader front records a b bytes so_far t = (
+  t.head,
+  t.head_size,
+  begins a b (t.head ++ bytes) t.read,
+  HasRead-more reader front records t.head bytes so_far t.head_size t.size t.short t.few t.small,
+)
+  where
+    begins : (a b : Option (List ℕ)) (taken : List ℕ) → Consumes a b taken → IfSome a (λ rest. StartsWith rest taken)
+    begins None b taken took = tt
+    begins (Some rest) None taken took = absurd took
+    begins (Some rest) (Some behind) taken took = ap (take (length taken)) took ∙ take_at taken behind (length taken) refl
+
+pub Passes-taken : (least_first : Bool) (records size : ℕ) (a b : Option (List ℕ)) (bytes : List ℕ) → TakesRecord least_first records size a b bytes → Passes a b (16 + length bytes)
+Passes-taken least_first records size a b bytes t = behind a b (t.head ++ bytes) (16 + length bytes) t.read (omega (arith, length-append t.head bytes, t.head_size))
+  where
+    behind : (a b : Option (List ℕ)) (taken : List ℕ) (n : ℕ) → Consumes a b taken → length taken ≡ n → Passes a b n
+    behind None b taken n took size = tt
+    behind (Some rest) None taken n took size = absurd took
+    behind (Some rest) (Some now) taken n took size = sym (ap (drop n) took ∙ drop_at taken now n size)
 
 -- a reader that has taken the head alone
 pub HasRead-head : (reader : ReaderState) (head : List ℕ) → head_fault head ≡ None → length head ≡ 24 → reader.least_first ≡ is_least_first head

@@ -6,3 +6,4 @@ pub mod States
 pub mod ToldByReader
 pub mod OneTold
 pub mod Written
+pub mod ReadAhead

@@ -1,5 +1,5 @@
 -- A reader of a capture: what it knows, and what it stands for.
-use Rattle.std.specs.Prelude.{◌≡◌, ℕ, ◌+◌, ◌<◌, ◌≤◌, Bool, true, false, List, ◌++◌, length, Option, Some, None, Result, Ok, Err, IsErrOf, ⊤}
+use Rattle.std.specs.Prelude.{◌≡◌, ℕ, ◌+◌, ◌<◌, ◌≤◌, Bool, true, false, List, ◌++◌, length, drop, option_map, Option, Some, None, Result, Ok, Err, IsErrOf, ⊤}
 use Rattle.std.specs.Borrow.{Bor}
 use Rattle.std.specs.Io.KnownBytes.{Consumes}
 use Rattle.wire_spec.specs.Causes.{Rose}
@@ -21,15 +21,31 @@ pub record HasRead (reader : ReaderState) (front : List ℕ) (records : List (Li
   pub count : reader.records ≡ length records
   pub size : reader.bytes ≡ bytes_in records
 
+-- the bytes that are still to be read, where the source tells what it has left: the held bytes, and then these
+abbrev pub rest_of : List ℕ → Option (List ℕ) → Option (List ℕ)
+rest_of held left = option_map (λ bytes. held ++ bytes) left
+
+-- the first n of the bytes that were still to be read are read
+abbrev pub Passes : Option (List ℕ) → Option (List ℕ) → ℕ → Type 0
+Passes None now n = ⊤
+Passes (Some rest) None n = ⊥
+Passes (Some rest) (Some now) n = now ≡ drop n rest
+
 -- the reader with one more record read
 abbrev pub with_record : ReaderState → List ℕ → ReaderState
 with_record reader bytes = record reader { records = reader.records + 1; bytes = reader.bytes + length bytes }
 
--- the reader after an answer: an Err closes it
-abbrev pub state_after : ReaderState → Result (Option (Bor (List ℕ))) NextFault → ReaderState
-state_after reader (Ok None) = reader
-state_after reader (Ok (Some bytes)) = with_record reader bytes.now
-state_after reader (Err e) = record reader { is_open = false }
+-- the reader after an answer, which then holds these bytes: an Err closes it
+abbrev pub state_after : ReaderState → Result (Option (Bor (List ℕ))) NextFault → List ℕ → ReaderState
+state_after reader (Ok None) held = reader
+state_after reader (Ok (Some bytes)) held = record (with_record reader bytes.now) { held = held }
+state_after reader (Err e) held = record reader { is_open = false; held = held }
+
+-- what holds of a record, where that is the answer
+abbrev pub OnRecord : Result (Option (Bor (List ℕ))) NextFault → (List ℕ → Type 0) → Type 0
+OnRecord (Ok None) P = ⊤
+OnRecord (Ok (Some bytes)) P = P bytes.now
+OnRecord (Err e) P = ⊤
 
 -- what holds of the capture's fault, where that is the error
 abbrev pub OnOpenFault : OpenFault → (CaptureFault → Type 0) → Type 0
@@ -62,7 +78,7 @@ pub record HasNextCause {T : Type 0} (before now : ℕ) (result : Result T NextF
   pub later : before ≤ now
   pub failed : IsErrOf result next_fault.Failed → Rose before now
 
--- a read took one more record from the source, within the limits: these are its bytes
+-- one more record was read of the bytes that were still to be read, within the limits: these are its bytes
 pub record TakesRecord (least_first : Bool) (records bytes : ℕ) (old new : Option (List ℕ)) (taken : List ℕ) : Type 0 where
   pub head : List ℕ
   pub head_size : length head ≡ 16

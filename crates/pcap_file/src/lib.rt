@@ -4,6 +4,7 @@
 //! Begin with `CaptureReader::open` and `datagram_of`, `write_head` and `record_head`.
 #![tactic(auto)]
 
+mod ahead;
 mod captured;
 mod faults;
 mod file_head;

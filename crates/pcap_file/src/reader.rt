@@ -1,23 +1,25 @@
 //! A capture's bytes -> its records, one after another, lent out of the reader.
-ghost use Rattle.std.specs.Prelude.{◌≡◌, ℕ, ◌+◌, ◌<◌, ◌≤◌, true, List, [], ◌∷◌, ◌++◌, length, None, Some, IfOk, IfErr, IfSome, IfNone, vec_len};
+ghost use Rattle.std.specs.Prelude.{◌≡◌, ◌≢◌, ℕ, ◌+◌, ◌<◌, ◌≤◌, true, List, [], ◌∷◌, ◌++◌, length, None, Some, IfOk, IfErr, IfSome, IfNone};
+ghost use Rattle.std.specs.Io.{StartsWith};
 ghost use Rattle.std.specs.Io.KnownBytes.{Consumes};
 ghost use Rattle.std.specs.Borrow.{sem};
-ghost use Rattle.pcap_file.specs.Reading.{head_fault, is_least_first, link_at};
+ghost use Rattle.pcap_file.specs.Reading.{head_fault, is_least_first, link_at, record_fault};
 ghost use Rattle.pcap_file.specs.Told.{Tells};
-ghost use Rattle.pcap_file.specs.Reader.{HasNextCause, HasOpenCause, HasRead, OnNextFault, OnOpenFault, is_cut, state_after, with_record};
+ghost use Rattle.pcap_file.specs.Reader.{HasNextCause, HasOpenCause, HasRead, OnNextFault, OnOpenFault, OnRecord, Passes, is_cut, rest_of, state_after, with_record};
 
+use crate::ahead::Ahead;
 use crate::captured::LinkType;
 use crate::faults::{CaptureFault, NextFault, OpenFault};
 use crate::file_head::{self, FileHead};
-use crate::records::{self, LONGEST_RECORD};
+use crate::records;
 use ipe_io::{Failed, Source, fill};
-use std::alloc::{AllocError as OutOfMemory, Global};
+use std::alloc::Global;
 use std::marker::Model;
 
-/// A reader of one capture, which holds the record that it read last.
+/// A reader of one capture, which reads ahead of the record that it lends.
 #[derive(Drop)]
 pub struct CaptureReader {
-    buffer: Vec<u8>,
+    ahead: Ahead,
     least_first: bool,
     link: LinkType,
     records: u32,
@@ -26,24 +28,25 @@ pub struct CaptureReader {
 }
 
 impl Model for CaptureReader {
-    ghost use Rattle.std.specs.Prelude.{◌≡◌, ◌≤◌, vec_len};
+    ghost use Rattle.std.specs.Prelude.{◌≤◌};
     ghost use Rattle.pcap_file.specs.Known.{ReaderState};
-    ghost use Rattle.pcap_file.specs.Reading.{longest_record, most_records, most_bytes};
+    ghost use Rattle.pcap_file.specs.Ahead.{IsWithin, held_in};
+    ghost use Rattle.pcap_file.specs.Reading.{most_records, most_bytes};
 
     ghost Value = { ReaderState };
 
-    ghost view = { λ r. record { least_first = r.least_first; link = r.link; records = r.records; bytes = r.bytes; is_open = r.is_open } };
+    ghost view = { λ r. record { least_first = r.least_first; link = r.link; records = r.records; bytes = r.bytes; is_open = r.is_open; held = held_in r.ahead } };
 
-    ghost invariant = { λ r. (vec_len r.buffer ≡ longest_record) × (r.records ≤ most_records) × (r.bytes ≤ most_bytes) };
+    ghost invariant = { λ r. IsWithin r.ahead × (r.records ≤ most_records) × (r.bytes ≤ most_bytes) };
 }
 
 impl CaptureReader {
     ghost use Rattle.pcap_file.specs.After.{EndsAs};
 
-    /// Reads the head of a capture, 24 bytes, and takes memory for its longest record.
+    /// Reads the head of a capture, 24 bytes and none behind them, and takes memory for its longest record and 65,536 bytes.
     pub fn open<S: Source>(alloc: Global, source: &mut S) -> Result<CaptureReader, OpenFault>
         ensures read { IfOk result (λ reader. (head : List ℕ) × Consumes (S.left source.old) (S.left source.new) head × HasRead reader head []) }
-        ensures opened { IfOk result (λ reader. reader.is_open ≡ true) }
+        ensures opened { IfOk result (λ reader. (reader.is_open ≡ true) × (reader.held ≡ [])) }
         ensures refused { IfErr result (λ e. OnOpenFault e (λ fault. IfSome (S.left source.old) (λ bytes. Tells bytes [] (Some fault)))) }
         ensures head { IfErr result (λ e. OnOpenFault e (λ fault. IfSome (S.left source.old) (λ bytes. head_fault bytes ≡ Some fault))) }
         ensures cut { IfErr result (λ e. OnOpenFault e (λ fault. is_cut fault ≡ true → S.ended source.new ≡ true)) }
@@ -53,12 +56,12 @@ impl CaptureReader {
             Ok(head) => head,
             Err(fault) => return Err(fault),
         };
-        let buffer = match zeros(alloc, LONGEST_RECORD) {
-            Ok(buffer) => buffer,
+        let ahead = match Ahead::new(alloc) {
+            Ok(ahead) => ahead,
             Err(_) => return Err(OpenFault::OutOfMemory),
         };
         Ok(CaptureReader {
-            buffer,
+            ahead,
             least_first: head.least_first,
             link: head.link,
             records: 0,
@@ -70,22 +73,23 @@ impl CaptureReader {
     /// Lends the bytes of the next record; None at the end of the input. After an Err the reader is closed.
     pub fn next<S: Source>(&mut self, source: &mut S) -> Result<Option<&[u8]>, NextFault>
         requires { self.old.is_open ≡ true }
-        ensures read { (front : List ℕ) (records : List (List ℕ)) → HasRead self.old front records → IfOk result (λ o. IfSome o (λ r. (head : List ℕ) × Consumes (S.left source.old) (S.left source.new) (head ++ r.now) × HasRead (with_record self.old r.now) (front ++ (head ++ r.now)) (records ++ r.now ∷ []))) }
-        ensures end { (front : List ℕ) (records : List (List ℕ)) → HasRead self.old front records → IfOk result (λ o. IfNone o (Consumes (S.left source.old) (S.left source.new) [] × IfSome (S.left source.old) (λ rest. Tells (front ++ rest) records None))) }
-        ensures refused { (front : List ℕ) (records : List (List ℕ)) → HasRead self.old front records → IfErr result (λ e. OnNextFault e (λ fault. IfSome (S.left source.old) (λ rest. Tells (front ++ rest) records (Some fault)))) }
-        ensures ended { IfOk result (λ o. IfNone o (S.ended source.new ≡ true)) }
+        ensures read { (front : List ℕ) (records : List (List ℕ)) → HasRead self.old front records → IfOk result (λ o. IfSome o (λ r. (head : List ℕ) × (length head ≡ 16) × IfSome (rest_of self.old.held (S.left source.old)) (λ rest. StartsWith rest (head ++ r.now)) × HasRead (with_record self.old r.now) (front ++ (head ++ r.now)) (records ++ r.now ∷ []))) }
+        ensures end { (front : List ℕ) (records : List (List ℕ)) → HasRead self.old front records → IfOk result (λ o. IfNone o (Consumes (rest_of self.old.held (S.left source.old)) (rest_of self.old.held (S.left source.new)) [] × IfSome (rest_of self.old.held (S.left source.old)) (λ rest. Tells (front ++ rest) records None))) }
+        ensures refused { (front : List ℕ) (records : List (List ℕ)) → HasRead self.old front records → IfErr result (λ e. OnNextFault e (λ fault. IfSome (rest_of self.old.held (S.left source.old)) (λ rest. Tells (front ++ rest) records (Some fault)))) }
+        ensures idle { 16 ≤ length self.old.held → record_fault self.old.least_first self.old.records self.old.bytes self.old.held ≢ Some CaptureFault.CutRecord → source.new ≡ source.old }
+        ensures ended { IfOk result (λ o. IfNone o ((self.old.held ≡ []) × (S.ended source.new ≡ true))) }
         ensures cut { IfErr result (λ e. OnNextFault e (λ fault. is_cut fault ≡ true → S.ended source.new ≡ true)) }
         ensures cause { HasNextCause (S.faults source.old) (S.faults source.new) result }
-        ensures* after { sem 𝓛 (EndsAs self.entry (λ now. now ≡ state_after self.old result)) }
+        ensures* after { sem 𝓛 (EndsAs self.entry (λ now. (now ≡ state_after self.old result now.held) × OnRecord result (λ bytes. Passes (rest_of self.old.held (S.left source.old)) (rest_of now.held (S.left source.new)) (16 + length bytes)))) }
     {
         let least_first = self.least_first;
         let before = self.records;
         let bytes = self.bytes;
-        match records::read_record(source, &mut self.buffer, least_first, before, bytes) {
+        match records::read_record(source, &mut self.ahead, least_first, before, bytes) {
             Ok(Some(length)) => {
                 self.records = before + 1;
                 self.bytes = bytes + length as u32;
-                Ok(Some(&self.buffer[..length]))
+                Ok(Some(self.ahead.last(length)))
             }
             Ok(None) => Ok(None),
             Err(fault) => {
@@ -133,11 +137,4 @@ fn read_head<S: Source>(source: &mut S) -> Result<FileHead, OpenFault>
         Ok(found) => Ok(found),
         Err(fault) => Err(OpenFault::Capture(fault)),
     }
-}
-
-/// As many zeros.
-fn zeros(alloc: Global, count: usize) -> Result<Vec<u8>, OutOfMemory>
-    ensures { IfOk result (λ v. vec_len v ≡ count) }
-{
-    vec![in alloc; 0u8; count]
 }

@@ -1,18 +1,20 @@
-//! The next record of a capture -> its bytes in a buffer, or why there is none.
-ghost use Rattle.std.specs.Prelude.{◌≡◌, ℕ, ◌+◌, ◌-◌, ◌<◌, ◌≤◌, true, false, List, [], ◌++◌, length, take, Some, IfOk, IfErr, IfSome, IfNone, OnOk};
+//! The next record of a capture -> its bytes, or why there is none.
+ghost use Rattle.std.specs.Prelude.{◌≡◌, ◌≢◌, ℕ, ◌+◌, ◌<◌, ◌≤◌, true, false, List, [], ◌++◌, length, Some, IfOk, IfErr, IfSome, IfNone, OnOk};
 ghost use Rattle.std.specs.Io.KnownBytes.{Consumes, IsAtEnd};
 ghost use Rattle.pcap_file.specs.Reading.{captured_length, record_fault, longest_record, most_records, most_bytes};
-ghost use Rattle.pcap_file.specs.Reader.{HasNextCause, OnNextFault, TakesRecord, is_cut};
+ghost use Rattle.pcap_file.specs.Ahead.{Grows, IsWithin, given_last, held_in};
+ghost use Rattle.pcap_file.specs.Reader.{HasNextCause, OnNextFault, TakesRecord, is_cut, rest_of};
 
+use crate::ahead::Ahead;
 use crate::faults::{CaptureFault, NextFault};
 use crate::numbers::u32_at;
-use ipe_io::{Failed, Source, fill};
+use ipe_io::{Failed, Source};
 
 /// The bytes of a record's head.
 const HEAD: usize = 16;
 
 /// Profile: the most bytes of a record.
-pub(crate) const LONGEST_RECORD: usize = 262_144;
+const LONGEST_RECORD: usize = 262_144;
 
 /// Profile: the most records of a capture.
 const MOST_RECORDS: u32 = 4_194_304;
@@ -20,14 +22,15 @@ const MOST_RECORDS: u32 = 4_194_304;
 /// Profile: the most bytes of all records.
 const MOST_BYTES: u32 = 268_435_456;
 
-/// The length that a record's head tells, where it stays within the limits.
+/// The length that a record's head tells, where it stays within the limits. What follows the head may stand behind it.
 fn record_length(
-    head: &[u8; 16],
+    head: &[u8],
     least_first: bool,
     records: u32,
     bytes: u32,
 ) -> Result<usize, CaptureFault>
-    requires { bytes ≤ most_bytes }
+    requires whole { 16 ≤ length head.now }
+    requires small { bytes ≤ most_bytes }
     ensures read { IfOk result (λ n. n ≡ captured_length least_first head.now) }
     ensures short { IfOk result (λ n. n ≤ longest_record) }
     ensures small { IfOk result (λ n. bytes + n ≤ most_bytes) }
@@ -47,57 +50,62 @@ fn record_length(
     }
 }
 
-/// Reads a record's head, and answers whether there was one: not where the input has ended before it.
-fn read_head<S: Source>(source: &mut S, head: &mut [u8; 16]) -> Result<bool, NextFault>
-    ensures read { IfOk result (λ some. some ≡ true → Consumes (S.left source.old) (S.left source.new) head.new) }
-    ensures end { IfOk result (λ some. some ≡ false → (S.ended source.new ≡ true) × Consumes (S.left source.old) (S.left source.new) [] × IsAtEnd (S.left source.new)) }
+/// Reads up to a record's head, and answers whether there is one: not where the input has ended before it.
+fn reach_head<S: Source>(source: &mut S, ahead: &mut Ahead) -> Result<bool, NextFault>
+    requires { IsWithin ahead.old }
+    ensures within { IsWithin ahead.new }
+    ensures grows { Grows (held_in ahead.old) (S.left source.old) (held_in ahead.new) (S.left source.new) }
+    ensures idle { 16 ≤ length (held_in ahead.old) → (source.new ≡ source.old) × (ahead.new ≡ ahead.old) }
+    ensures read { IfOk result (λ some. some ≡ true → 16 ≤ length (held_in ahead.new)) }
+    ensures end { IfOk result (λ some. some ≡ false → (held_in ahead.new ≡ []) × (S.ended source.new ≡ true) × IsAtEnd (S.left source.new)) }
     ensures cut { IfErr result (λ e. OnNextFault e (λ fault. (fault ≡ CaptureFault.CutHead) × (S.ended source.new ≡ true))) }
-    ensures refused { IfErr result (λ e. OnNextFault e (λ fault. IfSome (S.left source.old) (λ rest. (0 < length rest) × (length rest < 16)))) }
+    ensures refused { IfErr result (λ e. OnNextFault e (λ fault. IfSome (rest_of (held_in ahead.old) (S.left source.old)) (λ rest. (0 < length rest) × (length rest < 16)))) }
     ensures cause { HasNextCause (S.faults source.old) (S.faults source.new) result }
 {
-    match fill(source, head) {
-        Ok(0) => Ok(false),
-        Ok(HEAD) => Ok(true),
-        Ok(_) => Err(NextFault::Capture(CaptureFault::CutHead)),
+    match ahead.reach(source, HEAD) {
+        Ok(true) => Ok(true),
+        Ok(false) if ahead.held().is_empty() => Ok(false),
+        Ok(false) => Err(NextFault::Capture(CaptureFault::CutHead)),
         Err(Failed) => Err(NextFault::Failed),
     }
 }
 
-/// Reads the next record into the front of `buffer`, and answers its length; None where the input has ended.
+/// Reads the next record, and answers its length; None where the input has ended. Its bytes are the last that are given.
 pub(crate) fn read_record<S: Source>(
     source: &mut S,
-    buffer: &mut [u8],
+    ahead: &mut Ahead,
     least_first: bool,
     records: u32,
     bytes: u32,
 ) -> Result<Option<usize>, NextFault>
-    requires room { length buffer.old ≡ longest_record }
+    requires within { IsWithin ahead.old }
     requires small { bytes ≤ most_bytes }
-    ensures within { IfOk result (λ o. IfSome o (λ n. n ≤ longest_record)) }
-    ensures read { IfOk result (λ o. IfSome o (λ n. TakesRecord least_first records bytes (S.left source.old) (S.left source.new) (take n buffer.new))) }
+    ensures within { IsWithin ahead.new }
+    ensures given { IfOk result (λ o. IfSome o (λ n. (n ≤ longest_record) × (n ≤ ahead.new.from))) }
+    ensures read { IfOk result (λ o. IfSome o (λ n. TakesRecord least_first records bytes (rest_of (held_in ahead.old) (S.left source.old)) (rest_of (held_in ahead.new) (S.left source.new)) (given_last n ahead.new))) }
+    ensures none { IfOk result (λ o. IfNone o ((held_in ahead.old ≡ []) × (held_in ahead.new ≡ []))) }
     ensures end { IfOk result (λ o. IfNone o (Consumes (S.left source.old) (S.left source.new) [] × IsAtEnd (S.left source.new))) }
-    ensures refused { IfErr result (λ e. OnNextFault e (λ fault. IfSome (S.left source.old) (λ rest. record_fault least_first records bytes rest ≡ Some fault))) }
+    ensures refused { IfErr result (λ e. OnNextFault e (λ fault. IfSome (rest_of (held_in ahead.old) (S.left source.old)) (λ rest. record_fault least_first records bytes rest ≡ Some fault))) }
+    ensures idle { 16 ≤ length (held_in ahead.old) → record_fault least_first records bytes (held_in ahead.old) ≢ Some CaptureFault.CutRecord → source.new ≡ source.old }
     ensures ended { IfOk result (λ o. IfNone o (S.ended source.new ≡ true)) }
     ensures cut { IfErr result (λ e. OnNextFault e (λ fault. is_cut fault ≡ true → S.ended source.new ≡ true)) }
     ensures cause { HasNextCause (S.faults source.old) (S.faults source.new) result }
 {
-    let mut head = [0u8; 16];
-    match read_head(source, &mut head) {
+    match reach_head(source, ahead) {
         Ok(true) => {}
         Ok(false) => return Ok(None),
         Err(fault) => return Err(fault),
     }
-    let length = match record_length(&head, least_first, records, bytes) {
+    let length = match record_length(ahead.held(), least_first, records, bytes) {
         Ok(length) => length,
         Err(fault) => return Err(NextFault::Capture(fault)),
     };
-    match fill(source, &mut buffer[..length]) {
-        Ok(count) => {
-            if count < length {
-                return Err(NextFault::Capture(CaptureFault::CutRecord));
-            }
+    match ahead.reach(source, HEAD + length) {
+        Ok(true) => {
+            ahead.give(HEAD + length);
             Ok(Some(length))
         }
+        Ok(false) => Err(NextFault::Capture(CaptureFault::CutRecord)),
         Err(Failed) => Err(NextFault::Failed),
     }
 }

@@ -1,4 +1,6 @@
 //! Captures written by hand from the format's fields.
+ghost use Rattle.std.specs.Prelude.{◌<◌};
+
 use super::*;
 use ipe_io::MemSource;
 use std::alloc::Global;
@@ -23,12 +25,17 @@ const ETHERNET: [u8; 80] = [
 ];
 
 /// How many records a capture tells, how many of them hold a datagram of 20 bytes, and the fault behind them.
+///
+/// A read gives at most `chunk` bytes.
 fn told(
     alloc: Global,
     bytes: &[u8],
+    chunk: usize,
     fails: &[u32],
-) -> Result<(u32, u32, Option<CaptureFault>), OpenFault> {
-    let mut source = MemSource::new(alloc, bytes, 7, fails)?;
+) -> Result<(u32, u32, Option<CaptureFault>), OpenFault>
+    requires { 0 < chunk }
+{
+    let mut source = MemSource::new(alloc, bytes, chunk, fails)?;
     let mut reader = match CaptureReader::open(alloc, &mut source) {
         Ok(reader) => reader,
         Err(OpenFault::Capture(fault)) => return Ok((0, 0, Some(fault))),
@@ -36,7 +43,7 @@ fn told(
     };
     let link = reader.link();
     let mut datagrams = 0u32;
-    for _ in 0..9u32 {
+    for _ in 0..10_001u32 {
         if !reader.is_open() {
             break;
         }
@@ -85,7 +92,7 @@ fn captures_are_read_up_to_their_first_fault(rt: HostRuntime) -> Result<(), Fail
         (&longer, 0, 0, Some(CaptureFault::RecordTooLong)),
     ];
     for (bytes, records, datagrams, fault) in cases {
-        let (read, found, stopped) = match told(rt.alloc(), bytes, &[]) {
+        let (read, found, stopped) = match told(rt.alloc(), bytes, 7, &[]) {
             Ok(answer) => answer,
             Err(_) => (99, 99, None),
         };
@@ -102,11 +109,41 @@ fn a_failing_source_is_told_apart(rt: HostRuntime) {
     for call in [0u32, 3, 5, 13] {
         let fails = [call];
         assert_eq!(rt;
-            told(rt.alloc(), &RAW, &fails),
+            told(rt.alloc(), &RAW, 7, &fails),
             Err(OpenFault::Failed),
             "at {call}"
         );
     }
+}
+
+/// The third read fails. The second gave both records, of which the first is too long: that is told and no failure.
+#[test]
+fn a_fault_in_what_is_held_comes_before_a_failing_read(rt: HostRuntime) {
+    let mut longer = RAW;
+    longer[34] = 5;
+    assert_eq!(rt;
+        told(rt.alloc(), &longer, 96, &[2]),
+        Ok((0, 0, Some(CaptureFault::RecordTooLong)))
+    );
+    assert_eq!(rt; told(rt.alloc(), &RAW, 96, &[2]), Err(OpenFault::Failed));
+}
+
+/// 10,000 records of 36 bytes with their heads, more than the reader holds at once, in reads of several sizes.
+#[test]
+fn records_are_read_over_many_reads(rt: HostRuntime) -> Result<(), Fail> {
+    let mut bytes = Vec::from_slice(rt.alloc(), &RAW[..24])?;
+    for _ in 0..10_000u32 {
+        bytes.extend_from_slice(&RAW[24..60])?;
+    }
+    for chunk in [999usize, 65_536, 360_024] {
+        assert!(rt; chunk > 0);
+        assert_eq!(rt;
+            told(rt.alloc(), &bytes, chunk, &[]),
+            Ok((10_000, 10_000, None)),
+            "at {chunk}"
+        );
+    }
+    Ok(())
 }
 
 /// The head of a raw IP capture, and of a record of 20 and of 65,536 bytes.

@@ -1,38 +1,47 @@
-use Rattle.std.proofs.Common.{◌≡◌, ℕ, ◌<◌, List, ◌++◌, length, take, drop, arith, Some, sym, ◌∙◌}
-use Rattle.std.proofs.KnownBytes.{Consumes-trans, Consumes-whole}
-use Rattle.std.proofs.lemmas.List.{length-take-le, take_at, take_all}
-use Rattle.pcap_file.specs.Reading.{record_fault}
+-- The record stands at the front of the held bytes; else they show why there is none.
+use Rattle.std.proofs.Common.{◌≡◌, ℕ, ◌≤◌, Option, List, ◌++◌, length, Some, refl, ap, sym, ◌∙◌, subst, arith, length-append}
+use Rattle.pcap_file.specs.Reading.{captured_length, record_fault}
+use Rattle.pcap_file.specs.Ahead.{held_in}
 use Rattle.pcap_file.specs.declared.faults.CaptureFault.TheVariants as fault
 use Rattle.pcap_file.proofs.RecordFaults.{record_fault-cut}
+use Rattle.pcap_file.proofs.ReadAhead.{Grows-trans, TakesRecord-given, rest_front, rest_whole, same_length_told}
 use Rattle.pcap_file.proofs.records.read_record.Goals as goal
 
-pub returns-then-count-length-clause-refused : goal.returns-then-count-length-clause-refused
-returns-then-count-length-clause-refused g c =
-    let head : List ℕ = c.read_head.new.head in
-    let got : List ℕ = take c.in-Ok-fill.count c.fill.new.buf in
-    let room : length c.fill.new.buf ≡ c.in-Ok.length = c.fill.auto.buf ∙ length-take-le c.in-Ok.length c.args.buffer.now (omega (arith, c.requires.room, c.in-Ok.ensures.short)) in
-    let less : c.in-Ok-fill.count < length c.fill.new.buf = omega (arith, room) in
-    let size : length got ≡ c.in-Ok-fill.count = length-take-le c.in-Ok-fill.count c.fill.new.buf c.in-Ok-fill.ensures.bound in
-    let all = Consumes-trans (g.S.Source.left c.args.source.now) (g.S.Source.left c.read_head.new.source) (g.S.Source.left c.fill.new.source) head got (c.in-Ok-true.ensures.read c.in-Ok-true.field-0-test) c.in-Ok-fill.ensures.read in
-    Consumes-whole (g.S.Source.left c.args.source.now) (g.S.Source.left c.fill.new.source) (head ++ got)
-    (λ (rest : List ℕ). record_fault c.args.least_first c.args.records c.args.bytes rest ≡ Some fault.CutRecord)
-    all (c.in-Ok-fill.ensures.end less).1
-    (record_fault-cut c.args.least_first c.args.records c.args.bytes head got (c.read_head.array_long) c.in-Ok.ensures.few (omega (arith, c.in-Ok.ensures.read, c.in-Ok.ensures.short)) (omega (arith, c.in-Ok.ensures.read, c.in-Ok.ensures.small)) (omega (arith, c.in-Ok.ensures.read, size)))
+pub returns-in-Err-record_length-clause-refused : goal.returns-in-Err-record_length-clause-refused
+returns-in-Err-record_length-clause-refused g c =
+    let first : List ℕ = held_in c.reach_head.new.ahead in
+    rest_front (held_in c.args.ahead.now) first (g.S.Source.left c.args.source.now) (g.S.Source.left c.reach_head.new.source)
+    (λ (rest : List ℕ). record_fault c.args.least_first c.args.records c.args.bytes rest ≡ Some c.in-Err-record_length.fault)
+    c.reach_head.ensures.grows
+    (λ behind. subst (λ (l : List ℕ). record_fault c.args.least_first c.args.records c.args.bytes (l ++ behind) ≡ Some c.in-Err-record_length.fault) c.held.ensures.read
+    (c.in-Err-record_length.ensures.refused behind))
 
-pub returns-else-count-length-clause-read : goal.returns-else-count-length-clause-read
-returns-else-count-length-clause-read g c =
-    let head : List ℕ = c.read_head.new.head in
-    let got : List ℕ = take c.in-Ok-fill.count c.fill.new.buf in
-    let size : length c.fill.new.buf ≡ c.in-Ok.length = c.fill.auto.buf ∙ length-take-le c.in-Ok.length c.args.buffer.now (omega (arith, c.requires.room, c.in-Ok.ensures.short)) in
-    let count : c.in-Ok-fill.count ≡ c.in-Ok.length = omega (arith, c.in-Ok-fill.ensures.bound, size) in
-    let same : take c.in-Ok.length (c.fill.new.buf ++ drop c.in-Ok.length c.args.buffer.now) ≡ got = take_at c.fill.new.buf (drop c.in-Ok.length c.args.buffer.now) c.in-Ok.length size ∙ sym (take_all c.in-Ok-fill.count c.fill.new.buf (omega arith)) in
-    let all = Consumes-trans (g.S.Source.left c.args.source.now) (g.S.Source.left c.read_head.new.source) (g.S.Source.left c.fill.new.source) head got (c.in-Ok-true.ensures.read c.in-Ok-true.field-0-test) c.in-Ok-fill.ensures.read in
-    rw same (record {
-      head = head;
-      head_size = c.read_head.array_long;
-      size = length-take-le c.in-Ok-fill.count c.fill.new.buf c.in-Ok-fill.ensures.bound ∙ (count ∙ c.in-Ok.ensures.read);
-      read = all;
-      few = c.in-Ok.ensures.few;
-      short = omega (arith, c.in-Ok.ensures.short, length-take-le c.in-Ok-fill.count c.fill.new.buf c.in-Ok-fill.ensures.bound);
-      small = omega (arith, c.in-Ok.ensures.small, length-take-le c.in-Ok-fill.count c.fill.new.buf c.in-Ok-fill.ensures.bound);
-    })
+pub returns-in-Ok-true-reach-clause-read : goal.returns-in-Ok-true-reach-clause-read
+returns-in-Ok-true-reach-clause-read g c =
+    let first : List ℕ = held_in c.reach_head.new.ahead in
+    let now : List ℕ = held_in c.reach.new.self in
+    let told : c.in-Ok.length ≡ captured_length c.args.least_first first = c.in-Ok.ensures.read ∙ ap (λ (l : List ℕ). captured_length c.args.least_first l) c.held.ensures.read in
+    TakesRecord-given c.args.least_first c.args.records c.args.bytes c.in-Ok.length (held_in c.args.ahead.now) first now (held_in c.give.new.self)
+    (g.S.Source.left c.args.source.now) (g.S.Source.left c.reach_head.new.source) (g.S.Source.left c.reach.new.source)
+    c.reach.new.self.buffer.items c.give.new.self.buffer.items c.reach.new.self.from c.reach.new.self.to c.give.new.self.from
+    c.reach_head.ensures.grows c.reach.ensures.grows (c.in-Ok-true.ensures.read c.in-Ok-true.field-0-test) told c.in-Ok.ensures.few c.in-Ok.ensures.short c.in-Ok.ensures.small
+    (c.in-Ok-true-reach.ensures.enough c.in-Ok-true-reach.field-0-test) refl c.reach.ensures.within.order c.reach.ensures.within.fits
+    (ap (λ b. b.items) c.give.ensures.buffer) c.give.ensures.from c.give.ensures.held
+
+pub returns-in-Ok-false-reach-clause-refused : goal.returns-in-Ok-false-reach-clause-refused
+returns-in-Ok-false-reach-clause-refused g c =
+    let held : List ℕ = held_in c.args.ahead.now in
+    let first : List ℕ = held_in c.reach_head.new.ahead in
+    let now : List ℕ = held_in c.reach.new.self in
+    let left : Option (List ℕ) = g.S.Source.left c.args.source.now in
+    let mid : Option (List ℕ) = g.S.Source.left c.reach_head.new.source in
+    let end : Option (List ℕ) = g.S.Source.left c.reach.new.source in
+    let whole : 16 ≤ length first = c.in-Ok-true.ensures.read c.in-Ok-true.field-0-test in
+    let told : captured_length c.args.least_first now ≡ c.in-Ok.length =
+    same_length_told c.args.least_first first now mid end c.reach.ensures.grows whole
+    ∙ sym (c.in-Ok.ensures.read ∙ ap (λ (l : List ℕ). captured_length c.args.least_first l) c.held.ensures.read) in
+    let ended = c.in-Ok-false-reach.ensures.end c.in-Ok-false-reach.field-0-test in
+    let longer : length first ≤ length now = omega (arith, ap length c.reach.ensures.grows.grown, length-append first c.reach.ensures.grows.more) in
+    rest_whole held now left end (λ (rest : List ℕ). record_fault c.args.least_first c.args.records c.args.bytes rest ≡ Some fault.CutRecord)
+    (Grows-trans held first now left mid end c.reach_head.ensures.grows c.reach.ensures.grows) ended.2
+    (record_fault-cut c.args.least_first c.args.records c.args.bytes now (omega (arith, whole, longer)) c.in-Ok.ensures.few (omega (arith, told, c.in-Ok.ensures.short)) (omega (arith, told, c.in-Ok.ensures.small)) (omega (arith, told, ended.0)))
