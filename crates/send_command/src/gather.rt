@@ -2,7 +2,7 @@
 ghost use Rattle.std.specs.Prelude.{◌≡◌, ℕ, ◌≤◌, List, ◌∷◌, ◌++◌, [], Ok, true, IfOk, IfSome, is_none, None, Some};
 ghost use Rattle.std.specs.Io.KnownBytes.{Consumes};
 ghost use Rattle.pcap_file.specs.Told.{Tells};
-ghost use Rattle.pcap_file.specs.Reader.{is_cut};
+ghost use Rattle.pcap_file.specs.Reader.{is_cut, rest_of};
 ghost use Rattle.pcap_file.specs.declared.faults.CaptureFault.{CaptureFault as FaultFound};
 ghost use Rattle.service_plan.specs.PlanView.{plan_fields};
 ghost use Rattle.offered_datagrams.specs.Offering.{HasRoom};
@@ -105,11 +105,11 @@ fn offer_next<I: Source>(
     requires readable { reader.old.is_open ≡ true }
     requires room { HasRoom (plan_fields plan.now) offered.old }
     ensures more { (front : List ℕ) (captured : List (List ℕ)) → IsIntake (plan_fields plan.now) reader.old offered.old front captured
-        → result ≡ Ok Next.Record → (piece bytes : List ℕ) × Consumes (I.left input.old) (I.left input.new) piece × IsIntake (plan_fields plan.now) reader.new offered.new (front ++ piece) (captured ++ bytes ∷ []) }
+        → result ≡ Ok Next.Record → (piece bytes : List ℕ) × Consumes (rest_of reader.old.held (I.left input.old)) (rest_of reader.new.held (I.left input.new)) piece × IsIntake (plan_fields plan.now) reader.new offered.new (front ++ piece) (captured ++ bytes ∷ []) }
     ensures end { (front : List ℕ) (captured : List (List ℕ)) → IsIntake (plan_fields plan.now) reader.old offered.old front captured
-        → result ≡ Ok Next.End → IfSome (I.left input.old) (λ rest. Tells (front ++ rest) captured None) }
+        → result ≡ Ok Next.End → IfSome (rest_of reader.old.held (I.left input.old)) (λ rest. Tells (front ++ rest) captured None) }
     ensures fault { (front : List ℕ) (captured : List (List ℕ)) (fault : FaultFound) → IsIntake (plan_fields plan.now) reader.old offered.old front captured
-        → result ≡ Ok (Next.Fault fault) → IfSome (I.left input.old) (λ rest. Tells (front ++ rest) captured (Some fault)) }
+        → result ≡ Ok (Next.Fault fault) → IfSome (rest_of reader.old.held (I.left input.old)) (λ rest. Tells (front ++ rest) captured (Some fault)) }
     ensures records { (fault : FaultFound) → result ≡ Ok (Next.Fault fault) → reader.new.records ≡ reader.old.records }
     ensures kept_end { result ≡ Ok Next.End → offered.new ≡ offered.old }
     ensures kept_fault { (fault : FaultFound) → result ≡ Ok (Next.Fault fault) → offered.new ≡ offered.old }
