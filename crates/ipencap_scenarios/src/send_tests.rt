@@ -141,7 +141,7 @@ fn a_capture_is_sent_up_to_its_fault(rt: HostRuntime) -> Result<(), Fail> {
     Ok(())
 }
 
-/// The input's calls are a head and each record's head and bytes; the output's are a packet and a flush.
+/// The input's calls are a head, two parts of the records, and the end; the output's are all packets and a flush.
 #[test]
 fn faults_of_the_outside_end_a_send(rt: HostRuntime) -> Result<(), Fail> {
     let input = "ipencap: fault of the input\n";
