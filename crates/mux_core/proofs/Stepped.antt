@@ -152,20 +152,3 @@ module _ (plan : PlanFields) (services : List (List PacketFields)) (slot : ℕ) 
 
       carried : slot_in plan services slot ≡ of_service took.service (slice_index turns.sent took.service)
       carried = ap (λ (o : Option Slot). unwrap_or o (slot_of_service turns (next_service (packet_counts services) turns))) (kept_late late) ∙ ap (λ (o : Option ℕ). slot_of_service turns o) it.0
-
--- which slots are the INT's, as it is tested
-pub is_early_so : (plan : PlanFields) (slot cycle count : ℕ) → cycle ≡ plan.cycle → count ≡ table_packets plan → slot % cycle < count → is_early plan slot ≡ true
-is_early_so plan slot cycle count same table less =
-    let here : slot % plan.cycle < table_packets plan = subst (λ (n : ℕ). slot % n < table_packets plan) same (omega (arith, table, less)) in
-    so (slot % plan.cycle) (table_packets plan) here
-  where
-    so : (a b : ℕ) → a < b → ltb a b ≡ true
-    so a b le = grind (arith, le)
-
-pub is_late_so : (plan : PlanFields) (slot cycle count : ℕ) → cycle ≡ plan.cycle → count ≡ table_packets plan → count ≤ slot % cycle → is_early plan slot ≡ false
-is_late_so plan slot cycle count same table le =
-    let here : table_packets plan ≤ slot % plan.cycle = subst (λ (n : ℕ). table_packets plan ≤ slot % n) same (omega (arith, table, le)) in
-    so (slot % plan.cycle) (table_packets plan) here
-  where
-    so : (a b : ℕ) → b ≤ a → ltb a b ≡ false
-    so a b le2 = grind (arith, le2)

@@ -15,6 +15,14 @@ use crate::table::TablePackets;
 use ipe_io::{Failed, Sink};
 use service_plan::Plan;
 
+/// Whether a slot carries a packet of the INT. Without an INT there is nothing to divide, and division is slow.
+fn is_of_table(plan: &Plan, table: &TablePackets, slot: u64) -> bool
+    requires table { IsTableAt (plan_fields plan.now) slot table.now }
+    ensures read { result ≡ is_early (plan_fields plan.now) slot }
+{
+    table.count() > 0 && slot % u64::from(plan.cycle) < table.count()
+}
+
 /// Writes the packet of a slot: that of the INT in the first slots of a cycle, else that of the service whose turn it is.
 fn take_packet(
     plan: &Plan,
@@ -33,7 +41,7 @@ fn take_packet(
     ensures left { packet_total services.old.packets ≡ packet_total services.new.packets + (if is_early (plan_fields plan.now) slot then 0 else 1) }
     ensures count { table.new.count ≡ table.old.count }
 {
-    if slot % u64::from(plan.cycle) < table.count() {
+    if is_of_table(plan, table, slot) {
         table.next(plan, slot, into);
     } else {
         services.next(turn, into);
