@@ -127,6 +127,11 @@ fn write_stuffed(into: &mut [u8], bytes: &[u8])
     requires { length bytes.now ≤ length into.old }
     ensures { into.new ≡ bytes.now ++ replicate (length into.old - length bytes.now) 0xFF }
 {
+    // Most packets are full: a copy whose length is known where the buffer's is.
+    if bytes.len() == into.len() {
+        into.copy_from_slice(bytes);
+        return;
+    }
     into[..bytes.len()].copy_from_slice(bytes);
     into[bytes.len()..].fill(STUFFING);
 }
