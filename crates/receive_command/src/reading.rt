@@ -10,7 +10,7 @@ use crate::steps::take_record;
 use demux_core::Receiver;
 use ipe_io::{Failed, Rack, RecordFault, Source};
 use service_plan::Plan;
-use ts_record::RecordReader;
+use ts_record::{Record, RecordReader};
 
 /// How the reading of a recording ended.
 #[derive(Clone, Copy, Debug, PartialEq, Eq)]
@@ -55,13 +55,17 @@ pub(crate) fn read_records<I: Source, R: Rack>(
 {
     let mut reader = RecordReader::new(plan.recording);
     let services = plan.services.len() as u32;
+    let mut item = Record {
+        moment: None,
+        bytes: [0; 188],
+    };
     'records: loop {
-        let item = match reader.next(input) {
-            Ok(Some(item)) => item,
-            Ok(None) => return Ending::Whole(reader.tail()),
+        match reader.next_into(input, &mut item) {
+            Ok(true) => {}
+            Ok(false) => return Ending::Whole(reader.tail()),
             Err(RecordFault::Failed) => return Ending::SourceFault,
             Err(RecordFault::TooLong) => return Ending::TooLong,
-        };
+        }
         match take_record(&item, receiver, rack, first, services) {
             Ok(()) => {}
             Err(Failed) => return Ending::RackFault,

@@ -1,5 +1,5 @@
 //! The reader of records: it takes one record's bytes at a time, and keeps the last moment.
-ghost use Rattle.std.specs.Prelude.{◌≡◌, ◌↔◌, ℕ, ◌^◌, ◌<◌, ◌≤◌, true, List, [], IfOk, IfSome, IfNone, OnOk, OnErr, IsErrOf, length};
+ghost use Rattle.std.specs.Prelude.{◌≡◌, ◌↔◌, ℕ, ◌^◌, ◌<◌, ◌≤◌, true, false, List, [], Ok, IfOk, IfSome, IfNone, OnOk, OnErr, IsErrOf, length};
 ghost use Rattle.wire_spec.specs.Causes.{Rose};
 ghost use Rattle.ts_spec.specs.Recording.{record_size};
 ghost use Rattle.ts_record.specs.Reading.{form_of, record_seen, ReaderOf, TakesBytes, ReadsRecord, ReadsEnd, closed};
@@ -86,29 +86,63 @@ impl RecordReader {
         ensures later { S.faults source.old ≤ S.faults source.new }
         ensures closed { OnErr result (self.new ≡ closed self.old) }
     {
+        let mut record = Record {
+            moment: None,
+            bytes: [0; 188],
+        };
+        match self.next_into(source, &mut record) {
+            Ok(true) => Ok(Some(record)),
+            Ok(false) => Ok(None),
+            Err(fault) => Err(fault),
+        }
+    }
+
+    /// Reads the next record as `next` does, into the place of another. False: the input has ended.
+    ///
+    /// Behind false or an Err the place holds no record, but any bytes.
+    pub fn next_into<S: Source>(
+        &mut self,
+        source: &mut S,
+        into: &mut Record,
+    ) -> Result<bool, RecordFault>
+        requires { self.old.is_open ≡ true }
+        ensures read { (pieces : List (List ℕ)) → ReaderOf self.old pieces → result ≡ Ok true
+            → ReadsRecord self.old self.new (S.left source.old) (S.left source.new)
+            (S.taken source.old) (S.taken source.new) pieces (record_seen into.new) }
+        ensures end { (pieces : List (List ℕ)) → ReaderOf self.old pieces → result ≡ Ok false
+            → ReadsEnd self.old self.new (S.left source.old) (S.left source.new)
+            (S.taken source.old) (S.taken source.new) pieces }
+        ensures ended { result ≡ Ok false → S.ended source.new ≡ true }
+        ensures few { OnOk result (self.old.count < 2 ^ 32) }
+        ensures too_long { IsErrOf result RecordFault.TooLong ↔ (self.old.count ≡ 2 ^ 32) }
+        ensures unchanged { IsErrOf result RecordFault.TooLong → source.new ≡ source.old }
+        ensures failed { IsErrOf result RecordFault.Failed → (bytes : List ℕ)
+            × (length bytes < record_size self.old.form)
+            × TakesBytes (S.left source.old) (S.left source.new)
+            (S.taken source.old) (S.taken source.new) bytes }
+        ensures cause { IsErrOf result RecordFault.Failed → Rose (S.faults source.old) (S.faults source.new) }
+        ensures later { S.faults source.old ≤ S.faults source.new }
+        ensures closed { OnErr result (self.new ≡ closed self.old) }
+    {
         if self.count == MOST_RECORDS {
             self.is_open = false;
             return Err(RecordFault::TooLong);
         }
         let size = stamp_size(self.recording);
         let mut stamp = [0; 8];
-        let mut record = Record {
-            moment: None,
-            bytes: [0; 188],
-        };
-        let Ok(count) = fill_both(source, &mut stamp[..size], &mut record.bytes) else {
+        let Ok(count) = fill_both(source, &mut stamp[..size], &mut into.bytes) else {
             self.is_open = false;
             return Err(RecordFault::Failed);
         };
-        if count < size + record.bytes.len() {
+        if count < size + into.bytes.len() {
             self.tail = count as u32;
-            return Ok(None);
+            return Ok(false);
         }
         let moment = moment_of(self.recording, self.before, &stamp);
         self.count += 1;
         self.before = moment;
-        record.moment = moment;
-        Ok(Some(record))
+        into.moment = moment;
+        Ok(true)
     }
 
     /// How many bytes, fewer than a record has, stood before the end of the input: 0 until `next` answers None.

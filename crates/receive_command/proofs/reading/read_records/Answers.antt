@@ -1,4 +1,4 @@
-use Rattle.std.proofs.Common.{◌≡◌, ◌++◌, ◌∷◌, [], length, ap, sym, ◌∙◌, refl, arith, map, Err}
+use Rattle.std.proofs.Common.{◌≡◌, ◌++◌, ◌∷◌, [], length, ap, sym, ◌∙◌, refl, arith, map, Ok, Err}
 use Rattle.std.proofs.lemmas.List.{length-map}
 use Rattle.ts_spec.specs.Recording.{RecordingForm, record_size, records_of}
 use Rattle.plan_spec.specs.Plan.{PlanFields}
@@ -13,58 +13,58 @@ use Rattle.receive_command.proofs.reading.read_records.Goals as goal
 pub overflow_cast-services : goal.overflow_cast-services
 overflow_cast-services g c = omega (arith, c.len-services.ensures.read, c.requires.few)
 
-pub returns-in-Ok-None-clause-fewer : goal.returns-in-Ok-None-clause-fewer
-returns-in-Ok-None-clause-fewer g c = λ tail e.
+pub returns-in-Ok-false-clause-fewer : goal.returns-in-Ok-false-clause-fewer
+returns-in-Ok-false-clause-fewer g c = λ tail e.
     let plan : PlanFields = plan_fields c.args.plan.now in
-    let end : ReadsEnd c.records.reader c.next.new.self (g.I.Source.left c.records.input) (g.I.Source.left c.next.new.source) (g.I.Source.taken c.records.input) (g.I.Source.taken c.next.new.source) c.records.invariant.0 =
-    rw c.in-Ok-None.field-0-is at (c.in-Ok-None.ensures.end c.records.invariant.0 c.records.invariant.1.stands) in
-    few_taken plan.recording (g.I.Source.taken c.args.input.now) (g.I.Source.taken c.records.input) (g.I.Source.taken c.next.new.source) (g.I.Source.left c.records.input) (g.I.Source.left c.next.new.source)
-    c.records.invariant.0 c.records.reader c.next.new.self c.records.invariant.1.form c.records.invariant.1.stands c.in-Ok-None.ensures.few c.records.invariant.1.taken end
+    let end : ReadsEnd c.records.reader c.next_into.new.self (g.I.Source.left c.records.input) (g.I.Source.left c.next_into.new.source) (g.I.Source.taken c.records.input) (g.I.Source.taken c.next_into.new.source) c.records.invariant.0 =
+    c.in-Ok-false.ensures.end c.records.invariant.0 c.records.invariant.1.stands (ap (λ more. Ok more) c.in-Ok-false.field-0-test) in
+    few_taken plan.recording (g.I.Source.taken c.args.input.now) (g.I.Source.taken c.records.input) (g.I.Source.taken c.next_into.new.source) (g.I.Source.left c.records.input) (g.I.Source.left c.next_into.new.source)
+    c.records.invariant.0 c.records.reader c.next_into.new.self c.records.invariant.1.form c.records.invariant.1.stands c.in-Ok-false.ensures.few c.records.invariant.1.taken end
 
 pub returns-in-Err-TooLong-clause-limit : goal.returns-in-Err-TooLong-clause-limit
 returns-in-Err-TooLong-clause-limit g c = λ e.
-    limit_at (plan_fields c.args.plan.now) (g.I.Source.left c.args.input.now) (g.I.Source.left c.next.new.source) (g.R.Rack.files c.args.rack.now) (g.R.Rack.files c.records.rack) c.args.first
+    limit_at (plan_fields c.args.plan.now) (g.I.Source.left c.args.input.now) (g.I.Source.left c.next_into.new.source) (g.R.Rack.files c.args.rack.now) (g.R.Rack.files c.records.rack) c.args.first
     c.records.invariant.0 c.records.reader c.records.invariant.1.form c.records.invariant.1.stands (c.in-Err-TooLong.ensures.too_long.0 (ap (λ f. Err f) c.in-Err-TooLong.field-0-is))
     (rw (c.in-Err-TooLong.ensures.unchanged (ap (λ f. Err f) c.in-Err-TooLong.field-0-is)) c.records.invariant.1.consumed) c.records.invariant.1.files
 
 pub take_record-requires-clause-few : goal.take_record-requires-clause-few
 take_record-requires-clause-few g c =
-    few_received (plan_fields c.args.plan.now) c.records.receiver c.records.invariant.0 c.records.reader.count c.records.invariant.1.received c.records.invariant.1.stands.count c.in-Ok-Some.ensures.few
+    few_received (plan_fields c.args.plan.now) c.records.receiver c.records.invariant.0 c.records.reader.count c.records.invariant.1.received c.records.invariant.1.stands.count c.in-Ok-true.ensures.few
 
 pub records-preserved : goal.records-preserved
 records-preserved g c =
     let plan : PlanFields = plan_fields c.args.plan.now in
-    let read : ReadsRecord c.records.reader c.next.new.self (g.I.Source.left c.records.input) (g.I.Source.left c.next.new.source) (g.I.Source.taken c.records.input) (g.I.Source.taken c.next.new.source) c.records.invariant.0 (record_seen c.in-Ok-Some.item) =
-    rw c.in-Ok-Some.field-0-is at (c.in-Ok-Some.ensures.read c.records.invariant.0 c.records.invariant.1.stands) in
-    let more = record_more plan.recording c.records.reader c.next.new.self (g.I.Source.left c.records.input) (g.I.Source.left c.next.new.source) (g.I.Source.taken c.records.input) (g.I.Source.taken c.next.new.source) c.records.invariant.0 (record_seen c.in-Ok-Some.item) c.records.invariant.1.form read in
+    let read : ReadsRecord c.records.reader c.next_into.new.self (g.I.Source.left c.records.input) (g.I.Source.left c.next_into.new.source) (g.I.Source.taken c.records.input) (g.I.Source.taken c.next_into.new.source) c.records.invariant.0 (record_seen c.next_into.new.into) =
+    c.in-Ok-true.ensures.read c.records.invariant.0 c.records.invariant.1.stands (ap (λ more. Ok more) c.in-Ok-true.field-0-test) in
+    let more = record_more plan.recording c.records.reader c.next_into.new.self (g.I.Source.left c.records.input) (g.I.Source.left c.next_into.new.source) (g.I.Source.taken c.records.input) (g.I.Source.taken c.next_into.new.source) c.records.invariant.0 (record_seen c.next_into.new.into) c.records.invariant.1.form read in
     let size : length read.piece ≡ record_size plan.recording = read.size ∙ ap (λ (f : RecordingForm). record_size f) c.records.invariant.1.form in (
       c.records.invariant.0 ++ read.piece ∷ [],
       record {
         form = read.form ∙ c.records.invariant.1.form;
         stands = read.stands;
-        consumed = consumed_more (g.I.Source.left c.args.input.now) (g.I.Source.left c.records.input) (g.I.Source.left c.next.new.source) c.records.invariant.0 read.piece c.records.invariant.1.consumed read.takes.bytes_are;
-        taken = taken_more (record_size plan.recording) (g.I.Source.taken c.args.input.now) (g.I.Source.taken c.records.input) (g.I.Source.taken c.next.new.source) c.records.invariant.0 read.piece size c.records.invariant.1.taken read.takes.rose;
-        files = files_more plan c.args.first c.records.invariant.0 read.piece (record_seen c.in-Ok-Some.item) (g.R.Rack.files c.args.rack.now) (g.R.Rack.files c.records.rack) (g.R.Rack.files c.take_record.new.rack)
+        consumed = consumed_more (g.I.Source.left c.args.input.now) (g.I.Source.left c.records.input) (g.I.Source.left c.next_into.new.source) c.records.invariant.0 read.piece c.records.invariant.1.consumed read.takes.bytes_are;
+        taken = taken_more (record_size plan.recording) (g.I.Source.taken c.args.input.now) (g.I.Source.taken c.records.input) (g.I.Source.taken c.next_into.new.source) c.records.invariant.0 read.piece size c.records.invariant.1.taken read.takes.rose;
+        files = files_more plan c.args.first c.records.invariant.0 read.piece (record_seen c.next_into.new.into) (g.R.Rack.files c.args.rack.now) (g.R.Rack.files c.records.rack) (g.R.Rack.files c.take_record.new.rack)
             more c.records.invariant.1.files (c.in-Ok.ensures.written plan (records_in plan c.records.invariant.0) c.records.invariant.1.received);
-        received = received_more plan c.take_record.new.receiver c.records.invariant.0 read.piece (record_seen c.in-Ok-Some.item) more
+        received = received_more plan c.take_record.new.receiver c.records.invariant.0 read.piece (record_seen c.next_into.new.into) more
             (c.in-Ok.ensures.received plan (records_in plan c.records.invariant.0) c.records.invariant.1.received);
         is_open = c.in-Ok.ensures.goes_on;
         services = c.records.invariant.1.services;
         count = c.in-Ok.ensures.kept plan (records_in plan c.records.invariant.0) c.records.invariant.1.received ∙ c.records.invariant.1.count;
         rack_faults = omega (arith, c.records.invariant.1.rack_faults, (c.in-Ok.ensures.cause plan (records_in plan c.records.invariant.0) c.records.invariant.1.received).later);
-        input_faults = omega (arith, c.records.invariant.1.input_faults, c.in-Ok-Some.ensures.later);
+        input_faults = omega (arith, c.records.invariant.1.input_faults, c.in-Ok-true.ensures.later);
       },
     )
 
 pub returns-in-Err-clause-part : goal.returns-in-Err-clause-part
 returns-in-Err-clause-part g c = λ e.
     let plan : PlanFields = plan_fields c.args.plan.now in
-    let read : ReadsRecord c.records.reader c.next.new.self (g.I.Source.left c.records.input) (g.I.Source.left c.next.new.source) (g.I.Source.taken c.records.input) (g.I.Source.taken c.next.new.source) c.records.invariant.0 (record_seen c.in-Ok-Some.item) =
-    rw c.in-Ok-Some.field-0-is at (c.in-Ok-Some.ensures.read c.records.invariant.0 c.records.invariant.1.stands) in
-    let more = record_more plan.recording c.records.reader c.next.new.self (g.I.Source.left c.records.input) (g.I.Source.left c.next.new.source) (g.I.Source.taken c.records.input) (g.I.Source.taken c.next.new.source) c.records.invariant.0 (record_seen c.in-Ok-Some.item) c.records.invariant.1.form read in
-    part_at plan (g.I.Source.left c.args.input.now) (g.I.Source.left c.next.new.source) (g.R.Rack.files c.args.rack.now) (g.R.Rack.files c.records.rack) (g.R.Rack.files c.take_record.new.rack) c.args.first
-    c.records.invariant.0 read.piece (record_seen c.in-Ok-Some.item) c.next.new.self (read.form ∙ c.records.invariant.1.form) read.stands
-    (consumed_more (g.I.Source.left c.args.input.now) (g.I.Source.left c.records.input) (g.I.Source.left c.next.new.source) c.records.invariant.0 read.piece c.records.invariant.1.consumed read.takes.bytes_are)
+    let read : ReadsRecord c.records.reader c.next_into.new.self (g.I.Source.left c.records.input) (g.I.Source.left c.next_into.new.source) (g.I.Source.taken c.records.input) (g.I.Source.taken c.next_into.new.source) c.records.invariant.0 (record_seen c.next_into.new.into) =
+    c.in-Ok-true.ensures.read c.records.invariant.0 c.records.invariant.1.stands (ap (λ more. Ok more) c.in-Ok-true.field-0-test) in
+    let more = record_more plan.recording c.records.reader c.next_into.new.self (g.I.Source.left c.records.input) (g.I.Source.left c.next_into.new.source) (g.I.Source.taken c.records.input) (g.I.Source.taken c.next_into.new.source) c.records.invariant.0 (record_seen c.next_into.new.into) c.records.invariant.1.form read in
+    part_at plan (g.I.Source.left c.args.input.now) (g.I.Source.left c.next_into.new.source) (g.R.Rack.files c.args.rack.now) (g.R.Rack.files c.records.rack) (g.R.Rack.files c.take_record.new.rack) c.args.first
+    c.records.invariant.0 read.piece (record_seen c.next_into.new.into) c.next_into.new.self (read.form ∙ c.records.invariant.1.form) read.stands
+    (consumed_more (g.I.Source.left c.args.input.now) (g.I.Source.left c.records.input) (g.I.Source.left c.next_into.new.source) c.records.invariant.0 read.piece c.records.invariant.1.consumed read.takes.bytes_are)
     more c.records.invariant.1.files (c.in-Err.ensures.failed plan (records_in plan c.records.invariant.0) c.records.invariant.1.received)
 
 pub returns-in-Err-clause-file : goal.returns-in-Err-clause-file
