@@ -5,6 +5,8 @@
 #![tactic(auto)]
 
 ghost use Rattle.std.specs.Prelude.{◌≡◌, List, ℕ, true};
+ghost use Rattle.addr_rules.specs.Texts.{IsRuleText};
+ghost use Rattle.addr_rules.specs.declared.rules.Rule.{Rule};
 ghost use Rattle.plan_spec.specs.Plan.{PlanFields};
 ghost use Rattle.plan_spec.specs.Refusal.{IsAccepted};
 ghost use Rattle.plan_spec.specs.Valid.{is_plan_of_settings, is_plan};
@@ -19,4 +21,10 @@ pub fn accepted_settings_give_a_plan()
 /// Its addresses are bytes, as many as each has.
 pub fn accepted_settings_give_bytes()
     ensures bytes { (bytes : List ℕ) (plan : PlanFields) → IsAccepted bytes plan → IsOfBytes plan }
+{}
+
+/// A settings file gives one plan: its document is read in one way, and a text spells one rule at most.
+pub fn accepted_settings_give_one_plan()
+    ensures plan { (bytes : List ℕ) (p q : PlanFields) → IsAccepted bytes p → IsAccepted bytes q → p ≡ q }
+    ensures rule { (text : List ℕ) (r s : Rule) → IsRuleText text r → IsRuleText text s → r ≡ s }
 {}
