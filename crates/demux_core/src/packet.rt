@@ -1,5 +1,5 @@
 //! A packet -> the receiver of its PID: the INT's, or that of a service.
-ghost use Rattle.std.specs.Prelude.{◌≡◌, ℕ, ◌^◌, ◌<◌, ◌≤◌, List, [], ◌∷◌, ◌++◌, length, IfOk, OnOk, OnErr};
+ghost use Rattle.std.specs.Prelude.{◌≡◌, ℕ, ◌^◌, ◌<◌, ◌≤◌, true, List, [], ◌∷◌, ◌++◌, length, IfOk, OnOk, OnErr};
 ghost use Rattle.wire_spec.specs.Causes.{HasCause};
 ghost use Rattle.ts_spec.specs.Recording.{Record};
 ghost use Rattle.service_plan.specs.PlanView.{plan_fields};
@@ -31,9 +31,11 @@ pub(crate) fn take_packet<T: Outlet>(
     requires fits { FitsPlan (plan_fields plan.now) (length receivers.old) }
     requires served { length plan.now.services ≤ T.services outlet.old }
     ensures received { (records : List Record) → length records < 2 ^ 32 → HaveAllReceived (plan_fields plan.now) receivers.old table.old records
-        → OnOk result (HaveAllReceived (plan_fields plan.now) receivers.new table.new (records ++ packet_record moment bytes.now ∷ [])) }
+        → HaveAllReceived (plan_fields plan.now) receivers.new table.new (records ++ packet_record moment bytes.now ∷ []) }
     ensures known { (records : List Record) → HaveAllReceived (plan_fields plan.now) receivers.old table.old records
         → IfOk result (λ known. known ≡ is_pid_of (plan_fields plan.now) packet.now.pid) }
+    ensures of_plan { (records : List Record) → HaveAllReceived (plan_fields plan.now) receivers.old table.old records
+        → OnErr result (is_pid_of (plan_fields plan.now) packet.now.pid ≡ true) }
     ensures written { (records : List Record) → length records < 2 ^ 32 → HaveAllReceived (plan_fields plan.now) receivers.old table.old records
         → OnOk result (Delivers (T.StandsFor outlet.old) (T.StandsFor outlet.new) (pairs_of_record (plan_fields plan.now) (records ++ packet_record moment bytes.now ∷ []) (length records))) }
     ensures failed { (records : List Record) → length records < 2 ^ 32 → HaveAllReceived (plan_fields plan.now) receivers.old table.old records

@@ -80,13 +80,14 @@ impl<'a> Receiver<'a> {
 
     /// Takes the next record, and delivers the datagrams that it gives.
     ///
+    /// Failed: the outlet refused one, and those behind it are not offered; the record is counted as with Ok.
     /// No memory is taken.
     pub fn step<T: Outlet>(&mut self, item: &Record, outlet: &mut T) -> Result<(), Failed>
         requires is_open { self.old.is_open ≡ true }
         requires few { self.old.stream.records < 2 ^ 32 }
         requires served { length self.old.plan.services ≤ T.services outlet.old }
         ensures received { (plan : PlanFields) (records : List ReadRecord) → HasReceived plan records self.old
-            → OnOk result (HasReceived plan (records ++ record_seen item.now ∷ []) self.new) }
+            → HasReceived plan (records ++ record_seen item.now ∷ []) self.new }
         ensures written { (plan : PlanFields) (records : List ReadRecord) → HasReceived plan records self.old
             → OnOk result (Delivers (T.StandsFor outlet.old) (T.StandsFor outlet.new) (pairs_of_record plan (records ++ record_seen item.now ∷ []) (length records))) }
         ensures failed { (plan : PlanFields) (records : List ReadRecord) → HasReceived plan records self.old

@@ -99,7 +99,7 @@ impl<'a> ServiceReceiver<'a> {
         requires read { IsRead packet.now bytes.now }
         requires served { service < T.services outlet.old }
         ensures received { (it : ServiceFields) (records : List Record) → IsReceivingOne filter.now packet.now.pid it self.old records
-            → OnOk result (HasReceivedOne it self.new (records ++ packet_record moment bytes.now ∷ [])) }
+            → HasReceivedOne it self.new (records ++ packet_record moment bytes.now ∷ []) }
         ensures delivered { (it : ServiceFields) (records : List Record) → IsReceivingOne filter.now packet.now.pid it self.old records
             → OnOk result (Told (T.StandsFor outlet.old) (T.StandsFor outlet.new) service (added_by it records (packet_record moment bytes.now))) }
         ensures failed { (it : ServiceFields) (records : List Record) → IsReceivingOne filter.now packet.now.pid it self.old records

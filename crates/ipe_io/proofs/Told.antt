@@ -1,8 +1,12 @@
 -- One change of told content after another.
-use Rattle.std.proofs.Common.{◌≡◌, ℕ, ◌+◌, ◌<◌, ◌≤◌, ◌^◌, ◌-◌, List, [], ◌++◌, length, get_or, set, refl, ap, sym, ◌∙◌, append_assoc, arith, Option, None, Some, IfSome}
+use Rattle.std.proofs.Common.{◌≡◌, ◌==◌, if◌then◌else◌, Bool, false, ℕ, ◌+◌, ◌<◌, ◌≤◌, ◌^◌, ◌-◌, List, [], ◌++◌, length, get_or, set, refl, ap, sym, ◌∙◌, append_assoc, arith, Option, None, Some, IfSome}
 use Rattle.std.proofs.lemmas.List.{set-set, get_or-set_same, set-get_or, append-nil}
 use Rattle.wire_spec.specs.Causes.{raised}
 use Rattle.wire_spec.specs.Content.{File, ChangesFile, Stays, grown, no_file}
+
+-- a read that gave bytes leaves an input that goes on
+pub goes_on : (before now : Bool) (room n : ℕ) → ¬ (n ≡ 0) → before ≡ false → now ≡ (if room == 0 then before else n == 0) → now ≡ false
+goes_on before now room n some e is = grind (arith, some, e, is)
 
 -- a counter raised twice
 pub raised-raised : (count m n : ℕ) → raised (raised count m) n ≡ raised count (m + n)

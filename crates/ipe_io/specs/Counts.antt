@@ -32,7 +32,8 @@ pub record HasLoadCause {T : Type 0} (before now : ℕ) (result : Result T LoadF
   pub later : before ≤ now
   pub failed : IsErrOf result load.Failed → Rose before now
 
--- `add` answers Failed only where the rack's count rose, which never falls
+-- `add` answers Failed only where the rack's count rose, which never falls and which every other answer leaves
 pub record HasAddCause {T : Type 0} (before now : ℕ) (result : Result T AddFault) : Type 0 where
   pub later : before ≤ now
   pub failed : IsErrOf result add.Failed → Rose before now
+  pub kept : ¬ IsErrOf result add.Failed → now ≡ before

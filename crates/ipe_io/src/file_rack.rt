@@ -65,11 +65,7 @@ fn flush_each<W: Write + Drop>(files: &mut [BufWriter<W>]) -> u64 {
 impl<R: Files + Drop> Rack for FileRack<R> {
     ghost use Rattle.std.specs.Prelude.{None};
 
-    ghost count = { λ s. s.count };
-
-    ghost files = { λ s. None };
-
-    ghost faults = { λ s. s.faults };
+    ghost told = { λ s. record { count = s.count; files = None; faults = s.faults } };
 
     /// Creates the file, or empties it.
     fn add(&mut self, alloc: Global, name: &str) -> Result<u32, AddFault> {

@@ -39,9 +39,7 @@ impl<R: Files + Drop> FileShelf<R> {
 impl<R: Files + Drop> Shelf for FileShelf<R> {
     ghost use Rattle.std.specs.Prelude.{None};
 
-    ghost file = { λ s name. None };
-
-    ghost faults = { λ faults name. faults };
+    ghost told = { λ faults. record { file = λ name. None; faults = λ name. faults } };
 
     fn load(&mut self, alloc: Global, name: &str) -> Result<Vec<u8>, LoadFault> {
         match load_from(&self.system, alloc, name) {

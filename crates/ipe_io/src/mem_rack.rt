@@ -99,11 +99,7 @@ impl MemRack {
 impl Rack for MemRack {
     ghost use Rattle.std.specs.Prelude.{Some, length, refl};
 
-    ghost count = { λ s. length s.files };
-
-    ghost files = { λ s. Some s.files };
-
-    ghost faults = { λ s. s.faults };
+    ghost told = { λ s. record { count = length s.files; files = Some s.files; faults = s.faults } };
 
     /// Adds an empty file where one is unused. It fails where none is, and can want memory for the name.
     fn add(&mut self, alloc: Global, name: &str) -> Result<u32, AddFault>

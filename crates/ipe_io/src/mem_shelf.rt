@@ -105,9 +105,7 @@ impl MemShelf {
 impl Shelf for MemShelf {
     ghost use Rattle.ipe_io.specs.Memory.{bytes_of, faults_of};
 
-    ghost file = { bytes_of };
-
-    ghost faults = { faults_of };
+    ghost told = { λ s. record { file = bytes_of s; faults = faults_of s } };
 
     /// Answers a file's bytes. The load of another name fails.
     fn load(&mut self, alloc: Global, name: &str) -> Result<Vec<u8>, LoadFault>
@@ -118,6 +116,7 @@ impl Shelf for MemShelf {
         ensures unchanged { (other : List ℕ) → bytes_of self.new other ≡ bytes_of self.old other }
         ensures cause { HasLoadCause (faults_of self.old name.now) (faults_of self.new name.now) result }
         ensures later { (other : List ℕ) → faults_of self.old other ≤ faults_of self.new other }
+        ensures kept { ¬ IsErrOf result LoadFault.Failed → (other : List ℕ) → faults_of self.new other ≡ faults_of self.old other }
         ensures fault { IsErrOf result LoadFault.Failed → self.new ≡ failed_for name.now (called self.old) }
         ensures no_fault { (IsErrOf result LoadFault.Failed → ⊥) → self.new ≡ called self.old }
     {

@@ -67,11 +67,7 @@ impl MemSink {
 impl Sink for MemSink {
     ghost use Rattle.std.specs.Prelude.{Some};
 
-    ghost held = { λ s. Some s.bytes };
-
-    ghost flushed = { λ s. Some s.flushed };
-
-    ghost faults = { λ s. s.faults };
+    ghost told = { λ s. record { held = Some s.bytes; flushed = Some s.flushed; faults = s.faults } };
 
     /// Takes as much of the piece as there is room for. A piece that is not empty and finds no room is a fault.
     fn write(&mut self, piece: &[u8]) -> Result<usize, Failed>

@@ -68,14 +68,8 @@ impl Source for MemSource {
     ghost use Rattle.std.specs.Prelude.{ℕ, ◌^◌, ◌-◌, ◌≤◌, min, Some};
     ghost use Rattle.std.proofs.Common.{arith};
 
-    ghost left = { λ s. Some s.left };
-
-    // The counter is one of 64 bits.
-    ghost taken = { λ s. min s.taken (2 ^ 64 - 1) };
-
-    ghost ended = { λ s. s.ended };
-
-    ghost faults = { λ s. s.faults };
+    // The counter of the bytes taken is one of 64 bits.
+    ghost told = { λ s. record { left = Some s.left; taken = min s.taken (2 ^ 64 - 1); ended = s.ended; faults = s.faults } };
 
     /// Gives the least of the chunk, the room in `into` and the bytes left.
     fn read(&mut self, into: &mut [u8]) -> Result<usize, Failed>

@@ -4,6 +4,7 @@ ghost use Rattle.std.specs.Io.{ReadsAtMost};
 ghost use Rattle.std.specs.Io.KnownBytes.{ReadConsumes, WriteAppends, Keeps};
 ghost use Rattle.wire_spec.specs.Causes.{HasCause};
 ghost use Rattle.wire_spec.specs.Content.{File, Stays, AddsFile, ChangesFile, empty_file, grown, flushed_file};
+ghost use Rattle.ipe_io.specs.Told.{InputTold, OutputTold, ShelfTold, RackTold};
 ghost use Rattle.ipe_io.specs.Counts.{HasAddCause, HasLoadCause, IsFlushed, taken_after, ended_after, longest_file};
 
 use crate::{AddFault, Failed, LoadFault};
@@ -11,117 +12,94 @@ use std::alloc::Global;
 
 /// Where bytes come from.
 pub trait Source {
-    /// The bytes that are left, where it tells them.
-    ghost left: { Self → Option (List ℕ) };
-
-    /// How many bytes were taken, a counter that stands still at 2^64 - 1.
-    ghost taken: { Self → ℕ };
-
-    /// Whether the input has ended: of the reads with room that did not fail, the last gave nothing.
-    ghost ended: { Self → Bool };
-
-    /// How often it has failed.
-    ghost faults: { Self → ℕ };
+    /// What it tells of its bytes, and its counts.
+    ghost told: { Self → InputTold };
 
     /// Moves the next bytes into the front of `into`, and answers how many. 0 where there is room says that the
     /// input has ended. On `Failed` nothing is taken.
     fn read(&mut self, into: &mut [u8]) -> Result<usize, Failed>
         ensures bound { ReadsAtMost result into.new }
-        ensures read { ReadConsumes (left self.old) (left self.new) result into.new }
-        ensures taken { taken self.new ≡ taken_after (taken self.old) result }
-        ensures ended { ended self.new ≡ ended_after (ended self.old) (length into.new) result }
-        ensures cause { HasCause (faults self.old) (faults self.new) result };
+        ensures read { ReadConsumes (told self.old).left (told self.new).left result into.new }
+        ensures taken { (told self.new).taken ≡ taken_after (told self.old).taken result }
+        ensures ended { (told self.new).ended ≡ ended_after (told self.old).ended (length into.new) result }
+        ensures cause { HasCause (told self.old).faults (told self.new).faults result };
 
     /// The counter of the bytes taken is one of 64 bits.
-    ghost taken_fits: { (source : Self) → taken source ≤ 2 ^ 64 - 1 };
+    ghost taken_fits: { (source : Self) → (told source).taken ≤ 2 ^ 64 - 1 };
 }
 
 /// Where bytes go.
 pub trait Sink {
-    /// The bytes that it holds, where it tells them.
-    ghost held: { Self → Option (List ℕ) };
-
-    /// How many of them were flushed, where it tells that.
-    ghost flushed: { Self → Option ℕ };
-
-    /// How often it has failed.
-    ghost faults: { Self → ℕ };
+    /// What it tells of its bytes, and its count.
+    ghost told: { Self → OutputTold };
 
     /// Appends a prefix of `piece`, and answers its length: 1 or more where the piece is not empty. On `Failed`
     /// nothing is appended.
     fn write(&mut self, piece: &[u8]) -> Result<usize, Failed>
         ensures bound { IfOk result (λ n. n ≤ length piece.now) }
         ensures some { IfOk result (λ n. 0 < length piece.now → 0 < n) }
-        ensures written { WriteAppends (held self.old) (held self.new) result piece.now }
-        ensures flushed { Stays (flushed self.old) (flushed self.new) }
-        ensures cause { HasCause (faults self.old) (faults self.new) result };
+        ensures written { WriteAppends (told self.old).held (told self.new).held result piece.now }
+        ensures flushed { Stays (told self.old).flushed (told self.new).flushed }
+        ensures cause { HasCause (told self.old).faults (told self.new).faults result };
 
     /// Flushes all bytes, and changes none.
     fn flush(&mut self) -> Result<(), Failed>
-        ensures flushed { OnOk result (IsFlushed (held self.new) (flushed self.new)) }
-        ensures kept { Keeps (held self.old) (held self.new) }
-        ensures unchanged { OnErr result (Stays (flushed self.old) (flushed self.new)) }
-        ensures cause { HasCause (faults self.old) (faults self.new) result };
+        ensures flushed { OnOk result (IsFlushed (told self.new).held (told self.new).flushed) }
+        ensures kept { Keeps (told self.old).held (told self.new).held }
+        ensures unchanged { OnErr result (Stays (told self.old).flushed (told self.new).flushed) }
+        ensures cause { HasCause (told self.old).faults (told self.new).faults result };
 }
 
 /// Where files are loaded from by name.
 pub trait Shelf {
-    /// What the file of a name holds, where it tells that.
-    ghost file: { Self → List ℕ → Option (List ℕ) };
-
-    /// How often the file of a name has failed.
-    ghost faults: { Self → List ℕ → ℕ };
+    /// What it tells of its files, and its counts by name.
+    ghost told: { Self → ShelfTold };
 
     /// The bytes of the file of that name, at most 1,048,576.
     fn load(&mut self, alloc: Global, name: &str) -> Result<Vec<u8>, LoadFault>
-        ensures read { IfOk result (λ bytes. IfSome (file self.old name.now) (λ told. bytes.items ≡ told)) }
+        ensures read { IfOk result (λ bytes. IfSome ((told self.old).file name.now) (λ held. bytes.items ≡ held)) }
         ensures short { IfOk result (λ bytes. length bytes.items ≤ longest_file) }
-        ensures too_long { IsErrOf result LoadFault.TooLong → IfSome (file self.old name.now) (λ told. longest_file < length told) }
-        ensures unchanged { (other : List ℕ) → file self.new other ≡ file self.old other }
-        ensures cause { HasLoadCause (faults self.old name.now) (faults self.new name.now) result }
-        ensures later { (other : List ℕ) → faults self.old other ≤ faults self.new other };
+        ensures too_long { IsErrOf result LoadFault.TooLong → IfSome ((told self.old).file name.now) (λ held. longest_file < length held) }
+        ensures unchanged { (other : List ℕ) → (told self.new).file other ≡ (told self.old).file other }
+        ensures cause { HasLoadCause ((told self.old).faults name.now) ((told self.new).faults name.now) result }
+        ensures later { (other : List ℕ) → (told self.old).faults other ≤ (told self.new).faults other }
+        ensures kept { ¬ IsErrOf result LoadFault.Failed → (other : List ℕ) → (told self.new).faults other ≡ (told self.old).faults other };
 }
 
 /// Where files are added and written.
 pub trait Rack {
-    /// How many files were added.
-    ghost count: { Self → ℕ };
-
-    /// The files in order, where it tells them.
-    ghost files: { Self → Option (List File) };
-
-    /// How often it has failed.
-    ghost faults: { Self → ℕ };
+    /// What it tells of its files, and its counts.
+    ghost told: { Self → RackTold };
 
     /// Adds an empty file of that name, and answers its place: the number of files added before. After an Err no
     /// file was added.
     fn add(&mut self, alloc: Global, name: &str) -> Result<u32, AddFault>
-        ensures place { IfOk result (λ at. at ≡ count self.old) }
-        ensures count { count self.new ≡ (if is_ok result then count self.old + 1 else count self.old) }
-        ensures written { OnOk result (AddsFile (files self.old) (files self.new) (empty_file name.now)) }
-        ensures unchanged { OnErr result (Stays (files self.old) (files self.new)) }
-        ensures cause { HasAddCause (faults self.old) (faults self.new) result };
+        ensures place { IfOk result (λ at. at ≡ (told self.old).count) }
+        ensures count { (told self.new).count ≡ (if is_ok result then (told self.old).count + 1 else (told self.old).count) }
+        ensures written { OnOk result (AddsFile (told self.old).files (told self.new).files (empty_file name.now)) }
+        ensures unchanged { OnErr result (Stays (told self.old).files (told self.new).files) }
+        ensures cause { HasAddCause (told self.old).faults (told self.new).faults result };
 
     /// Appends a prefix of `piece` to the file at a place, as [Sink] does.
     fn write(&mut self, at: u32, piece: &[u8]) -> Result<usize, Failed>
-        requires { at < count self.old }
+        requires { at < (told self.old).count }
         ensures bound { IfOk result (λ n. n ≤ length piece.now) }
         ensures some { IfOk result (λ n. 0 < length piece.now → 0 < n) }
-        ensures count { count self.new ≡ count self.old }
-        ensures written { IfOk result (λ n. ChangesFile (files self.old) (files self.new) at (λ file. grown file (take n piece.now))) }
-        ensures unchanged { OnErr result (Stays (files self.old) (files self.new)) }
-        ensures cause { HasCause (faults self.old) (faults self.new) result };
+        ensures count { (told self.new).count ≡ (told self.old).count }
+        ensures written { IfOk result (λ n. ChangesFile (told self.old).files (told self.new).files at (λ file. grown file (take n piece.now))) }
+        ensures unchanged { OnErr result (Stays (told self.old).files (told self.new).files) }
+        ensures cause { HasCause (told self.old).faults (told self.new).faults result };
 
     /// Flushes the file at a place.
     fn flush(&mut self, at: u32) -> Result<(), Failed>
-        requires { at < count self.old }
-        ensures count { count self.new ≡ count self.old }
-        ensures flushed { OnOk result (ChangesFile (files self.old) (files self.new) at flushed_file) }
-        ensures unchanged { OnErr result (Stays (files self.old) (files self.new)) }
-        ensures cause { HasCause (faults self.old) (faults self.new) result };
+        requires { at < (told self.old).count }
+        ensures count { (told self.new).count ≡ (told self.old).count }
+        ensures flushed { OnOk result (ChangesFile (told self.old).files (told self.new).files at flushed_file) }
+        ensures unchanged { OnErr result (Stays (told self.old).files (told self.new).files) }
+        ensures cause { HasCause (told self.old).faults (told self.new).faults result };
 
     /// It tells as many files as were added.
-    ghost as_many: { (rack : Self) → IfSome (files rack) (λ told. length told ≡ count rack) };
+    ghost as_many: { (rack : Self) → IfSome (told rack).files (λ files. length files ≡ (told rack).count) };
 }
 
 /// Where received datagrams are delivered.

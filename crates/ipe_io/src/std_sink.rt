@@ -48,11 +48,7 @@ impl<W: Write + Drop> StdSink<BufWriter<W>> {
 impl<W: Write + Drop> Sink for StdSink<W> {
     ghost use Rattle.std.specs.Prelude.{None};
 
-    ghost held = { λ s. None };
-
-    ghost flushed = { λ s. None };
-
-    ghost faults = { λ faults. faults };
+    ghost told = { λ faults. record { held = None; flushed = None; faults = faults } };
 
     fn write(&mut self, piece: &[u8]) -> Result<usize, Failed> {
         match self.inner.write(piece) {

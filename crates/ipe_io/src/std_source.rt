@@ -45,14 +45,8 @@ impl<R: Read + Drop> Source for StdSource<R> {
     ghost use Rattle.std.specs.Prelude.{◌^◌, ◌-◌, ◌≤◌, min, None};
     ghost use Rattle.std.proofs.Common.{arith};
 
-    ghost left = { λ s. None };
-
-    // The counter is one of 64 bits.
-    ghost taken = { λ s. min s.taken (2 ^ 64 - 1) };
-
-    ghost ended = { λ s. s.ended };
-
-    ghost faults = { λ s. s.faults };
+    // The counter of the bytes taken is one of 64 bits.
+    ghost told = { λ s. record { left = None; taken = min s.taken (2 ^ 64 - 1); ended = s.ended; faults = s.faults } };
 
     fn read(&mut self, into: &mut [u8]) -> Result<usize, Failed> {
         match self.inner.read(into) {

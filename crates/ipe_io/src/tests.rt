@@ -1,8 +1,36 @@
 //! What no clause says: that the calls succeed with ample memory, and what the system sees of the real objects.
 
 use super::*;
-use std::fs;
+use std::alloc::Global;
+use std::fs::File;
+use std::io::Write;
 use std::test::Fail;
+use std::{fs, io};
+
+/// A file that takes one byte a call.
+#[derive(Drop)]
+struct ByteByByte {
+    file: File,
+}
+
+impl Write for ByteByByte {
+    fn write(&mut self, piece: &[u8]) -> io::Result<usize> {
+        self.file.write(&piece[..piece.len().min(1)])
+    }
+
+    fn flush(&mut self) -> io::Result<()> {
+        self.file.flush()
+    }
+}
+
+/// 70,000 bytes, in which no two that are 65,536 apart are equal.
+fn long_text(alloc: Global) -> Result<Vec<u8>, OutOfMemory> {
+    let mut text = Vec::new(alloc);
+    for at in 0..70_000u32 {
+        text.push((at % 251) as u8)?;
+    }
+    Ok(text)
+}
 
 /// A read gives at most the chunk, a listed call fails and takes nothing, and `fill` goes on up to the end.
 #[test]
@@ -160,5 +188,62 @@ fn a_file_is_read_as_it_was_written(rt: HostRuntime) -> Result<(), Fail> {
         b"9".as_slice()
     );
     fs::remove_file(&rt, "ipe_io_c")?;
+    Ok(())
+}
+
+/// A sink reports what its writer took, and no more: a whole text is written once, also one longer than the 64 KiB that are
+/// held back.
+#[test]
+fn a_sink_reports_what_was_taken(rt: HostRuntime) -> Result<(), Fail> {
+    let mut sink = StdSink::new(ByteByByte {
+        file: fs::create(&rt, "ipe_io_d")?,
+    });
+    assert_eq!(rt; sink.write(b"abc"), Ok(1));
+    assert_eq!(rt; sink.write(b""), Ok(0));
+    put_all(&mut sink, b"bcdef")?;
+    let mut shelf = FileShelf::new(rt);
+    assert_eq!(rt;
+        shelf.load(rt.alloc(), "ipe_io_d")?.as_slice(),
+        b"abcdef".as_slice()
+    );
+    let text = long_text(rt.alloc())?;
+    let mut sink = StdSink::buffered(rt.alloc(), fs::create(&rt, "ipe_io_d")?)?;
+    put_all(&mut sink, b"abc")?;
+    put_all(&mut sink, &text)?;
+    sink.flush()?;
+    let written = shelf.load(rt.alloc(), "ipe_io_d")?;
+    assert!(rt; written.len() == 70_003);
+    assert_eq!(rt; &written[..3], b"abc".as_slice());
+    assert_eq!(rt; &written[3..], text.as_slice());
+    fs::remove_file(&rt, "ipe_io_d")?;
+    Ok(())
+}
+
+/// Each run's rack empties the files that are there, and its two files have the texts that were written in this run: shorter
+/// ones too, and ones longer than the 64 KiB that are held back.
+#[test]
+fn a_rack_empties_the_files_that_are_there(rt: HostRuntime) -> Result<(), Fail> {
+    let text = long_text(rt.alloc())?;
+    let mut shelf = FileShelf::new(rt);
+    for (first, second) in [(70_000, 65_537), (65_536, 3), (1, 0)] {
+        assert!(rt; text.len() == 70_000 && first <= 70_000 && second <= 69_993);
+        let mut rack = FileRack::new(rt.alloc(), rt);
+        assert_eq!(rt; rack.add(rt.alloc(), "ipe_io_e"), Ok(0));
+        assert_eq!(rt; rack.add(rt.alloc(), "ipe_io_f"), Ok(1));
+        put_file(&mut rack, 0, &text[..first])?;
+        put_file(&mut rack, 1, &text[7..7 + second])?;
+        rack.flush(0)?;
+        rack.flush(1)?;
+        assert_eq!(rt;
+            shelf.load(rt.alloc(), "ipe_io_e")?.as_slice(),
+            &text[..first]
+        );
+        assert_eq!(rt;
+            shelf.load(rt.alloc(), "ipe_io_f")?.as_slice(),
+            &text[7..7 + second]
+        );
+    }
+    fs::remove_file(&rt, "ipe_io_e")?;
+    fs::remove_file(&rt, "ipe_io_f")?;
     Ok(())
 }

@@ -1,14 +1,20 @@
 //! The program: the real objects of the outside, handed to the engine.
 //!
-//! The words behind the program's name and standard input come in; files of the current folder, a line on standard
+//! The words after the program's name and standard input come in; files of the current folder, a line on standard
 //! error and the exit status go out. Begin with `run` of ipencap_engine.
 #![tactic(auto)]
+
+ghost use Rattle.std.specs.Prelude.{◌≡◌};
+ghost use Rattle.ipencap_cli.specs.Exit.{exit_number};
 
 use ipe_io::{FileRack, FileShelf, OutOfMemory, Sink, StdSink, StdSource};
 use ipencap_engine::{Status, run};
 use std::env;
 use std::process::ExitCode;
 
+/// Hands `run` the words after the program's name, and ends with the number of its status.
+///
+/// Where there is no memory for the words or the objects, it prints the line of `OutOfMemory`, and ends with its number.
 fn main(rt: HostRuntime) -> ExitCode {
     match work(rt) {
         Ok(status) => ExitCode::from(number_of(status)),
@@ -42,7 +48,7 @@ fn work(rt: HostRuntime) -> Result<Status, OutOfMemory> {
     Ok(status)
 }
 
-/// The words behind the program's name. Words that are no text form no command.
+/// The words after the program's name. Words that are no text form no command.
 fn words_of(rt: &HostRuntime) -> Result<Vec<String>, OutOfMemory> {
     let mut words = Vec::new(rt.alloc());
     if let Ok(args) = env::args(rt) {
@@ -53,8 +59,10 @@ fn words_of(rt: &HostRuntime) -> Result<Vec<String>, OutOfMemory> {
     Ok(words)
 }
 
-/// The exit status.
-fn number_of(status: Status) -> u8 {
+/// The exit status of a run's status: 0 and 2 to 10. 1 is none of them, since shells and the launcher end with it.
+fn number_of(status: Status) -> u8
+    ensures { result ≡ exit_number status }
+{
     match status {
         Status::Done => 0,
         Status::Usage => 2,

@@ -1,9 +1,11 @@
 pub mod Pieces
 pub mod Longer
-pub mod OnePid
-pub mod Commands
+pub mod Asked
 pub mod Lines
-pub mod Losses
-pub mod Sending
-pub mod Receiving
-pub mod Kept
+pub mod Plans
+pub mod Arriving
+pub mod Settings
+pub mod Checked
+pub mod Sent
+pub mod Received
+pub mod Complete

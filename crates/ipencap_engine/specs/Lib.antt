@@ -1,8 +1,9 @@
+pub mod World
+pub mod Built
+pub mod Jobs
 pub mod Words
-pub mod Files
 pub mod Statuses
-pub mod Check
-pub mod Send
-pub mod Receive
-pub mod Kept
-pub mod Loss
+pub mod Made
+pub mod Stands
+pub mod Runs
+pub mod Complete

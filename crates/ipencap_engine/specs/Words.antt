@@ -1,30 +1,24 @@
--- Which commands are built: `ule PID`, `check SETTINGS`, `send SETTINGS` and `receive SETTINGS`.
-use Rattle.std.specs.Prelude.{◌⊎◌, ℕ, List}
-use Rattle.command_words.specs.Words.{AsksForUle, AsksForCheck, AsksForSend, AsksForReceive}
+-- What was read of the words: a command that is built, or why there is none.
+use Rattle.std.specs.Prelude.{ℕ, ◌≤◌, ◌⊎◌, List, ⊤}
+use Rattle.command_words.specs.Words.{AsksForSample, IsNoCommand}
+use Rattle.ipencap_engine.specs.Jobs.{Job, to_ule, to_check, to_send, to_receive}
 use Rattle.ipencap_engine.specs.declared.words.Task.{Task}
 use Rattle.ipencap_engine.specs.declared.words.Task.TheVariants as task
 
--- the words form none of them
-pub record IsNoBuiltCommand (words : List (List ℕ)) : Type 0 where
-  pub no_ule : (pid : ℕ) → ¬ AsksForUle words pid
-  pub no_check : (name : List ℕ) → ¬ AsksForCheck words name
-  pub no_send : (name : List ℕ) → ¬ AsksForSend words name
-  pub no_receive : (name : List ℕ) → ¬ AsksForReceive words name
+-- the job of a command that is built
+abbrev pub job_of : Task → Job
+job_of (task.Ule pid) = to_ule pid
+job_of (task.Check name) = to_check name.now
+job_of (task.Send name) = to_send name.now
+job_of (task.Receive name) = to_receive name.now
 
--- the words form one
-pub data IsBuiltCommand (words : List (List ℕ)) : Type 0 where
-  asks_for_ule : (pid : ℕ) → AsksForUle words pid → IsBuiltCommand words
-  asks_for_check : (name : List ℕ) → AsksForCheck words name → IsBuiltCommand words
-  asks_for_send : (name : List ℕ) → AsksForSend words name → IsBuiltCommand words
-  asks_for_receive : (name : List ℕ) → AsksForReceive words name → IsBuiltCommand words
+-- the PID of a task is one that can be asked for
+abbrev pub IsTask : Task → Type 0
+IsTask (task.Ule pid) = pid ≤ 8190
+IsTask (task.Check name) = ⊤
+IsTask (task.Send name) = ⊤
+IsTask (task.Receive name) = ⊤
 
--- the words are those of one that is built and loads settings
-abbrev pub AsksForSettings : List (List ℕ) → List ℕ → Type 0
-AsksForSettings words name = AsksForCheck words name ⊎ (AsksForSend words name ⊎ AsksForReceive words name)
-
--- the words are those of the command
-abbrev pub AsksToDo : List (List ℕ) → Task → Type 0
-AsksToDo words (task.Ule pid) = AsksForUle words pid
-AsksToDo words (task.Check name) = AsksForCheck words name.now
-AsksToDo words (task.Send name) = AsksForSend words name.now
-AsksToDo words (task.Receive name) = AsksForReceive words name.now
+-- the words form no command, or the one that is not built yet
+abbrev pub IsNoBuiltCommand : List (List ℕ) → Type 0
+IsNoBuiltCommand words = IsNoCommand words ⊎ ((number : ℕ) × AsksForSample words number)

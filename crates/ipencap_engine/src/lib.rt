@@ -8,6 +8,8 @@
 #![tactic(auto)]
 
 mod check;
+mod laws;
+mod plan;
 mod receive;
 mod send;
 mod status;
@@ -15,5 +17,6 @@ mod top;
 mod ule;
 mod words;
 
+pub use laws::a_run_without_a_fault_is_complete;
 pub use status::Status;
 pub use top::run;

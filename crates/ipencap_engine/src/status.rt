@@ -54,7 +54,7 @@ pub enum Outcome {
 /// Tells the line of an outcome, and answers its status. A fault of the complaints changes nothing else.
 pub fn complain<E: Sink>(outcome: Outcome, complaints: &mut E) -> Status
     ensures status { result ≡ status_of outcome }
-    ensures told { Complains (E.held complaints.old) (E.held complaints.new) (E.faults complaints.old) (E.faults complaints.new) (outcome_line outcome) }
+    ensures told { Complains (E.told complaints.old).held (E.told complaints.new).held (E.told complaints.old).faults (E.told complaints.new).faults (outcome_line outcome) }
 {
     match outcome {
         Outcome::Ended(status) => {

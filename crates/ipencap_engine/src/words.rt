@@ -1,8 +1,9 @@
 //! The words of the command line -> what is to be done.
-ghost use Rattle.std.specs.Prelude.{◌≡◌, map, string_bytes, IfOk, IfSome, IfNone, IfErr, IsErrOf, List, ℕ};
+ghost use Rattle.std.specs.Prelude.{◌≡◌, map, string_bytes, IfOk, IfSome, IfNone, IsErrOf, List, ℕ};
 ghost use Rattle.command_words.specs.Words.{IsCommand};
 ghost use Rattle.command_words.specs.Asked.{AsksFor};
-ghost use Rattle.ipencap_engine.specs.Words.{AsksToDo, IsNoBuiltCommand};
+ghost use Rattle.ipencap_engine.specs.Jobs.{Asks};
+ghost use Rattle.ipencap_engine.specs.Words.{IsNoBuiltCommand, job_of};
 
 use command_words::{Command, WordsFault, parse_words};
 use std::alloc::Global;
@@ -22,7 +23,7 @@ pub enum Task<'w> {
 
 /// The command, where it is built.
 fn built<'w>(command: Command<'w>) -> Option<Task<'w>>
-    ensures read { IfSome result (λ task. (words : List (List ℕ)) → AsksFor words command.entry → AsksToDo words task) }
+    ensures read { IfSome result (λ task. (words : List (List ℕ)) → AsksFor words command.entry → Asks words (job_of task)) }
     ensures refused { IfNone result ((words : List (List ℕ)) → AsksFor words command.entry → IsNoBuiltCommand words) }
 {
     match command {
@@ -36,7 +37,7 @@ fn built<'w>(command: Command<'w>) -> Option<Task<'w>>
 
 /// Reads the words. Usage: they form no command that is built.
 pub fn read_words(alloc: Global, words: &[String]) -> Result<Task<'_>, WordsFault>
-    ensures read { IfOk result (λ task. AsksToDo (map (λ word. string_bytes word) words.now) task) }
+    ensures read { IfOk result (λ task. Asks (map (λ word. string_bytes word) words.now) (job_of task)) }
     ensures usage { IsErrOf result WordsFault.Usage → IsNoBuiltCommand (map (λ word. string_bytes word) words.now) }
     ensures memory { IsErrOf result WordsFault.OutOfMemory → IsCommand (map (λ word. string_bytes word) words.now) }
 {

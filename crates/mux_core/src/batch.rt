@@ -89,10 +89,10 @@ impl Batch {
 
     /// Appends all records to the sink. On `Failed` a prefix of them was appended.
     pub(crate) fn put<K: Sink>(&mut self, sink: &mut K) -> Result<(), Failed>
-        ensures written { Puts result (K.held sink.old) (K.held sink.new) self.old }
+        ensures written { Puts result (K.told sink.old).held (K.told sink.new).held self.old }
         ensures emptied { OnOk result (self.new ≡ []) }
-        ensures flushed { Stays (K.flushed sink.old) (K.flushed sink.new) }
-        ensures cause { HasCause (K.faults sink.old) (K.faults sink.new) result }
+        ensures flushed { Stays (K.told sink.old).flushed (K.told sink.new).flushed }
+        ensures cause { HasCause (K.told sink.old).faults (K.told sink.new).faults result }
     {
         match put_all(sink, &self.buffer[..self.fill]) {
             Ok(()) => {
@@ -105,10 +105,10 @@ impl Batch {
 
     /// Appends all records to the sink where the batch is full. On `Failed` a prefix of them was appended.
     pub(crate) fn put_full<K: Sink>(&mut self, sink: &mut K) -> Result<(), Failed>
-        ensures handed { Hands result (K.held sink.old) (K.held sink.new) self.old self.new }
+        ensures handed { Hands result (K.told sink.old).held (K.told sink.new).held self.old self.new }
         ensures room { OnOk result (length self.new ≤ 192512) }
-        ensures flushed { Stays (K.flushed sink.old) (K.flushed sink.new) }
-        ensures cause { HasCause (K.faults sink.old) (K.faults sink.new) result }
+        ensures flushed { Stays (K.told sink.old).flushed (K.told sink.new).flushed }
+        ensures cause { HasCause (K.told sink.old).faults (K.told sink.new).faults result }
     {
         if self.fill < FULL {
             return Ok(());

@@ -64,12 +64,13 @@ pub fn stream<K: Sink>(
     requires built { are_built (kinds (plan_fields plan.now)) ≡ true }
     requires offered { IsUnderPlan (plan_fields plan.now) offered.now }
     ensures written { (gives : Records) → IsOffered (plan_fields plan.now) gives offered.now
-        → WritesStream (plan_fields plan.now) (offered_to (plan_fields plan.now) gives) result (K.held sink.old) (K.held sink.new) }
+        → WritesStream (plan_fields plan.now) (offered_to (plan_fields plan.now) gives) result (K.told sink.old).held (K.told sink.new).held }
     ensures datagrams { IfOk result (λ sent. sent.datagrams ≡ sum_by (λ (list : List (List ℕ)). length list) offered.now.lists) }
-    ensures sink { IsErrOf result SinkFault → Rose (K.faults sink.old) (K.faults sink.new) }
+    ensures sink { IsErrOf result SinkFault → Rose (K.told sink.old).faults (K.told sink.new).faults }
     ensures memory { IsErrOf result NoMemory → sink.new ≡ sink.old }
-    ensures later { K.faults sink.old ≤ K.faults sink.new }
-    ensures flushed { Stays (K.flushed sink.old) (K.flushed sink.new) }
+    ensures later { (K.told sink.old).faults ≤ (K.told sink.new).faults }
+    ensures kept { ¬ IsErrOf result SinkFault → (K.told sink.new).faults ≡ (K.told sink.old).faults }
+    ensures flushed { Stays (K.told sink.old).flushed (K.told sink.new).flushed }
 {
     there_is_one_stream();
     each_datagram_is_for_its_service();

@@ -111,9 +111,9 @@ pub(crate) fn put_slots<K: Sink>(
     requires most { packet_total services.old.packets ≤ 2 ^ 54 }
     requires count { table.old.count ≤ 23 }
     requires empty { batch.old ≡ [] }
-    ensures written { WritesSlots (plan_fields plan.now) services.old.packets result (K.held sink.old) (K.held sink.new) }
-    ensures flushed { Stays (K.flushed sink.old) (K.flushed sink.new) }
-    ensures cause { HasCause (K.faults sink.old) (K.faults sink.new) result }
+    ensures written { WritesSlots (plan_fields plan.now) services.old.packets result (K.told sink.old).held (K.told sink.new).held }
+    ensures flushed { Stays (K.told sink.old).flushed (K.told sink.new).flushed }
+    ensures cause { HasCause (K.told sink.old).faults (K.told sink.new).faults result }
 {
     let mut slot = 0;
     while let Some(turn) = services.turn() {

@@ -9,7 +9,7 @@ use Rattle.wire_spec.specs.Lists.{joined}
 use Rattle.pcap_file.specs.Reading.{head_fault, is_least_first, link_at, captured_length, longest_record, most_records, most_bytes}
 use Rattle.pcap_file.specs.Told.{IsRecord, IsCapture, bytes_in}
 use Rattle.pcap_file.specs.Known.{ReaderState}
-use Rattle.pcap_file.specs.Reader.{HasRead, Passes, TakesRecord, with_record}
+use Rattle.pcap_file.specs.Reader.{HasRead, TakesRecord, with_record}
 use Rattle.pcap_file.proofs.FileHeads.{head_fault-append, is_least_first-append, link_at-append, head_is_whole}
 use Rattle.pcap_file.proofs.RecordFaults.{captured_length-append}
 
@@ -55,7 +55,7 @@ IsCapture-more front records head bytes capture l told short few small =
       small = omega (arith, bytes_in_push records bytes);
     }
 
-HasRead-more : (reader : ReaderState) (front : List ℕ) (records : List (List ℕ)) (head bytes : List ℕ) → HasRead reader front records → length head ≡ 16
+pub HasRead-more : (reader : ReaderState) (front : List ℕ) (records : List (List ℕ)) (head bytes : List ℕ) → HasRead reader front records → length head ≡ 16
     → length bytes ≡ captured_length reader.least_first head → length bytes ≤ longest_record → reader.records < most_records → reader.bytes + length bytes ≤ most_bytes
     → HasRead (with_record reader bytes) (front ++ (head ++ bytes)) (records ++ bytes ∷ [])
 HasRead-more reader front records head bytes so_far l told short few small =
@@ -83,14 +83,6 @@ HasRead-taken reader front records a b bytes so_far t = (
     begins None b taken took = tt
     begins (Some rest) None taken took = absurd took
     begins (Some rest) (Some behind) taken took = ap (take (length taken)) took ∙ take_at taken behind (length taken) refl
-
-pub Passes-taken : (least_first : Bool) (records size : ℕ) (a b : Option (List ℕ)) (bytes : List ℕ) → TakesRecord least_first records size a b bytes → Passes a b (16 + length bytes)
-Passes-taken least_first records size a b bytes t = behind a b (t.head ++ bytes) (16 + length bytes) t.read (omega (arith, length-append t.head bytes, t.head_size))
-  where
-    behind : (a b : Option (List ℕ)) (taken : List ℕ) (n : ℕ) → Consumes a b taken → length taken ≡ n → Passes a b n
-    behind None b taken n took size = tt
-    behind (Some rest) None taken n took size = absurd took
-    behind (Some rest) (Some now) taken n took size = sym (ap (drop n) took ∙ drop_at taken now n size)
 
 -- a reader that has taken the head alone
 pub HasRead-head : (reader : ReaderState) (head : List ℕ) → head_fault head ≡ None → length head ≡ 24 → reader.least_first ≡ is_least_first head

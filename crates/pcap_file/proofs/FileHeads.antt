@@ -1,11 +1,13 @@
 -- A capture's head is told by its 24 bytes, whatever follows them.
-use Rattle.std.proofs.Common.{◌≡◌, ⊎_elim, ℕ, ◌+◌, ◌<◌, ◌≤◌, Bool, true, false, not, ◌&&◌, ◌||◌, cond, eqb, ltb, List, ◌++◌, length, Option, Some, None, refl, ap, ◌∙◌, arith, length-append, IfSome}
+use Rattle.std.proofs.Common.{◌≡◌, ⊎_elim, ℕ, ◌+◌, ◌<◌, ◌≤◌, Bool, true, false, not, ◌&&◌, ◌||◌, cond, eqb, ltb, List, ◌++◌, length, Option, Some, None, refl, ap, ◌∙◌, arith, length-append, IfSome, zero, suc, sym}
 use Rattle.std.specs.Option.{is_none}
 use Rattle.std.specs.Io.KnownBytes.{Consumes, IsAtEnd}
 use Rattle.std.proofs.lemmas.List.{get_or_append_left, append-nil}
 use Rattle.std.proofs.lemmas.Bool.{cases_lt}
+use Rattle.std.proofs.lemmas.Option.{same_Some}
 use Rattle.wire_spec.specs.Bytes.{u16_at, u32_at}
 use Rattle.pcap_file.specs.Reading.{u16_least_first_at, u32_least_first_at, u16_of, u32_of, is_magic, has_magic, is_least_first, has_version, link_of, link_at, head_fault}
+use Rattle.pcap_file.specs.Reader.{is_cut}
 use Rattle.pcap_file.specs.declared.faults.CaptureFault.{CaptureFault}
 use Rattle.pcap_file.specs.declared.faults.CaptureFault.TheVariants as fault
 
@@ -86,6 +88,27 @@ whole_by n magic version unlinked e = grind arith
 pub head_is_whole : (b : List ℕ) → head_fault b ≡ None → 24 ≤ length b
 unfolding fault_by
 head_is_whole b e = whole_by (length b) (has_magic b) (has_version b) (is_none (link_at b)) e
+
+-- fewer bytes than a head show that they are cut, and no other fault
+cut_by : (n : ℕ) (magic version unlinked : Bool) → n < 24 → (f : CaptureFault) × (fault_by n magic version unlinked ≡ Some f) × (is_cut f ≡ true)
+unfolding fault_by
+cut_by zero magic version unlinked short = (fault.Empty, refl, refl)
+cut_by (suc n) magic version unlinked short = (fault.CutHead, grind arith, refl)
+
+pub head_is_cut : (b : List ℕ) → length b < 24 → (f : CaptureFault) × (head_fault b ≡ Some f) × (is_cut f ≡ true)
+unfolding fault_by
+head_is_cut b short = cut_by (length b) (has_magic b) (has_version b) (is_none (link_at b)) short
+
+pub uncut_is_whole : (b : List ℕ) (f : CaptureFault) → head_fault b ≡ Some f → is_cut f ≡ false → 24 ≤ length b
+uncut_is_whole b f e uncut = ⊎_elim
+    (λ (short : length b < 24).
+    let cut = head_is_cut b short in
+    let one : is_cut cut.0 ≡ true = cut.2 in
+    let two : is_cut f ≡ false = uncut in
+    let same : f ≡ cut.0 = same_Some f cut.0 (sym e ∙ cut.1) in
+    cc)
+    (λ (whole : 24 ≤ length b). whole)
+    (cases_lt (length b) 24)
 
 -- the fault of the bytes that a source tells, by those that were read of them
 pub told_head : (a b : Option (List ℕ)) (head : List ℕ) (f : CaptureFault) → Consumes a b head → (length head < 24 → IsAtEnd b) → head_fault head ≡ Some f

@@ -9,7 +9,7 @@ use borrow.Rule.Slice.PartMut.{put_mid, post_of}
 use Rattle.ipe_io.proofs.Buffers.{take-put_mid}
 use Rattle.pcap_file.specs.Ahead.{Grows}
 use Rattle.pcap_file.specs.Reading.{captured_length, longest_record, most_records, most_bytes}
-use Rattle.pcap_file.specs.Reader.{TakesRecord, rest_of}
+use Rattle.pcap_file.specs.Reader.{IsNext, TakesRecord, rest_of}
 use Rattle.pcap_file.proofs.RecordFaults.{captured_length-append}
 
 -- nothing was read
@@ -35,7 +35,7 @@ moved items new from to le fits is =
     ∙ ap (λ (n : ℕ). drop from (take n items)) whole
 
 -- what a read leaves in a buffer behind the bytes that were held
-kept_behind : (items r into : List ℕ) (to k count len : ℕ) → r ≡ items → to ≤ length items → count ≤ length into → to + count ≤ len
+pub kept_behind : (items r into : List ℕ) (to k count len : ℕ) → r ≡ items → to ≤ length items → count ≤ length into → to + count ≤ len
     → take (to + count) (take len (put_mid to k r into ++ drop (length (put_mid to k r into)) items)) ≡ take to items ++ take count into
 kept_behind items r into to k count len same fits enough room =
     let r_fits : to ≤ length r = subst (λ (l : List ℕ). to ≤ length l) (sym same) fits in
@@ -112,12 +112,12 @@ bytes_at items from to n fits =
 pub same_length_told : (least_first : Bool) (first now : List ℕ) (a b : Option (List ℕ)) → Grows first a now b → 16 ≤ length first → captured_length least_first now ≡ captured_length least_first first
 same_length_told least_first first now a b g whole = ap (λ (l : List ℕ). captured_length least_first l) g.grown ∙ captured_length-append least_first first g.more whole
 
-pub TakesRecord-given : (least_first : Bool) (records bytes n : ℕ) (held first now left : List ℕ) (a b c : Option (List ℕ)) (items after : List ℕ) (from to end : ℕ)
-    → Grows held a first b → Grows first b now c → 16 ≤ length first → n ≡ captured_length least_first first
+pub next_given : (least_first : Bool) (records bytes n : ℕ) (first now left : List ℕ) (b c : Option (List ℕ)) (items after : List ℕ) (from to end : ℕ)
+    → Grows first b now c → 16 ≤ length first → n ≡ captured_length least_first first
     → records < most_records → n ≤ longest_record → bytes + n ≤ most_bytes → 16 + n ≤ length now
     → now ≡ drop from (take to items) → from ≤ to → to ≤ length items → after ≡ items → end ≡ from + (16 + n) → left ≡ drop (16 + n) now
-    → TakesRecord least_first records bytes (rest_of held a) (rest_of left c) (take n (drop (end - n) after))
-TakesRecord-given least_first records bytes n held first now left a b c items after from to end one two whole told few short small enough now_is order fits same end_is left_is =
+    → IsNext least_first records bytes now (take n (drop (end - n) after)) left
+next_given least_first records bytes n first now left b c items after from to end two whole told few short small enough now_is order fits same end_is left_is =
     let size : length now ≡ to - from = ap length now_is ∙ (length-drop from (take to items) ∙ omega (arith, length-take-le to items fits)) in
     let head : List ℕ = take 16 now in
     let record_bytes : List ℕ = take n (drop 16 now) in
@@ -135,13 +135,26 @@ TakesRecord-given least_first records bytes n held first now left a b c items af
     ∙ sym (append_assoc head record_bytes left)) in
     let by_head : captured_length least_first now ≡ captured_length least_first head =
     ap (λ (l : List ℕ). captured_length least_first l) (sym (take-append-drop 16 now)) ∙ captured_length-append least_first head (drop 16 now) (omega (arith, head_size)) in
-    subst (λ (l : List ℕ). TakesRecord least_first records bytes (rest_of held a) (rest_of left c) l) (sym given)
+    subst (λ (l : List ℕ). IsNext least_first records bytes now l left) (sym given)
     (record {
       head = head;
       head_size = head_size;
       size = bytes_size ∙ (told ∙ (sym (same_length_told least_first first now b c two whole) ∙ by_head));
-      read = rest_given held now a c (head ++ record_bytes) left (Grows-trans held first now a b c one two) split;
+      got_is = split;
       few = few;
       short = omega (arith, bytes_size, short);
       small = omega (arith, bytes_size, small);
     })
+
+-- it was read of what was still to be read
+pub TakesRecord-next : (least_first : Bool) (records bytes : ℕ) (held now taken left : List ℕ) (a c : Option (List ℕ)) → Grows held a now c
+    → IsNext least_first records bytes now taken left → TakesRecord least_first records bytes (rest_of held a) (rest_of left c) taken
+TakesRecord-next least_first records bytes held now taken left a c grows next = record {
+  head = next.head;
+  head_size = next.head_size;
+  size = next.size;
+  read = rest_given held now a c (next.head ++ taken) left grows next.got_is;
+  few = next.few;
+  short = next.short;
+  small = next.small;
+}

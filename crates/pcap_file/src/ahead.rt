@@ -1,9 +1,9 @@
 //! A source's bytes, read ahead into one buffer -> those that are asked for, lent out of it.
-ghost use Rattle.std.specs.Prelude.{◌≡◌, ℕ, ◌+◌, ◌-◌, ◌<◌, ◌≤◌, true, false, length, drop, IfOk, [], Ok};
+ghost use Rattle.std.specs.Prelude.{◌≡◌, ℕ, ◌+◌, ◌-◌, ◌<◌, ◌≤◌, true, false, length, drop, IfOk, OnErr, [], Ok};
 ghost use Rattle.std.specs.Io.KnownBytes.{IsAtEnd};
 ghost use Rattle.wire_spec.specs.Causes.{HasCause};
 ghost use Rattle.pcap_file.specs.Reading.{longest_record};
-ghost use Rattle.pcap_file.specs.Ahead.{Grows, IsWithin, given_last, held_in};
+ghost use Rattle.pcap_file.specs.Ahead.{Holds, IsWithin, given_last, held_in};
 
 use ipe_io::{Failed, Source};
 use std::alloc::{AllocError as OutOfMemory, Global};
@@ -31,11 +31,11 @@ fn zeros(alloc: Global, count: usize) -> Result<Vec<u8>, OutOfMemory>
 }
 
 impl Ahead {
-    ghost use Rattle.std.specs.Prelude.{◌≡◌, ℕ, ◌+◌, ◌-◌, ◌<◌, ◌≤◌, true, false, length, drop, IfOk, [], Ok};
+    ghost use Rattle.std.specs.Prelude.{◌≡◌, ℕ, ◌+◌, ◌-◌, ◌<◌, ◌≤◌, true, false, length, drop, IfOk, OnErr, [], Ok};
     ghost use Rattle.std.specs.Io.KnownBytes.{IsAtEnd};
     ghost use Rattle.wire_spec.specs.Causes.{HasCause};
     ghost use Rattle.pcap_file.specs.Reading.{longest_record};
-    ghost use Rattle.pcap_file.specs.Ahead.{Grows, IsWithin, given_last, held_in};
+    ghost use Rattle.pcap_file.specs.Ahead.{Holds, IsWithin, given_last, held_in};
 
     /// Nothing is held.
     pub(crate) fn new(alloc: Global) -> Result<Ahead, OutOfMemory>
@@ -85,11 +85,13 @@ impl Ahead {
         requires within { IsWithin self.old }
         requires room { count ≤ 16 + longest_record }
         ensures within { IsWithin self.new }
-        ensures grows { Grows (held_in self.old) (S.left source.old) (held_in self.new) (S.left source.new) }
+        ensures grows { Holds (held_in self.old) (S.told source.old) (held_in self.new) (S.told source.new) }
         ensures idle { count ≤ length (held_in self.old) → (source.new ≡ source.old) × (self.new ≡ self.old) }
         ensures enough { IfOk result (λ some. some ≡ true → count ≤ length (held_in self.new)) }
-        ensures end { IfOk result (λ some. some ≡ false → (length (held_in self.new) < count) × (S.ended source.new ≡ true) × IsAtEnd (S.left source.new)) }
-        ensures cause { HasCause (S.faults source.old) (S.faults source.new) result }
+        ensures end { IfOk result (λ some. some ≡ false → (length (held_in self.new) < count) × ((S.told source.new).ended ≡ true) × IsAtEnd (S.told source.new).left) }
+        ensures few { OnErr result (length (held_in self.new) < count) }
+        ensures goes_on { IfOk result (λ some. some ≡ true) → (S.told source.old).ended ≡ false → (S.told source.new).ended ≡ false }
+        ensures cause { HasCause (S.told source.old).faults (S.told source.new).faults result }
     {
         if self.to - self.from >= count {
             return Ok(true);
@@ -124,9 +126,11 @@ impl Ahead {
         ensures within { IsWithin self.new }
         ensures from { self.new.from ≡ self.old.from }
         ensures to { IfOk result (λ n. self.new.to ≡ self.old.to + n) }
-        ensures grows { Grows (held_in self.old) (S.left source.old) (held_in self.new) (S.left source.new) }
-        ensures end { result ≡ Ok 0 → (S.ended source.new ≡ true) × IsAtEnd (S.left source.new) }
-        ensures cause { HasCause (S.faults source.old) (S.faults source.new) result }
+        ensures grows { Holds (held_in self.old) (S.told source.old) (held_in self.new) (S.told source.new) }
+        ensures end { result ≡ Ok 0 → ((S.told source.new).ended ≡ true) × IsAtEnd (S.told source.new).left }
+        ensures goes_on { IfOk result (λ n. ¬ (n ≡ 0)) → (S.told source.old).ended ≡ false → (S.told source.new).ended ≡ false }
+        ensures stays { OnErr result (self.new.to ≡ self.old.to) }
+        ensures cause { HasCause (S.told source.old).faults (S.told source.new).faults result }
     {
         match source.read(&mut self.buffer[self.to..]) {
             Ok(count) => {

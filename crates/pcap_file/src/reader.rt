@@ -1,11 +1,11 @@
 //! A capture's bytes -> its records, one after another, lent out of the reader.
-ghost use Rattle.std.specs.Prelude.{◌≡◌, ◌≢◌, ℕ, ◌+◌, ◌<◌, ◌≤◌, true, List, [], ◌∷◌, ◌++◌, length, None, Some, IfOk, IfErr, IfSome, IfNone};
+ghost use Rattle.std.specs.Prelude.{◌≡◌, ◌≢◌, ℕ, ◌+◌, ◌<◌, ◌≤◌, true, false, List, [], ◌∷◌, ◌++◌, length, None, Some, IfOk, IfErr, IfSome, IfNone};
 ghost use Rattle.std.specs.Io.{StartsWith};
 ghost use Rattle.std.specs.Io.KnownBytes.{Consumes};
 ghost use Rattle.std.specs.Borrow.{sem};
 ghost use Rattle.pcap_file.specs.Reading.{head_fault, is_least_first, link_at, record_fault};
 ghost use Rattle.pcap_file.specs.Told.{Tells};
-ghost use Rattle.pcap_file.specs.Reader.{HasNextCause, HasOpenCause, HasRead, OnNextFault, OnOpenFault, OnRecord, Passes, is_cut, rest_of, state_after, with_record};
+ghost use Rattle.pcap_file.specs.Reader.{FindsHead, HasNextCause, HasOpenCause, HasRead, Leaves, OnNextFault, OnOpenFault, Opens, is_cut, rest_of, state_after, with_record};
 
 use crate::ahead::Ahead;
 use crate::captured::LinkType;
@@ -45,12 +45,13 @@ impl CaptureReader {
 
     /// Reads the head of a capture, 24 bytes and none behind them, and takes memory for its longest record and 65,536 bytes.
     pub fn open<S: Source>(alloc: Global, source: &mut S) -> Result<CaptureReader, OpenFault>
-        ensures read { IfOk result (λ reader. (head : List ℕ) × Consumes (S.left source.old) (S.left source.new) head × HasRead reader head []) }
+        ensures read { Opens result (S.told source.old) (S.told source.new) }
         ensures opened { IfOk result (λ reader. (reader.is_open ≡ true) × (reader.held ≡ [])) }
-        ensures refused { IfErr result (λ e. OnOpenFault e (λ fault. IfSome (S.left source.old) (λ bytes. Tells bytes [] (Some fault)))) }
-        ensures head { IfErr result (λ e. OnOpenFault e (λ fault. IfSome (S.left source.old) (λ bytes. head_fault bytes ≡ Some fault))) }
-        ensures cut { IfErr result (λ e. OnOpenFault e (λ fault. is_cut fault ≡ true → S.ended source.new ≡ true)) }
-        ensures cause { HasOpenCause (S.faults source.old) (S.faults source.new) result }
+        ensures refused { IfErr result (λ e. OnOpenFault e (λ fault. IfSome (S.told source.old).left (λ bytes. Tells bytes [] (Some fault)))) }
+        ensures head { IfErr result (λ e. OnOpenFault e (λ fault. IfSome (S.told source.old).left (λ bytes. head_fault bytes ≡ Some fault))) }
+        ensures cut { IfErr result (λ e. OnOpenFault e (λ fault. is_cut fault ≡ true → (S.told source.new).ended ≡ true)) }
+        ensures goes_on { IfErr result (λ e. OnOpenFault e (λ fault. is_cut fault ≡ false)) → (S.told source.old).ended ≡ false → (S.told source.new).ended ≡ false }
+        ensures cause { HasOpenCause (S.told source.old).faults (S.told source.new).faults result }
     {
         let head = match read_head(source) {
             Ok(head) => head,
@@ -73,14 +74,15 @@ impl CaptureReader {
     /// Lends the bytes of the next record; None at the end of the input. After an Err the reader is closed.
     pub fn next<S: Source>(&mut self, source: &mut S) -> Result<Option<&[u8]>, NextFault>
         requires { self.old.is_open ≡ true }
-        ensures read { (front : List ℕ) (records : List (List ℕ)) → HasRead self.old front records → IfOk result (λ o. IfSome o (λ r. (head : List ℕ) × (length head ≡ 16) × IfSome (rest_of self.old.held (S.left source.old)) (λ rest. StartsWith rest (head ++ r.now)) × HasRead (with_record self.old r.now) (front ++ (head ++ r.now)) (records ++ r.now ∷ []))) }
-        ensures end { (front : List ℕ) (records : List (List ℕ)) → HasRead self.old front records → IfOk result (λ o. IfNone o (Consumes (rest_of self.old.held (S.left source.old)) (rest_of self.old.held (S.left source.new)) [] × IfSome (rest_of self.old.held (S.left source.old)) (λ rest. Tells (front ++ rest) records None))) }
-        ensures refused { (front : List ℕ) (records : List (List ℕ)) → HasRead self.old front records → IfErr result (λ e. OnNextFault e (λ fault. IfSome (rest_of self.old.held (S.left source.old)) (λ rest. Tells (front ++ rest) records (Some fault)))) }
+        ensures read { (front : List ℕ) (records : List (List ℕ)) → HasRead self.old front records → IfOk result (λ o. IfSome o (λ r. (head : List ℕ) × (length head ≡ 16) × IfSome (rest_of self.old.held (S.told source.old).left) (λ rest. StartsWith rest (head ++ r.now)) × HasRead (with_record self.old r.now) (front ++ (head ++ r.now)) (records ++ r.now ∷ []))) }
+        ensures end { (front : List ℕ) (records : List (List ℕ)) → HasRead self.old front records → IfOk result (λ o. IfNone o (Consumes (rest_of self.old.held (S.told source.old).left) (rest_of self.old.held (S.told source.new).left) [] × IfSome (rest_of self.old.held (S.told source.old).left) (λ rest. Tells (front ++ rest) records None))) }
+        ensures refused { (front : List ℕ) (records : List (List ℕ)) → HasRead self.old front records → IfErr result (λ e. OnNextFault e (λ fault. IfSome (rest_of self.old.held (S.told source.old).left) (λ rest. Tells (front ++ rest) records (Some fault)))) }
         ensures idle { 16 ≤ length self.old.held → record_fault self.old.least_first self.old.records self.old.bytes self.old.held ≢ Some CaptureFault.CutRecord → source.new ≡ source.old }
-        ensures ended { IfOk result (λ o. IfNone o ((self.old.held ≡ []) × (S.ended source.new ≡ true))) }
-        ensures cut { IfErr result (λ e. OnNextFault e (λ fault. is_cut fault ≡ true → S.ended source.new ≡ true)) }
-        ensures cause { HasNextCause (S.faults source.old) (S.faults source.new) result }
-        ensures* after { sem 𝓛 (EndsAs self.entry (λ now. (now ≡ state_after self.old result now.held) × OnRecord result (λ bytes. Passes (rest_of self.old.held (S.left source.old)) (rest_of now.held (S.left source.new)) (16 + length bytes)))) }
+        ensures ended { IfOk result (λ o. IfNone o ((self.old.held ≡ []) × ((S.told source.new).ended ≡ true))) }
+        ensures cut { IfErr result (λ e. OnNextFault e (λ fault. is_cut fault ≡ true → (S.told source.new).ended ≡ true)) }
+        ensures goes_on { IfOk result (λ o. IfNone o ⊥) → IfErr result (λ e. OnNextFault e (λ fault. is_cut fault ≡ false)) → (S.told source.old).ended ≡ false → (S.told source.new).ended ≡ false }
+        ensures cause { HasNextCause (S.told source.old).faults (S.told source.new).faults result }
+        ensures* after { sem 𝓛 (EndsAs self.entry (λ now. (now ≡ state_after self.old result now.held) × Leaves self.old result now.held (S.told source.old) (S.told source.new))) }
     {
         let least_first = self.least_first;
         let before = self.records;
@@ -123,10 +125,11 @@ impl CaptureReader {
 
 /// Reads the head of a capture.
 fn read_head<S: Source>(source: &mut S) -> Result<FileHead, OpenFault>
-    ensures read { IfOk result (λ found. (head : List ℕ) × Consumes (S.left source.old) (S.left source.new) head × (head_fault head ≡ None) × (length head ≡ 24) × (found.least_first ≡ is_least_first head) × (Some found.link ≡ link_at head)) }
-    ensures refused { IfErr result (λ e. OnOpenFault e (λ fault. IfSome (S.left source.old) (λ bytes. head_fault bytes ≡ Some fault))) }
-    ensures cut { IfErr result (λ e. OnOpenFault e (λ fault. is_cut fault ≡ true → S.ended source.new ≡ true)) }
-    ensures cause { HasOpenCause (S.faults source.old) (S.faults source.new) result }
+    ensures read { FindsHead result (S.told source.old) (S.told source.new) }
+    ensures refused { IfErr result (λ e. OnOpenFault e (λ fault. IfSome (S.told source.old).left (λ bytes. head_fault bytes ≡ Some fault))) }
+    ensures cut { IfErr result (λ e. OnOpenFault e (λ fault. is_cut fault ≡ true → (S.told source.new).ended ≡ true)) }
+    ensures goes_on { IfErr result (λ e. OnOpenFault e (λ fault. is_cut fault ≡ false)) → (S.told source.old).ended ≡ false → (S.told source.new).ended ≡ false }
+    ensures cause { HasOpenCause (S.told source.old).faults (S.told source.new).faults result }
 {
     let mut head = [0u8; file_head::HEAD];
     let count = match fill(source, &mut head) {

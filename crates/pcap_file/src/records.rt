@@ -1,8 +1,8 @@
 //! The next record of a capture -> its bytes, or why there is none.
-ghost use Rattle.std.specs.Prelude.{◌≡◌, ◌≢◌, ℕ, ◌+◌, ◌<◌, ◌≤◌, true, false, List, [], ◌++◌, length, Some, IfOk, IfErr, IfSome, IfNone, OnOk};
+ghost use Rattle.std.specs.Prelude.{◌≡◌, ◌≢◌, ℕ, ◌+◌, ◌<◌, ◌≤◌, true, false, List, [], ◌++◌, length, Some, IfOk, IfErr, IfSome, IfNone, OnOk, IsErrOf};
 ghost use Rattle.std.specs.Io.KnownBytes.{Consumes, IsAtEnd};
 ghost use Rattle.pcap_file.specs.Reading.{captured_length, record_fault, longest_record, most_records, most_bytes};
-ghost use Rattle.pcap_file.specs.Ahead.{Grows, IsWithin, given_last, held_in};
+ghost use Rattle.pcap_file.specs.Ahead.{Finds, Holds, IsWithin, given_last, held_in};
 ghost use Rattle.pcap_file.specs.Reader.{HasNextCause, OnNextFault, TakesRecord, is_cut, rest_of};
 
 use crate::ahead::Ahead;
@@ -54,13 +54,16 @@ fn record_length(
 fn reach_head<S: Source>(source: &mut S, ahead: &mut Ahead) -> Result<bool, NextFault>
     requires { IsWithin ahead.old }
     ensures within { IsWithin ahead.new }
-    ensures grows { Grows (held_in ahead.old) (S.left source.old) (held_in ahead.new) (S.left source.new) }
+    ensures grows { Holds (held_in ahead.old) (S.told source.old) (held_in ahead.new) (S.told source.new) }
     ensures idle { 16 ≤ length (held_in ahead.old) → (source.new ≡ source.old) × (ahead.new ≡ ahead.old) }
     ensures read { IfOk result (λ some. some ≡ true → 16 ≤ length (held_in ahead.new)) }
-    ensures end { IfOk result (λ some. some ≡ false → (held_in ahead.new ≡ []) × (S.ended source.new ≡ true) × IsAtEnd (S.left source.new)) }
-    ensures cut { IfErr result (λ e. OnNextFault e (λ fault. (fault ≡ CaptureFault.CutHead) × (S.ended source.new ≡ true))) }
-    ensures refused { IfErr result (λ e. OnNextFault e (λ fault. IfSome (rest_of (held_in ahead.old) (S.left source.old)) (λ rest. (0 < length rest) × (length rest < 16)))) }
-    ensures cause { HasNextCause (S.faults source.old) (S.faults source.new) result }
+    ensures end { IfOk result (λ some. some ≡ false → (held_in ahead.new ≡ []) × ((S.told source.new).ended ≡ true) × IsAtEnd (S.told source.new).left) }
+    ensures cut { IfErr result (λ e. OnNextFault e (λ fault. (fault ≡ CaptureFault.CutHead) × ((S.told source.new).ended ≡ true))) }
+    ensures refused { IfErr result (λ e. OnNextFault e (λ fault. IfSome (rest_of (held_in ahead.old) (S.told source.old).left) (λ rest. (0 < length rest) × (length rest < 16)))) }
+    ensures cut_held { IfErr result (λ e. OnNextFault e (λ fault. (0 < length (held_in ahead.new)) × (length (held_in ahead.new) < 16))) }
+    ensures few { IsErrOf result NextFault.Failed → length (held_in ahead.new) < 16 }
+    ensures goes_on { IfOk result (λ some. some ≡ true) → IfErr result (λ e. OnNextFault e (λ fault. is_cut fault ≡ false)) → (S.told source.old).ended ≡ false → (S.told source.new).ended ≡ false }
+    ensures cause { HasNextCause (S.told source.old).faults (S.told source.new).faults result }
 {
     match ahead.reach(source, HEAD) {
         Ok(true) => Ok(true),
@@ -82,14 +85,16 @@ pub(crate) fn read_record<S: Source>(
     requires small { bytes ≤ most_bytes }
     ensures within { IsWithin ahead.new }
     ensures given { IfOk result (λ o. IfSome o (λ n. (n ≤ longest_record) × (n ≤ ahead.new.from))) }
-    ensures read { IfOk result (λ o. IfSome o (λ n. TakesRecord least_first records bytes (rest_of (held_in ahead.old) (S.left source.old)) (rest_of (held_in ahead.new) (S.left source.new)) (given_last n ahead.new))) }
+    ensures read { IfOk result (λ o. IfSome o (λ n. TakesRecord least_first records bytes (rest_of (held_in ahead.old) (S.told source.old).left) (rest_of (held_in ahead.new) (S.told source.new).left) (given_last n ahead.new))) }
     ensures none { IfOk result (λ o. IfNone o ((held_in ahead.old ≡ []) × (held_in ahead.new ≡ []))) }
-    ensures end { IfOk result (λ o. IfNone o (Consumes (S.left source.old) (S.left source.new) [] × IsAtEnd (S.left source.new))) }
-    ensures refused { IfErr result (λ e. OnNextFault e (λ fault. IfSome (rest_of (held_in ahead.old) (S.left source.old)) (λ rest. record_fault least_first records bytes rest ≡ Some fault))) }
+    ensures end { IfOk result (λ o. IfNone o (Consumes (S.told source.old).left (S.told source.new).left [] × IsAtEnd (S.told source.new).left)) }
+    ensures refused { IfErr result (λ e. OnNextFault e (λ fault. IfSome (rest_of (held_in ahead.old) (S.told source.old).left) (λ rest. record_fault least_first records bytes rest ≡ Some fault))) }
     ensures idle { 16 ≤ length (held_in ahead.old) → record_fault least_first records bytes (held_in ahead.old) ≢ Some CaptureFault.CutRecord → source.new ≡ source.old }
-    ensures ended { IfOk result (λ o. IfNone o (S.ended source.new ≡ true)) }
-    ensures cut { IfErr result (λ e. OnNextFault e (λ fault. is_cut fault ≡ true → S.ended source.new ≡ true)) }
-    ensures cause { HasNextCause (S.faults source.old) (S.faults source.new) result }
+    ensures ended { IfOk result (λ o. IfNone o ((S.told source.new).ended ≡ true)) }
+    ensures cut { IfErr result (λ e. OnNextFault e (λ fault. is_cut fault ≡ true → (S.told source.new).ended ≡ true)) }
+    ensures finds { Finds least_first records bytes result (held_in ahead.old) (S.told source.old) ahead.new (S.told source.new) }
+    ensures goes_on { IfOk result (λ o. IfNone o ⊥) → IfErr result (λ e. OnNextFault e (λ fault. is_cut fault ≡ false)) → (S.told source.old).ended ≡ false → (S.told source.new).ended ≡ false }
+    ensures cause { HasNextCause (S.told source.old).faults (S.told source.new).faults result }
 {
     match reach_head(source, ahead) {
         Ok(true) => {}

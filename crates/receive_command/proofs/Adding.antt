@@ -7,7 +7,7 @@ use Rattle.wire_spec.specs.Content.{File, AddsFile, ChangesFile, Stays, grown, e
 use Rattle.plan_spec.specs.Plan.{ServiceFields}
 use Rattle.pcap_file.specs.Capture.{capture_head}
 use Rattle.std.proofs.lemmas.List.{get_or_at, set_at}
-use Rattle.receive_command.specs.Files.{file_name, file_of, head_of, file_with, AddsFiles, AddsCaptures, AddsHeads, AddsParts, AddsPart, IsPart, AreParts}
+use Rattle.receive_command.specs.Files.{file_name, file_of, head_of, file_with, AddsFiles, AddsCaptures, AddsHeads, AddsHeadsPart, AddsParts, AddsPart, IsPart, AreParts}
 
 -- A new file that grew.
 
@@ -70,7 +70,7 @@ captures_next text services k service a b c there before added =
 
 -- Parts.
 
-whole_part : (b : Bool) (text : ServiceFields → List ℕ) (service : ServiceFields) → IsPart text service (file_with b text service)
+pub whole_part : (b : Bool) (text : ServiceFields → List ℕ) (service : ServiceFields) → IsPart text service (file_with b text service)
 whole_part b text service = record { name = refl; count = length (text service); bytes = sym (take_all (length (text service)) (text service) (omega arith)) }
 
 pub parts_front : (b : Bool) (text : ServiceFields → List ℕ) (services : List ServiceFields) (k : ℕ) → AreParts text services (map (file_with b text) (take k services))
@@ -85,21 +85,21 @@ parts_next b text [] k service file there part = absurd (omega (arith, slice_get
 parts_next b text (s ∷ services) zero service file there part = (subst (λ (t : Option ServiceFields). IfSome t (λ x. IsPart text x file)) (sym there) part, tt)
 parts_next b text (s ∷ services) (suc k) service file there part = (whole_part b text s, parts_next b text services k service file there part)
 
--- the next file was added in part, or not at all
-pub parts_of_next : (services : List ServiceFields) (k : ℕ) (service : ServiceFields) (a b c : Option (List File)) → slice_get services k ≡ Some service
-    → AddsCaptures false head_of (take k services) a b → AddsPart service.name b c → AddsParts head_of services a c
-parts_of_next services k service a b c there before part = elim part [
-  | inl same ↦ record {
-    files = map (file_with false head_of) (take k services);
-    parts = parts_front false head_of services k;
-    added = adds_stay a b c (map (file_with false head_of) (take k services)) before same;
-  }
-  | inr some ↦ record {
-    files = map (file_with false head_of) (take k services) ++ file_of service.name (take some.0 capture_head) ∷ [];
-    parts = parts_next false head_of services k service (file_of service.name (take some.0 capture_head)) there (record { name = refl; count = some.0; bytes = refl });
-    added = adds_then a b c (map (file_with false head_of) (take k services)) (file_of service.name (take some.0 capture_head)) before some.1;
-  }
-]
+-- the next file was added with less than its head, or not at all
+pub heads_part_of_next : (services : List ServiceFields) (k : ℕ) (service : ServiceFields) (a b c : Option (List File)) → slice_get services k ≡ Some service
+    → AddsCaptures false head_of (take k services) a b → AddsPart service.name b c → AddsHeadsPart services k a c
+heads_part_of_next services k service a b c there before part = record {
+  service = service;
+  next = there;
+  files = elim part [
+    | inl same ↦ inl (adds_stay a b c (map (file_with false head_of) (take k services)) before same)
+    | inr some ↦ inr (
+      some.0,
+      some.1,
+      adds_then a b c (map (file_with false head_of) (take k services)) (file_of service.name (take some.0 capture_head)) before some.2,
+    )
+  ];
+}
 
 pub heads_of_next : (services : List ServiceFields) (k : ℕ) (a b c : Option (List File))
     → AddsCaptures false head_of (take k services) a b → Stays b c → AddsCaptures false head_of (take k services) a c

@@ -1,7 +1,7 @@
 -- From one record of a recording to the next, and the ends of the reading.
-use Rattle.std.proofs.Common.{◌≡◌, ℕ, suc, ◌+◌, ◌*◌, ◌^◌, ◌<◌, ◌≤◌, List, [], ◌∷◌, ◌++◌, length, refl, ap, sym, ◌∙◌, subst, arith, add-one, Option, None, Some, All, append_assoc}
+use Rattle.std.proofs.Common.{◌≡◌, ℕ, suc, ◌+◌, ◌*◌, ◌^◌, ◌<◌, ◌≤◌, List, [], ◌∷◌, ◌++◌, length, take, refl, ap, ap₂, sym, ◌∙◌, subst, arith, add-one, Option, None, Some, All, append_assoc}
 use Rattle.std.proofs.lemmas.List.{append-nil, length_push, length-map}
-use Rattle.std.proofs.Math.Nat.{mul-suc, mul_comm}
+use Rattle.std.proofs.Math.Nat.{mul-suc, mul_comm, mul-le-mul_left}
 use Rattle.std.proofs.lemmas.Nat.{mul-add-lt}
 use Rattle.std.specs.Io.KnownBytes.{Consumes}
 use Rattle.wire_spec.specs.Causes.{raised}
@@ -16,9 +16,10 @@ use Rattle.ts_record.specs.Reading.{ReaderState, ReaderOf, ReadsRecord, ReadsEnd
 use Rattle.service_plan.specs.Parts.{form_of as form_planned}
 use Rattle.reception_spec.specs.Delivered.{delivered_pairs, pairs_of_record}
 use Rattle.demux_core.specs.Receiving.{ReceiverState, HasReceived}
-use Rattle.receive_command.specs.Growth.{Grow, GrowPart, records_at}
-use Rattle.receive_command.specs.Reading.{HasRead, records_in, text_at, ReadsWhole, ReadsFront, ReadsToLimit, ReadsPart}
-use Rattle.receive_command.proofs.Grown.{grow-nil, grow_same, grow_then, grow_then_part, grow_part_same, records-append}
+use Rattle.pcap_file.specs.Capture.{capture_record}
+use Rattle.receive_command.specs.Growth.{Grow, GrowTo, records_at, records_and}
+use Rattle.receive_command.specs.Reading.{HasRead, most_records, records_in, text_at, ReadsWhole, ReadsFront, ReadsToLimit, ReadsToStop}
+use Rattle.receive_command.proofs.Grown.{grow-nil, grow_same, grow_then, records-append, records_and-append}
 use Rattle.receive_command.proofs.Pairs.{pairs_none, pairs_next}
 
 -- the reader's words for a form, and the plan's
@@ -107,15 +108,6 @@ files_more plan first pieces piece r a b c more before now =
     grow_same a c _ _ (λ at. text_more plan first pieces piece r at more)
     (grow_then a b c (text_at plan first pieces) (records_at first (pairs_of_record plan (records_in plan pieces ++ r ∷ []) (length (records_in plan pieces)))) before now)
 
-files_stop : (plan : PlanFields) (first : ℕ) (pieces : List (List ℕ)) (piece : List ℕ) (r : Record) (a b c : Option (List File))
-    → records_in plan (pieces ++ piece ∷ []) ≡ records_in plan pieces ++ r ∷ []
-    → Grow a b (text_at plan first pieces)
-    → GrowPart b c (records_at first (pairs_of_record plan (records_in plan pieces ++ r ∷ []) (length (records_in plan pieces))))
-    → GrowPart a c (text_at plan first (pieces ++ piece ∷ []))
-files_stop plan first pieces piece r a b c more before now =
-    grow_part_same a c _ _ (λ at. text_more plan first pieces piece r at more)
-    (grow_then_part a b c (text_at plan first pieces) (records_at first (pairs_of_record plan (records_in plan pieces ++ r ∷ []) (length (records_in plan pieces)))) before now)
-
 pub received_more : (plan : PlanFields) (receiver : ReceiverState) (pieces : List (List ℕ)) (piece : List ℕ) (r : Record)
     → records_in plan (pieces ++ piece ∷ []) ≡ records_in plan pieces ++ r ∷ []
     → HasReceived plan (records_in plan pieces ++ r ∷ []) receiver → HasReceived plan (records_in plan (pieces ++ piece ∷ [])) receiver
@@ -140,7 +132,7 @@ each_piece form reader pieces same stands = subst (λ (f : RecordingForm). All (
 pub short_part : (form reader_form : RecordingForm) (n : ℕ) → reader_form ≡ form → n < record_size reader_form → n < record_size form
 short_part form reader_form n same short = subst (λ (f : RecordingForm). n < record_size f) same short
 
-some_size : (form : RecordingForm) → 0 < record_size form
+pub some_size : (form : RecordingForm) → 0 < record_size form
 some_size plain = omega arith
 some_size stamped = omega arith
 some_size m2ts = omega arith
@@ -189,12 +181,34 @@ few_taken form before taken now_taken mid now pieces reader now_reader same stan
   end.takes.rose ∙ ap (λ (m : ℕ). raised m (length end.bytes)) so_far ∙ raised-raised before (record_size form * length pieces) (length end.bytes),
 )
 
+-- and as many bytes were taken as these records have, with those behind the last
+pub front_taken : (form : RecordingForm) (before taken now_taken behind : ℕ) (pieces : List (List ℕ)) (reader : ReaderState)
+    → reader.form ≡ form → length pieces < 2 ^ 32 → taken ≡ raised before (record_size form * length pieces)
+    → behind < record_size reader.form → now_taken ≡ raised taken behind → (n : ℕ) × (n < record_size form * 2 ^ 32) × (now_taken ≡ raised before n)
+front_taken form before taken now_taken behind pieces reader same few so_far short more = (
+  record_size form * length pieces + behind,
+  below_product (record_size form) (length pieces) behind few (short_part form reader.form behind same short),
+  more ∙ ap (λ (m : ℕ). raised m behind) so_far ∙ raised-raised before (record_size form * length pieces) behind,
+)
+
+pub stop_taken : (size before taken : ℕ) (pieces : List (List ℕ)) (piece : List ℕ) → length pieces < 2 ^ 32 → taken ≡ raised before (size * length (pieces ++ piece ∷ []))
+    → (n : ℕ) × (n ≤ size * 2 ^ 32) × (taken ≡ raised before n)
+stop_taken size before taken pieces piece few so_far = (
+  size * length (pieces ++ piece ∷ []),
+  mul-le-mul_left size (omega (arith, few, length_push pieces piece)),
+  so_far,
+)
+
+pub limit_taken : (size before taken : ℕ) (pieces : List (List ℕ)) → length pieces ≡ 2 ^ 32 → taken ≡ raised before (size * length pieces) → taken ≡ raised before (size * 2 ^ 32)
+limit_taken size before taken pieces full so_far = so_far ∙ ap (λ (n : ℕ). raised before (size * n)) full
+
 pub front_at : (plan : PlanFields) (left mid now : Option (List ℕ)) (old new : Option (List File)) (first : ℕ) (pieces : List (List ℕ)) (behind : List ℕ) (reader : ReaderState)
     → reader.form ≡ plan.recording → ReaderOf reader pieces → Consumes left mid (joined pieces) → Consumes mid now behind → length behind < record_size reader.form
-    → Grow old new (text_at plan first pieces) → ReadsFront plan left now old new first
-front_at plan left mid now old new first pieces behind reader same stands before last short files = record {
+    → length pieces < most_records → Grow old new (text_at plan first pieces) → ReadsFront plan left now old new first
+front_at plan left mid now old new first pieces behind reader same stands before last short fewer files = record {
   pieces = pieces;
   behind = behind;
+  fewer = fewer;
   read = has_read plan.recording reader pieces left mid now behind same stands before last (short_part plan.recording reader.form (length behind) same short);
   files = files;
 }
@@ -203,20 +217,38 @@ pub limit_at : (plan : PlanFields) (left now : Option (List ℕ)) (old new : Opt
     → reader.form ≡ plan.recording → ReaderOf reader pieces → reader.count ≡ 2 ^ 32 → Consumes left now (joined pieces)
     → Grow old new (text_at plan first pieces) → ReadsToLimit plan left now old new first
 limit_at plan left now old new first pieces reader same stands full read files = record {
-  reads = record { pieces = pieces; behind = []; read = has_read_all plan.recording reader pieces left now same stands read; files = files };
+  pieces = pieces;
+  read = has_read_all plan.recording reader pieces left now same stands read;
   limit = sym stands.count ∙ full;
+  files = files;
 }
 
 -- the writing of what a record gives stopped
-pub part_at : (plan : PlanFields) (left now : Option (List ℕ)) (a b c : Option (List File)) (first : ℕ) (pieces : List (List ℕ)) (piece : List ℕ) (r : Record) (reader : ReaderState)
+stop_files : (plan : PlanFields) (first : ℕ) (pieces : List (List ℕ)) (a b c : Option (List File)) (service : ℕ) (text : List ℕ) (front : List (ℕ × List ℕ))
+    → Grow a b (text_at plan first pieces) → Grow b c (records_and first service text front)
+    → Grow a c (records_and first service text (delivered_pairs plan (records_in plan pieces) ++ front))
+stop_files plan first pieces a b c service text front before now =
+    grow_same a c (λ at. text_at plan first pieces at ++ records_and first service text front at) (records_and first service text (delivered_pairs plan (records_in plan pieces) ++ front))
+    (records_and-append first service text (delivered_pairs plan (records_in plan pieces)) front)
+    (grow_then a b c (text_at plan first pieces) (records_and first service text front) before now)
+
+pub stop_at : (plan : PlanFields) (left now : Option (List ℕ)) (a b c : Option (List File)) (first : ℕ) (pieces : List (List ℕ)) (piece : List ℕ) (r : Record) (reader : ReaderState)
     → reader.form ≡ plan.recording → ReaderOf reader (pieces ++ piece ∷ []) → Consumes left now (joined (pieces ++ piece ∷ []))
     → records_in plan (pieces ++ piece ∷ []) ≡ records_in plan pieces ++ r ∷ []
-    → Grow a b (text_at plan first pieces)
-    → GrowPart b c (records_at first (pairs_of_record plan (records_in plan pieces ++ r ∷ []) (length (records_in plan pieces))))
-    → ReadsPart plan left now a c first
-part_at plan left now a b c first pieces piece r reader same stands read more before part = record {
-  pieces = pieces ++ piece ∷ [];
-  behind = [];
+    → length pieces < most_records → Grow a b (text_at plan first pieces)
+    → GrowTo first b c (pairs_of_record plan (records_in plan pieces ++ r ∷ []) (length (records_in plan pieces)))
+    → ReadsToStop plan left now a c first
+stop_at plan left now a b c first pieces piece r reader same stands read more fewer before stop = record {
+  pieces = pieces;
+  piece = piece;
   read = has_read_all plan.recording reader (pieces ++ piece ∷ []) left now same stands read;
-  files = files_stop plan first pieces piece r a b c more before part;
+  fewer = fewer;
+  front = stop.front;
+  service = stop.service;
+  datagram = stop.datagram;
+  rest = stop.rest;
+  pairs = ap₂ (λ (records : List Record) (n : ℕ). pairs_of_record plan records n) more (sym (records_length plan.recording pieces)) ∙ stop.pairs_are;
+  count = stop.count;
+  less = stop.less;
+  files = stop_files plan first pieces a b c stop.service (take stop.count (capture_record stop.datagram)) stop.front before stop.files;
 }

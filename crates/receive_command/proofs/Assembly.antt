@@ -1,8 +1,8 @@
 -- From the heads of files to their captures.
-use Rattle.std.proofs.Common.{◌≡◌, ◌≢◌, ◌⊎◌, inl, inr, ℕ, suc, zero, ◌+◌, ◌-◌, ◌<◌, ◌≤◌, Bool, true, false, List, [], ◌∷◌, ◌++◌, length, map, take, drop, min, get_or, flat_map, refl, ap, sym, ◌∙◌, subst, arith, length-append, length-drop, Option, None, Some, option_map, IfSome}
+use Rattle.std.proofs.Common.{◌≡◌, ◌⊎◌, inl, inr, ℕ, suc, zero, ◌+◌, ◌-◌, ◌<◌, ◌≤◌, Bool, true, false, List, [], ◌∷◌, ◌++◌, length, map, take, drop, min, get_or, flat_map, refl, ap, ap₂, sym, ◌∙◌, subst, arith, length-append, length-drop, Option, None, Some, option_map, IfSome}
 use Rattle.std.specs.List.{slice_get}
-use Rattle.std.proofs.lemmas.List.{append-nil, take_all, take-append-le, take_min, length-take, take-append-drop, length-map, get_or-append-add, get_or-take, get_or-drop, ext_get_or, get_or_append_left}
-use Rattle.std.proofs.Math.Seq.{take-append-add}
+use Rattle.std.proofs.lemmas.List.{append-nil, take_all, take-append-le, take_min, length-take, length-map, get_or-append-add, get_or-take, get_or-drop, ext_get_or, get_or_append_left}
+use Rattle.std.proofs.Math.ListN.{drop_of_length-le}
 use Rattle.std.proofs.lemmas.Option.{slice_get-map, slice_get_within, slice_get_cases, get_or_from_slice_get}
 use Rattle.std.proofs.lemmas.Bool.{cases_lt}
 use Rattle.wire_spec.specs.Content.{File, grown, flushed_file, no_file}
@@ -10,187 +10,199 @@ use Rattle.ts_spec.specs.Recording.{Record}
 use Rattle.plan_spec.specs.Plan.{ServiceFields, PlanFields}
 use Rattle.reception_spec.specs.Delivered.{delivered_datagrams, delivered_pairs}
 use Rattle.pcap_file.specs.Capture.{capture_head, capture_record}
-use Rattle.receive_command.specs.Growth.{GrowEach, GrowInPart, Grow, GrowPart, records_at}
-use Rattle.receive_command.specs.Files.{file_name, file_with, head_of, capture_of, AddsFiles, AddsCaptures, AddsHeads, AddsParts, IsPart, AreParts}
+use Rattle.receive_command.specs.Growth.{GrowEach, Grow, records_at, records_and}
+use Rattle.receive_command.specs.Files.{file_of, file_with, files_from, head_of, capture_of, capture_of_pairs, AddsFiles, AddsCaptures, AddsHeads, AddsParts, IsPart, AreParts, AddsPairs, AddsPairsAnd, AddsFlushed}
 use Rattle.receive_command.specs.Flushes.{FlushEach, Flush}
 use Rattle.receive_command.proofs.Adding.{parts_front}
 use Rattle.receive_command.proofs.Grown.{grown_nil}
-use Rattle.receive_command.proofs.Pairs.{part_of_service, none_before}
+use Rattle.receive_command.proofs.Pairs.{part_of_service, none_before, text_before, records_from, text_from}
 
--- the file of a service behind others
-at_service : (olds : List File) (f : ServiceFields → File) (services : List ServiceFields) (first k : ℕ) (service : ServiceFields) → length olds ≡ first → slice_get services k ≡ Some service
-    → get_or (olds ++ map f services) (first + k) no_file ≡ f service
-at_service olds f services first k service size there =
-    subst (λ (n : ℕ). get_or (olds ++ map f services) (n + k) no_file ≡ f service) size
-    (get_or-append-add olds (map f services) k no_file
-    ∙ get_or_from_slice_get (map f services) k (f service) no_file (slice_get-map f services k ∙ ap (option_map f) there))
-
--- files that are as told at each place, before the first service and from there on
-same_files : (olds news : List File) (f : ServiceFields → File) (services : List ServiceFields) (first : ℕ) → length olds ≡ first → length news ≡ first + length services
+-- files that are as told at each place, before the added ones and from there on
+same_files : (olds news files : List File) (first : ℕ) → length olds ≡ first → length news ≡ first + length files
     → ((at : ℕ) → at < first → get_or news at no_file ≡ get_or olds at no_file)
-    → ((k : ℕ) (service : ServiceFields) → slice_get services k ≡ Some service → get_or news (first + k) no_file ≡ f service)
-    → news ≡ olds ++ map f services
-same_files olds news f services first size all before behind =
-    ext_get_or no_file news (olds ++ map f services) (omega (arith, all, size, length-append olds (map f services), length-map services f))
+    → ((k : ℕ) → k < length files → get_or news (first + k) no_file ≡ get_or files k no_file)
+    → news ≡ olds ++ files
+same_files olds news files first size all before behind =
+    ext_get_or no_file news (olds ++ files) (omega (arith, all, size, length-append olds files))
     (λ at lt. elim (cases_lt at first) [
-      | inl low ↦ before at low ∙ sym (get_or_append_left olds (map f services) no_file at (omega (arith, low, size)))
+      | inl low ↦ before at low ∙ sym (get_or_append_left olds files no_file at (omega (arith, low, size)))
       | inr high ↦
           let k : ℕ = at - first in
           let e : first + k ≡ at = omega (arith, high) in
-          elim (slice_get_cases services k).1 [
-            | inl found ↦ subst (λ (i : ℕ). get_or news i no_file ≡ get_or (olds ++ map f services) i no_file) e
-                (behind k found.0 found.2 ∙ sym (at_service olds f services first k found.0 size found.2))
-            | inr past ↦ absurd (omega (arith, past.0, lt, all, e))
-          ]
+          subst (λ (i : ℕ). get_or news i no_file ≡ get_or (olds ++ files) i no_file) e
+          (behind k (omega (arith, lt, all, e))
+          ∙ sym (subst (λ (n : ℕ). get_or (olds ++ files) (n + k) no_file ≡ get_or files k no_file) size (get_or-append-add olds files k no_file)))
     ])
 
-take_nothing : (n : ℕ) → let nothing : List ℕ = [] in take n nothing ≡ nothing
-take_nothing zero = refl
-take_nothing (suc n) = refl
+-- what stands before the added files, and the added ones
+old_at : (olds news files : List File) (first at : ℕ) → length olds ≡ first → news ≡ olds ++ files → at < first → get_or news at no_file ≡ get_or olds at no_file
+old_at olds news files first at size added low =
+    ap (λ (s : List File). get_or s at no_file) added ∙ get_or_append_left olds files no_file at (omega (arith, low, size))
 
--- All that was delivered is written.
+new_at : (olds news files : List File) (first k : ℕ) → length olds ≡ first → news ≡ olds ++ files → get_or news (first + k) no_file ≡ get_or files k no_file
+new_at olds news files first k size added =
+    ap (λ (s : List File). get_or s (first + k) no_file) added
+    ∙ subst (λ (n : ℕ). get_or (olds ++ files) (n + k) no_file ≡ get_or files k no_file) size (get_or-append-add olds files k no_file)
 
-grown_whole : (plan : PlanFields) (records : List Record) (olds heads news : List File) (first : ℕ) → length olds ≡ first
-    → heads ≡ olds ++ map (file_with false head_of) plan.services → GrowEach heads news (records_at first (delivered_pairs plan records))
-    → news ≡ olds ++ map (file_with false (capture_of records)) plan.services
-grown_whole plan records olds heads news first size added grew =
-    let many : length heads ≡ first + length plan.services = omega (arith, ap length added, size, length-append olds (map (file_with false head_of) plan.services), length-map plan.services (file_with false head_of)) in
-    same_files olds news (file_with false (capture_of records)) plan.services first size (grew.size ∙ many)
+-- the files of services by place
+mapped_at : (f : ServiceFields → File) (services : List ServiceFields) (k : ℕ) (service : ServiceFields) → slice_get services k ≡ Some service
+    → get_or (map f services) k no_file ≡ f service
+mapped_at f services k service there = get_or_from_slice_get (map f services) k (f service) no_file (slice_get-map f services k ∙ ap (option_map f) there)
+
+pub length-files_from : (k : ℕ) (text : ℕ → List ℕ) (services : List ServiceFields) → length (files_from k text services) ≡ length services
+length-files_from k text [] = refl
+length-files_from k text (service ∷ services) = ap suc (length-files_from (k + 1) text services)
+
+shift : (text : ℕ → List ℕ) (service : ServiceFields) (k i : ℕ) → file_of service.name (text (k + 1 + i)) ≡ file_of service.name (text (k + suc i))
+shift text service k i = ap (λ (n : ℕ). file_of service.name (text n)) (omega arith)
+
+pub numbered_at : (k : ℕ) (text : ℕ → List ℕ) (services : List ServiceFields) (i : ℕ) (service : ServiceFields) → slice_get services i ≡ Some service
+    → get_or (files_from k text services) i no_file ≡ file_of service.name (text (k + i))
+numbered_at k text [] i service there = absurd (omega (arith, slice_get_within [] i service there))
+numbered_at k text (s ∷ services) zero service there =
+    subst (λ (t : Option ServiceFields). IfSome t (λ x. file_of s.name (text k) ≡ file_of x.name (text (k + 0)))) there
+    (ap (λ (n : ℕ). file_of s.name (text n)) (omega arith))
+numbered_at k text (s ∷ services) (suc i) service there = numbered_at (k + 1) text services i service there ∙ shift text service k i
+
+-- files whose texts are the same
+pub files_same : (k : ℕ) (x y : ℕ → List ℕ) (services : List ServiceFields) → ((i : ℕ) → x i ≡ y i) → files_from k x services ≡ files_from k y services
+files_same k x y [] same = refl
+files_same k x y (service ∷ services) same = ap₂ (λ f fs. f ∷ fs) (ap (file_of service.name) (same k)) (files_same (k + 1) x y services same)
+
+from_none : (k : ℕ) → k ≡ 0 + k
+from_none k = omega arith
+
+-- The heads, and behind each a text that grew.
+
+heads_grown : (services : List ServiceFields) (olds heads news : List File) (first : ℕ) (text : ℕ → List ℕ) → length olds ≡ first
+    → heads ≡ olds ++ map (file_with false head_of) services → GrowEach heads news text → ((at : ℕ) → at < first → text at ≡ [])
+    → news ≡ olds ++ files_from 0 (λ k. capture_head ++ text (first + k)) services
+heads_grown services olds heads news first text size added grew none =
+    let files : List File = files_from 0 (λ k. capture_head ++ text (first + k)) services in
+    let many : length heads ≡ first + length services = omega (arith, ap length added, size, length-append olds (map (file_with false head_of) services), length-map services (file_with false head_of)) in
+    let all : length files ≡ length services = length-files_from 0 (λ k. capture_head ++ text (first + k)) services in
+    same_files olds news files first size (omega (arith, grew.size, many, all))
     (λ at low.
-    grew.each at (omega (arith, low, many))
-    ∙ ap (λ (t : List ℕ). grown (get_or heads at no_file) t) (none_before first at (delivered_pairs plan records) low) ∙ grown_nil (get_or heads at no_file)
-    ∙ ap (λ (s : List File). get_or s at no_file) added ∙ get_or_append_left olds (map (file_with false head_of) plan.services) no_file at (omega (arith, low, size)))
-    (λ k service there.
-    grew.each (first + k) (omega (arith, many, slice_get_within plan.services k service there))
-    ∙ ap (λ (t : List ℕ). grown (get_or heads (first + k) no_file) t) (part_of_service plan first k service records there)
-    ∙ ap (λ (f : File). grown f (flat_map capture_record (delivered_datagrams service records)))
-    (ap (λ (s : List File). get_or s (first + k) no_file) added ∙ at_service olds (file_with false head_of) plan.services first k service size there))
+    grew.each at (omega (arith, low, many)) ∙ ap (λ (t : List ℕ). grown (get_or heads at no_file) t) (none at low) ∙ grown_nil (get_or heads at no_file)
+    ∙ old_at olds heads (map (file_with false head_of) services) first at size added low)
+    (λ k lt.
+    elim (slice_get_cases services k).1 [
+      | inl found ↦
+          grew.each (first + k) (omega (arith, many, lt, all))
+          ∙ ap (λ (f : File). grown f (text (first + k))) (new_at olds heads (map (file_with false head_of) services) first k size added ∙ mapped_at (file_with false head_of) services k found.0 found.2)
+          ∙ ap (λ (n : ℕ). file_of found.0.name (capture_head ++ text (first + n))) (from_none k)
+          ∙ sym (numbered_at 0 (λ i. capture_head ++ text (first + i)) services k found.0 found.2)
+      | inr past ↦ absurd (omega (arith, past.0, lt, all))
+    ])
 
-pub captures_grown : (plan : PlanFields) (records : List Record) (a b c : Option (List File)) (first : ℕ) → IfSome a (λ told. length told ≡ first)
-    → AddsCaptures false head_of plan.services a b → Grow b c (records_at first (delivered_pairs plan records)) → AddsCaptures false (capture_of records) plan.services a c
-captures_grown plan records None b c first size added grew = tt
-captures_grown plan records (Some olds) None c first size added grew = absurd added
-captures_grown plan records (Some olds) (Some heads) None first size added grew = absurd grew
-captures_grown plan records (Some olds) (Some heads) (Some news) first size added grew = grown_whole plan records olds heads news first size added grew
+pub added_grown : (services : List ServiceFields) (a b c : Option (List File)) (first : ℕ) (text own : ℕ → List ℕ) → IfSome a (λ told. length told ≡ first)
+    → AddsCaptures false head_of services a b → Grow b c text → ((at : ℕ) → at < first → text at ≡ []) → ((k : ℕ) → text (first + k) ≡ own k)
+    → AddsFiles a c (files_from 0 (λ k. capture_head ++ own k) services)
+added_grown services None b c first text own size added grew none same = tt
+added_grown services (Some olds) None c first text own size added grew none same = absurd added
+added_grown services (Some olds) (Some heads) None first text own size added grew none same = absurd grew
+added_grown services (Some olds) (Some heads) (Some news) first text own size added grew none same =
+    heads_grown services olds heads news first text size added grew none
+    ∙ ap (λ (fs : List File). olds ++ fs) (files_same 0 (λ k. capture_head ++ text (first + k)) (λ k. capture_head ++ own k) services (λ k. ap (λ (t : List ℕ). capture_head ++ t) (same k)))
 
--- and flushed
+-- the records of pairs, and a text behind them
+pub pairs_grown : (services : List ServiceFields) (pairs : List (ℕ × List ℕ)) (a b c : Option (List File)) (first : ℕ) → IfSome a (λ told. length told ≡ first)
+    → AddsCaptures false head_of services a b → Grow b c (records_at first pairs) → AddsPairs pairs services a c
+pairs_grown services pairs a b c first size added grew =
+    added_grown services a b c first (records_at first pairs) (records_at 0 pairs) size added grew
+    (λ at low. none_before first at pairs low) (λ k. records_from first k pairs)
 
-flushed_whole : (text : ServiceFields → List ℕ) (services : List ServiceFields) (olds mids news : List File) (first : ℕ) → length olds ≡ first
-    → mids ≡ olds ++ map (file_with false text) services → FlushEach mids news first (first + length services)
-    → news ≡ olds ++ map (file_with true text) services
-flushed_whole text services olds mids news first size added flushed =
-    let many : length mids ≡ first + length services = omega (arith, ap length added, size, length-append olds (map (file_with false text) services), length-map services (file_with false text)) in
-    same_files olds news (file_with true text) services first size (flushed.size ∙ many)
-    (λ at low.
-    flushed.others at (omega (arith, low, many)) (inl low)
-    ∙ ap (λ (s : List File). get_or s at no_file) added ∙ get_or_append_left olds (map (file_with false text) services) no_file at (omega (arith, low, size)))
-    (λ k service there.
-    let within : k < length services = slice_get_within services k service there in
-    flushed.each (first + k) (omega (arith, many, within)) (omega arith) (omega (arith, within))
-    ∙ ap flushed_file (ap (λ (s : List File). get_or s (first + k) no_file) added ∙ at_service olds (file_with false text) services first k service size there))
+pub pairs_and_grown : (services : List ServiceFields) (service : ℕ) (text : List ℕ) (pairs : List (ℕ × List ℕ)) (a b c : Option (List File)) (first : ℕ) → IfSome a (λ told. length told ≡ first)
+    → AddsCaptures false head_of services a b → Grow b c (records_and first service text pairs) → AddsPairsAnd service text pairs services a c
+pairs_and_grown services service text pairs a b c first size added grew =
+    added_grown services a b c first (records_and first service text pairs) (records_and 0 service text pairs) size added grew
+    (λ at low. ap₂ (λ x y. x ++ y) (none_before first at pairs low) (text_before first service text at low))
+    (λ k. ap₂ (λ x y. x ++ y) (records_from first k pairs) (text_from first service text k))
+
+-- the files of all delivered pairs are the captures of the delivered datagrams
+pairs_files : (plan : PlanFields) (records : List Record)
+    → files_from 0 (capture_of_pairs (delivered_pairs plan records)) plan.services ≡ map (file_with false (capture_of records)) plan.services
+pairs_files plan records =
+    let text : ℕ → List ℕ = capture_of_pairs (delivered_pairs plan records) in
+    let all : length (files_from 0 text plan.services) ≡ length plan.services = length-files_from 0 text plan.services in
+    ext_get_or no_file (files_from 0 text plan.services) (map (file_with false (capture_of records)) plan.services) (omega (arith, all, length-map plan.services (file_with false (capture_of records))))
+    (λ k lt. elim (slice_get_cases plan.services k).1 [
+      | inl found ↦
+          numbered_at 0 text plan.services k found.0 found.2
+          ∙ ap (λ (t : List ℕ). file_of found.0.name (capture_head ++ t)) (part_of_service plan 0 k found.0 records found.2)
+          ∙ sym (mapped_at (file_with false (capture_of records)) plan.services k found.0 found.2)
+      | inr past ↦ absurd (omega (arith, past.0, lt, all))
+    ])
+
+pub captures_of_pairs : (plan : PlanFields) (records : List Record) (a b : Option (List File))
+    → AddsPairs (delivered_pairs plan records) plan.services a b → AddsCaptures false (capture_of records) plan.services a b
+captures_of_pairs plan records a b added = subst (λ (fs : List File). AddsFiles a b fs) (pairs_files plan records) added
+
+-- Flushed.
+
+flushed_at : (text : ServiceFields → List ℕ) (services : List ServiceFields) (olds mids news : List File) (first count k : ℕ) (service : ServiceFields) → length olds ≡ first
+    → mids ≡ olds ++ map (file_with false text) services → FlushEach mids news first (first + count) → k < length services → slice_get services k ≡ Some service
+    → (length mids ≡ first + length services) → (k < count → get_or news (first + k) no_file ≡ file_with true text service) × (count ≤ k → get_or news (first + k) no_file ≡ file_with false text service)
+flushed_at text services olds mids news first count k service size added flushed within there many =
+    let was : get_or mids (first + k) no_file ≡ file_with false text service =
+    new_at olds mids (map (file_with false text) services) first k size added ∙ mapped_at (file_with false text) services k service there in (
+      λ low. flushed.each (first + k) (omega (arith, many, within)) (omega arith) (omega (arith, low)) ∙ ap flushed_file was,
+      λ high. flushed.others (first + k) (omega (arith, many, within)) (inr (omega (arith, high))) ∙ was,
+    )
+
+flushed_files : (text : ServiceFields → List ℕ) (services : List ServiceFields) (olds mids news : List File) (first count : ℕ) → length olds ≡ first → count ≤ length services
+    → mids ≡ olds ++ map (file_with false text) services → FlushEach mids news first (first + count)
+    → news ≡ olds ++ (take count (map (file_with true text) services) ++ drop count (map (file_with false text) services))
+flushed_files text services olds mids news first count size few added flushed =
+    let done : List File = map (file_with true text) services in
+    let left : List File = map (file_with false text) services in
+    let many : length mids ≡ first + length services = omega (arith, ap length added, size, length-append olds left, length-map services (file_with false text)) in
+    let done_size : length (take count done) ≡ count = omega (arith, length-take count done, length-map services (file_with true text), few) in
+    let all : length (take count done ++ drop count left) ≡ length services =
+    omega (arith, length-append (take count done) (drop count left), done_size, length-drop count left, length-map services (file_with false text), few) in
+    same_files olds news (take count done ++ drop count left) first size (omega (arith, flushed.size, many, all))
+    (λ at low. flushed.others at (omega (arith, low, many)) (inl low) ∙ old_at olds mids left first at size added low)
+    (λ k lt.
+    elim (slice_get_cases services k).1 [
+      | inl found ↦
+          let is = flushed_at text services olds mids news first count k found.0 size added flushed (omega (arith, lt, all)) found.2 many in
+          elim (cases_lt k count) [
+            | inl low ↦
+                is.0 low ∙ sym (mapped_at (file_with true text) services k found.0 found.2)
+                ∙ sym (get_or_append_left (take count done) (drop count left) no_file k (omega (arith, low, done_size)) ∙ get_or-take count done k no_file low)
+            | inr high ↦
+                let i : ℕ = k - count in
+                let e : count + i ≡ k = omega (arith, high) in
+                is.1 high ∙ sym (mapped_at (file_with false text) services k found.0 found.2)
+                ∙ sym (subst (λ (j : ℕ). get_or (take count done ++ drop count left) j no_file ≡ get_or left j no_file) e
+                (subst (λ (n : ℕ). get_or (take count done ++ drop count left) (n + i) no_file ≡ get_or left (count + i) no_file) done_size
+                (get_or-append-add (take count done) (drop count left) i no_file ∙ get_or-drop count left i no_file)))
+          ]
+      | inr past ↦ absurd (omega (arith, past.0, lt, all))
+    ])
+
+pub captures_flushed_to : (text : ServiceFields → List ℕ) (services : List ServiceFields) (a b c : Option (List File)) (first count : ℕ) → IfSome a (λ told. length told ≡ first) → count ≤ length services
+    → AddsCaptures false text services a b → Flush b c first (first + count) → AddsFlushed count text services a c
+captures_flushed_to text services None b c first count size few added flushed = tt
+captures_flushed_to text services (Some olds) None c first count size few added flushed = absurd added
+captures_flushed_to text services (Some olds) (Some mids) None first count size few added flushed = absurd flushed
+captures_flushed_to text services (Some olds) (Some mids) (Some news) first count size few added flushed = flushed_files text services olds mids news first count size few added flushed
+
+-- all of them
+all_flushed : (text : ServiceFields → List ℕ) (services : List ServiceFields)
+    → take (length services) (map (file_with true text) services) ++ drop (length services) (map (file_with false text) services) ≡ map (file_with true text) services
+all_flushed text services =
+    ap₂ (λ x y. x ++ y) (take_all (length services) (map (file_with true text) services) (omega (arith, length-map services (file_with true text))))
+    (drop_of_length-le (map (file_with false text) services) (omega (arith, length-map services (file_with false text))))
+    ∙ append-nil (map (file_with true text) services)
 
 pub captures_flushed : (text : ServiceFields → List ℕ) (services : List ServiceFields) (a b c : Option (List File)) (first : ℕ) → IfSome a (λ told. length told ≡ first)
     → AddsCaptures false text services a b → Flush b c first (first + length services) → AddsCaptures true text services a c
-captures_flushed text services None b c first size added flushed = tt
-captures_flushed text services (Some olds) None c first size added flushed = absurd added
-captures_flushed text services (Some olds) (Some mids) None first size added flushed = absurd flushed
-captures_flushed text services (Some olds) (Some mids) (Some news) first size added flushed = flushed_whole text services olds mids news first size added flushed
+captures_flushed text services a b c first size added flushed =
+    subst (λ (fs : List File). AddsFiles a c fs) (all_flushed text services)
+    (captures_flushed_to text services a b c first (length services) size (omega arith) added flushed)
 
--- Parts.
-
-parts_at : (text : ServiceFields → List ℕ) (services : List ServiceFields) (files : List File) → length files ≤ length services
-    → ((k : ℕ) (service : ServiceFields) → slice_get services k ≡ Some service → k < length files → IsPart text service (get_or files k no_file))
-    → AreParts text services files
-parts_at text services [] few each = tt
-parts_at text [] (file ∷ files) few each = absurd (omega (arith, few))
-parts_at text (service ∷ services) (file ∷ files) few each =
-    (each 0 service refl (omega arith), parts_at text services files (omega (arith, few)) (λ k s there lt. each (suc k) s there (omega (arith, lt))))
-
--- files that are, from the first service on, parts
-some_files : (text : ServiceFields → List ℕ) (olds news : List File) (services : List ServiceFields) (first : ℕ) → length olds ≡ first → length news ≡ first + length services
-    → ((at : ℕ) → at < first → get_or news at no_file ≡ get_or olds at no_file)
-    → ((k : ℕ) (service : ServiceFields) → slice_get services k ≡ Some service → IsPart text service (get_or news (first + k) no_file))
-    → AddsParts text services (Some olds) (Some news)
-some_files text olds news services first size all before behind =
-    let front : take first news ≡ olds =
-    ext_get_or no_file (take first news) olds (omega (arith, length-take first news, size, all))
-    (λ at lt.
-    let low : at < first = omega (arith, lt, length-take first news) in
-    get_or-take first news at no_file low ∙ before at low) in
-    record {
-      files = drop first news;
-      parts = parts_at text services (drop first news) (omega (arith, all, length-drop first news))
-          (λ k service there lt. subst (λ (f : File). IsPart text service f) (sym (get_or-drop first news k no_file)) (behind k service there));
-      added = sym (take-append-drop first news) ∙ ap (λ (s : List File). s ++ drop first news) front;
-    }
-
-grown_part : (records : List Record) (service : ServiceFields) (file : File) (text : List ℕ) (count : ℕ) → text ≡ flat_map capture_record (delivered_datagrams service records)
-    → file ≡ grown (file_with false head_of service) (take count text) → IsPart (capture_of records) service file
-grown_part records service file text count is same = record {
-  name = ap (λ (f : File). f.name) same;
-  count = length capture_head + count;
-  bytes = ap (λ (f : File). f.bytes) same ∙ ap (λ (t : List ℕ). capture_head ++ take count t) is
-      ∙ sym (take-append-add capture_head (flat_map capture_record (delivered_datagrams service records)) count);
-}
-
-grown_parts : (plan : PlanFields) (records : List Record) (olds heads news : List File) (first : ℕ) → length olds ≡ first
-    → heads ≡ olds ++ map (file_with false head_of) plan.services → GrowInPart heads news (records_at first (delivered_pairs plan records))
-    → AddsParts (capture_of records) plan.services (Some olds) (Some news)
-grown_parts plan records olds heads news first size added grew =
-    let many : length heads ≡ first + length plan.services = omega (arith, ap length added, size, length-append olds (map (file_with false head_of) plan.services), length-map plan.services (file_with false head_of)) in
-    some_files (capture_of records) olds news plan.services first size (grew.size ∙ many)
-    (λ at low.
-    let h = grew.each at (omega (arith, low, many)) in
-    h.1
-    ∙ ap (λ (t : List ℕ). grown (get_or heads at no_file) (take h.0 t)) (none_before first at (delivered_pairs plan records) low)
-    ∙ ap (λ (t : List ℕ). grown (get_or heads at no_file) t) (take_nothing h.0) ∙ grown_nil (get_or heads at no_file)
-    ∙ ap (λ (s : List File). get_or s at no_file) added ∙ get_or_append_left olds (map (file_with false head_of) plan.services) no_file at (omega (arith, low, size)))
-    (λ k service there.
-    let h = grew.each (first + k) (omega (arith, many, slice_get_within plan.services k service there)) in
-    grown_part records service (get_or news (first + k) no_file) (records_at first (delivered_pairs plan records) (first + k)) h.0 (part_of_service plan first k service records there)
-    (h.1 ∙ ap (λ (f : File). grown f (take h.0 (records_at first (delivered_pairs plan records) (first + k))))
-    (ap (λ (s : List File). get_or s (first + k) no_file) added ∙ at_service olds (file_with false head_of) plan.services first k service size there)))
-
-pub parts_grown : (plan : PlanFields) (records : List Record) (a b c : Option (List File)) (first : ℕ) → IfSome a (λ told. length told ≡ first)
-    → AddsCaptures false head_of plan.services a b → GrowPart b c (records_at first (delivered_pairs plan records)) → AddsParts (capture_of records) plan.services a c
-parts_grown plan records None b c first size added grew = record { files = []; parts = tt; added = tt }
-parts_grown plan records (Some olds) None c first size added grew = absurd added
-parts_grown plan records (Some olds) (Some heads) None first size added grew = absurd grew
-parts_grown plan records (Some olds) (Some heads) (Some news) first size added grew = grown_parts plan records olds heads news first size added grew
-
--- the flushing stopped
-flushed_part : (text : ServiceFields → List ℕ) (service : ServiceFields) (file : File) → (file ≡ file_with false text service) ⊎ (file ≡ flushed_file (file_with false text service))
-    → IsPart text service file
-flushed_part text service file is = record {
-  name = elim is [ inl e ↦ ap (λ (f : File). f.name) e | inr e ↦ ap (λ (f : File). f.name) e ];
-  count = length (text service);
-  bytes = elim is [ inl e ↦ ap (λ (f : File). f.bytes) e | inr e ↦ ap (λ (f : File). f.bytes) e ] ∙ sym (take_all (length (text service)) (text service) (omega arith));
-}
-
-flushed_parts : (text : ServiceFields → List ℕ) (services : List ServiceFields) (olds mids news : List File) (first count : ℕ) → length olds ≡ first
-    → mids ≡ olds ++ map (file_with false text) services → FlushEach mids news first (first + count)
-    → AddsParts text services (Some olds) (Some news)
-flushed_parts text services olds mids news first count size added flushed =
-    let many : length mids ≡ first + length services = omega (arith, ap length added, size, length-append olds (map (file_with false text) services), length-map services (file_with false text)) in
-    some_files text olds news services first size (flushed.size ∙ many)
-    (λ at low.
-    flushed.others at (omega (arith, low, many)) (inl low)
-    ∙ ap (λ (s : List File). get_or s at no_file) added ∙ get_or_append_left olds (map (file_with false text) services) no_file at (omega (arith, low, size)))
-    (λ k service there.
-    let within : k < length services = slice_get_within services k service there in
-    let was : get_or mids (first + k) no_file ≡ file_with false text service =
-    ap (λ (s : List File). get_or s (first + k) no_file) added ∙ at_service olds (file_with false text) services first k service size there in
-    flushed_part text service (get_or news (first + k) no_file) (elim (cases_lt k count) [
-      | inl lt ↦ inr (flushed.each (first + k) (omega (arith, many, within)) (omega arith) (omega (arith, lt)) ∙ ap flushed_file was)
-      | inr ge ↦ inl (flushed.others (first + k) (omega (arith, many, within)) (inr (omega (arith, ge))) ∙ was)
-    ]))
-
-pub parts_flushed : (text : ServiceFields → List ℕ) (services : List ServiceFields) (a b c : Option (List File)) (first count : ℕ) → IfSome a (λ told. length told ≡ first)
-    → AddsCaptures false text services a b → Flush b c first (first + count) → AddsParts text services a c
-parts_flushed text services None b c first count size added flushed = record { files = []; parts = tt; added = tt }
-parts_flushed text services (Some olds) None c first count size added flushed = absurd added
-parts_flushed text services (Some olds) (Some mids) None first count size added flushed = absurd flushed
-parts_flushed text services (Some olds) (Some mids) (Some news) first count size added flushed = flushed_parts text services olds mids news first count size added flushed
+-- Parts of captures.
 
 -- the whole is a part
 pub parts_whole : (b : Bool) (text : ServiceFields → List ℕ) (services : List ServiceFields) (old new : Option (List File)) → AddsCaptures b text services old new → AddsParts text services old new

@@ -1,42 +1,23 @@
 -- How the captures of a recording end, from how its reading ends.
-use Rattle.std.proofs.Common.{◌≡◌, ℕ, ◌+◌, ◌<◌, ◌≤◌, true, false, List, [], length, map, refl, ap, sym, ◌∙◌, subst, arith, Option, IfSome, All}
-use Rattle.std.specs.Io.KnownBytes.{Consumes}
+use Rattle.std.proofs.Common.{◌≡◌, ℕ, ◌+◌, ◌<◌, ◌≤◌, true, false, List, [], ◌++◌, length, take, map, refl, ap, sym, ◌∙◌, subst, arith, Option, IfSome}
 use Rattle.wire_spec.specs.Content.{File}
-use Rattle.ts_spec.specs.Recording.{RecordingForm, plain, stamped, m2ts, record_size}
 use Rattle.plan_spec.specs.Plan.{PlanFields}
+use Rattle.reception_spec.specs.Delivered.{delivered_pairs}
+use Rattle.pcap_file.specs.Capture.{capture_record}
 use Rattle.demux_core.specs.Receiving.{ReceiverState, HasReceived}
-use Rattle.receive_command.specs.Files.{AddsCaptures, AddsHeads, AddsParts, head_of, capture_of}
+use Rattle.receive_command.specs.Files.{AddsCaptures, AddsHeadsPart, head_of, capture_of}
 use Rattle.receive_command.specs.Flushes.{Flush}
-use Rattle.receive_command.specs.Reading.{HasRead, records_in, ReadsWhole, ReadsFront, ReadsToLimit, ReadsPart}
-use Rattle.receive_command.specs.Ends.{EndsWhole, WritesWhole, EndsFront, EndsAtLimit, EndsPart}
-use Rattle.receive_command.proofs.Advance.{consumes_none}
-use Rattle.receive_command.proofs.Assembly.{captures_grown, captures_flushed, parts_grown, parts_flushed, parts_whole, parts_of_heads, parts_of_some, parts_none}
+use Rattle.receive_command.specs.Reading.{records_in, ReadsWhole, ReadsFront, ReadsToLimit, ReadsToStop}
+use Rattle.receive_command.specs.Ends.{EndsWhole, WritesWhole, EndsFront, EndsAtLimit, EndsInFiles, in_heads, in_record, in_flush}
+use Rattle.receive_command.proofs.Assembly.{pairs_grown, pairs_and_grown, captures_of_pairs, captures_flushed, captures_flushed_to}
 
 pub sized : (a : Option (List File)) (count first : ℕ) → first ≡ count → IfSome a (λ told. length told ≡ count) → IfSome a (λ told. length told ≡ first)
 sized a count first e many = subst (λ (n : ℕ). IfSome a (λ told. length told ≡ n)) (sym e) many
 
--- nothing was read
-some_size : (form : RecordingForm) → 0 < record_size form
-some_size plain = omega arith
-some_size stamped = omega arith
-some_size m2ts = omega arith
-
-read_none : (form : RecordingForm) (left : Option (List ℕ)) → HasRead form left left [] []
-read_none form left = record { each = λ k d lt. absurd (omega arith); short = some_size form; consumed = consumes_none left }
-
-pub ends_heads : (plan : PlanFields) (left : Option (List ℕ)) (a b : Option (List File)) → AddsParts head_of plan.services a b → EndsPart plan left left a b
-ends_heads plan left a b parts = record {
-  pieces = [];
-  behind = [];
-  read = read_none plan.recording left;
-  files = parts_of_heads (records_in plan []) plan.services a b parts;
-}
-
-pub ends_some : (plan : PlanFields) (left : Option (List ℕ)) (a b : Option (List File)) → AddsHeads plan.services a b → EndsPart plan left left a b
-ends_some plan left a b heads = ends_heads plan left a b (parts_of_some plan.services a b heads)
-
-pub ends_nothing : (plan : PlanFields) (left : Option (List ℕ)) (a : Option (List File)) → EndsPart plan left left a a
-ends_nothing plan left a = ends_heads plan left a a (parts_none head_of plan.services a)
+-- the files stopped at a head
+pub ends_in_heads : (plan : PlanFields) (left now : Option (List ℕ)) (a b : Option (List File)) → now ≡ left → (count : ℕ) × AddsHeadsPart plan.services count a b
+    → EndsInFiles plan left now a b
+ends_in_heads plan left now a b unread stop = in_heads (record { unread = unread; count = stop.0; files = stop.1 })
 
 pub ends_front : (plan : PlanFields) (left now : Option (List ℕ)) (a b c : Option (List File)) (first : ℕ) → IfSome a (λ told. length told ≡ first)
     → AddsCaptures false head_of plan.services a b → ReadsFront plan left now b c first → EndsFront plan left now a c
@@ -44,25 +25,40 @@ ends_front plan left now a b c first size added front = record {
   pieces = front.pieces;
   behind = front.behind;
   read = front.read;
-  files = captures_grown plan (records_in plan front.pieces) a b c first size added front.files;
+  fewer = front.fewer;
+  files = pairs_grown plan.services (delivered_pairs plan (records_in plan front.pieces)) a b c first size added front.files;
 }
 
 pub ends_at_limit : (plan : PlanFields) (left now : Option (List ℕ)) (a b c : Option (List File)) (first : ℕ) → IfSome a (λ told. length told ≡ first)
     → AddsCaptures false head_of plan.services a b → ReadsToLimit plan left now b c first → EndsAtLimit plan left now a c
-unfolding ends_front
 ends_at_limit plan left now a b c first size added limit = record {
-  ends = ends_front plan left now a b c first size added limit.reads;
+  pieces = limit.pieces;
+  read = limit.read;
   limit = limit.limit;
+  files = pairs_grown plan.services (delivered_pairs plan (records_in plan limit.pieces)) a b c first size added limit.files;
 }
 
-pub ends_part : (plan : PlanFields) (left now : Option (List ℕ)) (a b c : Option (List File)) (first : ℕ) → IfSome a (λ told. length told ≡ first)
-    → AddsCaptures false head_of plan.services a b → ReadsPart plan left now b c first → EndsPart plan left now a c
-ends_part plan left now a b c first size added part = record {
-  pieces = part.pieces;
-  behind = part.behind;
-  read = part.read;
-  files = parts_grown plan (records_in plan part.pieces) a b c first size added part.files;
-}
+pub ends_in_record : (plan : PlanFields) (left now : Option (List ℕ)) (a b c : Option (List File)) (first : ℕ) → IfSome a (λ told. length told ≡ first)
+    → AddsCaptures false head_of plan.services a b → ReadsToStop plan left now b c first → EndsInFiles plan left now a c
+ends_in_record plan left now a b c first size added stop = in_record (record {
+  pieces = stop.pieces;
+  piece = stop.piece;
+  read = stop.read;
+  fewer = stop.fewer;
+  front = stop.front;
+  service = stop.service;
+  datagram = stop.datagram;
+  rest = stop.rest;
+  pairs = stop.pairs;
+  count = stop.count;
+  less = stop.less;
+  files = pairs_and_grown plan.services stop.service (take stop.count (capture_record stop.datagram)) (delivered_pairs plan (records_in plan stop.pieces) ++ stop.front) a b c first size added stop.files;
+})
+
+captures_whole : (plan : PlanFields) (receiver : ReceiverState) (left now : Option (List ℕ)) (a b c : Option (List File)) (first tail : ℕ) → IfSome a (λ told. length told ≡ first)
+    → AddsCaptures false head_of plan.services a b → (whole : ReadsWhole plan receiver left now b c first tail) → AddsCaptures false (capture_of (records_in plan whole.pieces)) plan.services a c
+captures_whole plan receiver left now a b c first tail size added whole =
+    captures_of_pairs plan (records_in plan whole.pieces) a c (pairs_grown plan.services (delivered_pairs plan (records_in plan whole.pieces)) a b c first size added whole.files)
 
 pub ends_whole : (plan : PlanFields) (receiver end_receiver : ReceiverState) (left now : Option (List ℕ)) (a b c d : Option (List File)) (first end tail : ℕ) → IfSome a (λ told. length told ≡ first)
     → AddsCaptures false head_of plan.services a b → (whole : ReadsWhole plan receiver left now b c first tail) → end ≡ first + length plan.services → Flush c d first end
@@ -75,36 +71,25 @@ ends_whole plan receiver end_receiver left now a b c d first end tail size added
     fewer = whole.fewer;
     at_end = whole.at_end;
     files = captures_flushed (capture_of (records_in plan whole.pieces)) plan.services a c d first size
-        (captures_grown plan (records_in plan whole.pieces) a b c first size added whole.files)
+        (captures_whole plan receiver left now a b c first tail size added whole)
         (subst (λ (e : ℕ). Flush c d first e) all flushed);
   };
   tail_is = whole.tail_is;
   received = received;
 }
 
-pub ends_unflushed : (plan : PlanFields) (receiver : ReceiverState) (left now : Option (List ℕ)) (a b c d : Option (List File)) (first tail count : ℕ) → IfSome a (λ told. length told ≡ first)
-    → AddsCaptures false head_of plan.services a b → (whole : ReadsWhole plan receiver left now b c first tail) → Flush c d first (first + count) → EndsPart plan left now a d
-ends_unflushed plan receiver left now a b c d first tail count size added whole flushed = record {
+-- the flushing stopped
+pub ends_in_flush : (plan : PlanFields) (receiver : ReceiverState) (left now : Option (List ℕ)) (a b c d : Option (List File)) (first tail count : ℕ) → IfSome a (λ told. length told ≡ first)
+    → AddsCaptures false head_of plan.services a b → ReadsWhole plan receiver left now b c first tail → count < length plan.services → Flush c d first (first + count)
+    → EndsInFiles plan left now a d
+ends_in_flush plan receiver left now a b c d first tail count size added whole less flushed = in_flush (record {
   pieces = whole.pieces;
   behind = whole.behind;
   read = whole.read;
-  files = parts_flushed (capture_of (records_in plan whole.pieces)) plan.services a c d first count size
-      (captures_grown plan (records_in plan whole.pieces) a b c first size added whole.files) flushed;
-}
-
--- whatever is whole is a part
-pub part_of_front : (plan : PlanFields) (left now : Option (List ℕ)) (a b : Option (List File)) → EndsFront plan left now a b → EndsPart plan left now a b
-part_of_front plan left now a b front = record {
-  pieces = front.pieces;
-  behind = front.behind;
-  read = front.read;
-  files = parts_whole false (capture_of (records_in plan front.pieces)) plan.services a b front.files;
-}
-
-pub part_of_whole : (plan : PlanFields) (left now : Option (List ℕ)) (a b : Option (List File)) → EndsWhole plan left now a b → EndsPart plan left now a b
-part_of_whole plan left now a b whole = record {
-  pieces = whole.pieces;
-  behind = whole.tail;
-  read = whole.read;
-  files = parts_whole true (capture_of (records_in plan whole.pieces)) plan.services a b whole.files;
-}
+  fewer = whole.fewer;
+  at_end = whole.at_end;
+  count = count;
+  less = less;
+  files = captures_flushed_to (capture_of (records_in plan whole.pieces)) plan.services a c d first count size (omega (arith, less))
+      (captures_whole plan receiver left now a b c first tail size added whole) flushed;
+})

@@ -1,14 +1,14 @@
 -- Files that grow, one change after another.
-use Rattle.std.proofs.Common.{◌≡◌, ◌≢◌, inl, inr, ℕ, ◌+◌, ◌<◌, ◌≤◌, Bool, true, false, cond, ◌==◌, List, [], ◌∷◌, ◌++◌, length, take, min, get_or, set, refl, ap, sym, ◌∙◌, subst, append_assoc, arith, Option, None, Some}
+use Rattle.std.proofs.Common.{◌≡◌, ◌≢◌, inl, inr, ℕ, ◌+◌, ◌<◌, ◌≤◌, Bool, true, false, cond, ◌==◌, List, [], ◌∷◌, ◌++◌, length, drop, get_or, set, refl, ap, sym, ◌∙◌, subst, append_assoc, length-append, arith, Option, None, Some, is_some}
 use Rattle.std.specs.List.{flat_map}
-use Rattle.std.proofs.lemmas.List.{append-nil, take_all, take-append-le, take_min, get_or-set_same, get_or-set_other, length-set}
+use Rattle.std.proofs.lemmas.List.{append-nil, get_or-set_same, get_or-set_other, length-set}
 use Rattle.std.proofs.lemmas.Grind.{flat_map-append}
-use Rattle.std.proofs.lemmas.Bool.{cases_eq, eq-eqb, ne_eqb}
-use Rattle.std.proofs.Math.Seq.{take-append-add}
+use Rattle.std.proofs.lemmas.Bool.{cases_eq, eq-eqb, ne_eqb, false≢true}
+use Rattle.std.proofs.Math.Seq.{drop-append_seam}
 use Rattle.wire_spec.specs.Content.{File, ChangesFile, grown, no_file}
 use Rattle.pcap_file.specs.Capture.{capture_record}
 use Rattle.ipe_io.proofs.Told.{IsThere}
-use Rattle.receive_command.specs.Growth.{GrowEach, GrowInPart, Grow, GrowPart, record_at, records_at}
+use Rattle.receive_command.specs.Growth.{GrowEach, Grow, StayTold, EndsWith, text_in, record_at, records_at, records_and}
 
 -- one file with other bytes
 file_bytes : (f : File) (x y : List ℕ) → x ≡ y → grown f x ≡ grown f y
@@ -34,19 +34,6 @@ grow_same None b x y same grew = tt
 grow_same (Some a) None x y same grew = absurd grew
 grow_same (Some a) (Some b) x y same grew = each_same a b x y same grew
 
-part_same : (a b : List File) (x y : ℕ → List ℕ) → ((at : ℕ) → x at ≡ y at) → GrowInPart a b x → GrowInPart a b y
-part_same a b x y same grew = record {
-  size = grew.size;
-  each = λ at lt.
-      let h = grew.each at lt in
-      (h.0, h.1 ∙ file_bytes (get_or a at no_file) (take h.0 (x at)) (take h.0 (y at)) (ap (take h.0) (same at)));
-}
-
-pub grow_part_same : (a b : Option (List File)) (x y : ℕ → List ℕ) → ((at : ℕ) → x at ≡ y at) → GrowPart a b x → GrowPart a b y
-grow_part_same None b x y same grew = tt
-grow_part_same (Some a) None x y same grew = absurd grew
-grow_part_same (Some a) (Some b) x y same grew = part_same a b x y same grew
-
 -- files that grew, and grew again
 each_then : (a b c : List File) (x y : ℕ → List ℕ) → GrowEach a b x → GrowEach b c y → GrowEach a c (λ at. x at ++ y at)
 each_then a b c x y first then = record {
@@ -62,117 +49,104 @@ grow_then (Some a) None c x y first then = absurd first
 grow_then (Some a) (Some b) None x y first then = absurd then
 grow_then (Some a) (Some b) (Some c) x y first then = each_then a b c x y first then
 
--- and grew again in part
-each_then_part : (a b c : List File) (x y : ℕ → List ℕ) → GrowEach a b x → GrowInPart b c y → GrowInPart a c (λ at. x at ++ y at)
-each_then_part a b c x y first then = record {
-  size = then.size ∙ first.size;
-  each = λ at lt.
-      let h = then.each at (omega (arith, first.size)) in (
-        length (x at) + h.0,
-        h.1 ∙ ap (λ (f : File). grown f (take h.0 (y at))) (first.each at lt) ∙ grown_twice (get_or a at no_file) (x at) (take h.0 (y at))
-            ∙ file_bytes (get_or a at no_file) (x at ++ take h.0 (y at)) (take (length (x at) + h.0) (x at ++ y at)) (sym (take-append-add (x at) (y at) h.0)),
-      );
-}
+-- a text in the file of its own service and in others
+own_text : (first k : ℕ) (text : List ℕ) (at : ℕ) → first + k ≡ at → text_in first k text at ≡ text
+own_text first k text at e = ap (λ (b : Bool). cond b text []) (eq-eqb (first + k) at e)
 
-pub grow_then_part : (a b c : Option (List File)) (x y : ℕ → List ℕ) → Grow a b x → GrowPart b c y → GrowPart a c (λ at. x at ++ y at)
-grow_then_part None b c x y first then = tt
-grow_then_part (Some a) None c x y first then = absurd first
-grow_then_part (Some a) (Some b) None x y first then = absurd then
-grow_then_part (Some a) (Some b) (Some c) x y first then = each_then_part a b c x y first then
+other_text : (first k : ℕ) (text : List ℕ) (at : ℕ) → first + k ≢ at → text_in first k text at ≡ []
+other_text first k text at ne = ap (λ (b : Bool). cond b text []) (ne_eqb (first + k) at ne)
 
--- a prefix of a text is one of the text that goes on
-more_part : (a b : List File) (x y : ℕ → List ℕ) → GrowInPart a b x → GrowInPart a b (λ at. x at ++ y at)
-more_part a b x y grew = record {
-  size = grew.size;
-  each = λ at lt.
-      let h = grew.each at lt in
-      let m : ℕ = min h.0 (length (x at)) in (
-        m,
-        h.1 ∙ file_bytes (get_or a at no_file) (take h.0 (x at)) (take m (x at ++ y at))
-            (sym (take-append-le m (x at) (y at) (omega arith) ∙ take_min h.0 (x at))),
-      );
-}
-
-pub grow_part_more : (a b : Option (List File)) (x y : ℕ → List ℕ) → GrowPart a b x → GrowPart a b (λ at. x at ++ y at)
-grow_part_more None b x y grew = tt
-grow_part_more (Some a) None x y grew = absurd grew
-grow_part_more (Some a) (Some b) x y grew = more_part a b x y grew
-
--- the whole is a part
-each_part : (a b : List File) (x : ℕ → List ℕ) → GrowEach a b x → GrowInPart a b x
-each_part a b x grew = record {
-  size = grew.size;
-  each = λ at lt. (
-    length (x at),
-    grew.each at lt ∙ file_bytes (get_or a at no_file) (x at) (take (length (x at)) (x at)) (sym (take_all (length (x at)) (x at) (omega arith))),
-  );
-}
-
-pub grow_whole_part : (a b : Option (List File)) (x : ℕ → List ℕ) → Grow a b x → GrowPart a b x
-grow_whole_part None b x grew = tt
-grow_whole_part (Some a) None x grew = absurd grew
-grow_whole_part (Some a) (Some b) x grew = each_part a b x grew
-
--- the text of a record alone, in its own file and in others
-own_record : (first k : ℕ) (d : List ℕ) (at : ℕ) → first + k ≡ at → record_at first at (k, d) ++ [] ≡ capture_record d
-own_record first k d at e =
-    ap (λ (b : Bool). (cond b (capture_record d) []) ++ []) (eq-eqb (first + k) at e) ∙ append-nil (capture_record d)
-
-other_record : (first k : ℕ) (d : List ℕ) (at : ℕ) → first + k ≢ at → record_at first at (k, d) ++ [] ≡ []
-other_record first k d at ne = ap (λ (b : Bool). (cond b (capture_record d) []) ++ []) (ne_eqb (first + k) at ne)
-
--- one file grew by a record
-one_each : (a b : List File) (first k : ℕ) (d : List ℕ) → first + k < length a → b ≡ set a (first + k) (grown (get_or a (first + k) no_file) (capture_record d))
-    → GrowEach a b (records_at first ((k, d) ∷ []))
-one_each a b first k d there changed = record {
-  size = ap length changed ∙ length-set a (first + k) (grown (get_or a (first + k) no_file) (capture_record d));
+-- one file grew by a text
+one_each : (a b : List File) (first k : ℕ) (text : List ℕ) → first + k < length a → b ≡ set a (first + k) (grown (get_or a (first + k) no_file) text)
+    → GrowEach a b (text_in first k text)
+one_each a b first k text there changed = record {
+  size = ap length changed ∙ length-set a (first + k) (grown (get_or a (first + k) no_file) text);
   each = λ at lt. elim (cases_eq (first + k) at) [
     | inl own ↦
         ap (λ (s : List File). get_or s at no_file) changed
-        ∙ subst (λ (i : ℕ). get_or (set a (first + k) (grown (get_or a (first + k) no_file) (capture_record d))) i no_file ≡ grown (get_or a i no_file) (capture_record d)) own
-        (get_or-set_same a (first + k) (grown (get_or a (first + k) no_file) (capture_record d)) no_file there)
-        ∙ file_bytes (get_or a at no_file) (capture_record d) (record_at first at (k, d) ++ []) (sym (own_record first k d at own))
+        ∙ subst (λ (i : ℕ). get_or (set a (first + k) (grown (get_or a (first + k) no_file) text)) i no_file ≡ grown (get_or a i no_file) text) own
+        (get_or-set_same a (first + k) (grown (get_or a (first + k) no_file) text) no_file there)
+        ∙ file_bytes (get_or a at no_file) text (text_in first k text at) (sym (own_text first k text at own))
     | inr other ↦
         ap (λ (s : List File). get_or s at no_file) changed
-        ∙ get_or-set_other a (first + k) at (grown (get_or a (first + k) no_file) (capture_record d)) no_file (λ e. other (sym e))
-        ∙ sym (file_bytes (get_or a at no_file) (record_at first at (k, d) ++ []) [] (other_record first k d at other) ∙ grown_nil (get_or a at no_file))
+        ∙ get_or-set_other a (first + k) at (grown (get_or a (first + k) no_file) text) no_file (λ e. other (sym e))
+        ∙ sym (file_bytes (get_or a at no_file) (text_in first k text at) [] (other_text first k text at other) ∙ grown_nil (get_or a at no_file))
   ];
 }
 
-pub grow_one : (a b : Option (List File)) (first k : ℕ) (d : List ℕ) → IsThere a (first + k) → ChangesFile a b (first + k) (λ file. grown file (capture_record d))
-    → Grow a b (records_at first ((k, d) ∷ []))
-grow_one None b first k d there changed = tt
-grow_one (Some a) None first k d there changed = absurd changed
-grow_one (Some a) (Some b) first k d there changed = one_each a b first k d there changed
+pub grow_one : (a b : Option (List File)) (first k : ℕ) (text : List ℕ) → IsThere a (first + k) → ChangesFile a b (first + k) (λ file. grown file text)
+    → Grow a b (text_in first k text)
+grow_one None b first k text there changed = tt
+grow_one (Some a) None first k text there changed = absurd changed
+grow_one (Some a) (Some b) first k text there changed = one_each a b first k text there changed
 
--- by a prefix of a record
-one_part : (a b : List File) (first k n : ℕ) (d : List ℕ) → first + k < length a → b ≡ set a (first + k) (grown (get_or a (first + k) no_file) (take n (capture_record d)))
-    → GrowInPart a b (records_at first ((k, d) ∷ []))
-one_part a b first k n d there changed = record {
-  size = ap length changed ∙ length-set a (first + k) (grown (get_or a (first + k) no_file) (take n (capture_record d)));
-  each = λ at lt. elim (cases_eq (first + k) at) [
-    | inl own ↦ (
-      n,
-      ap (λ (s : List File). get_or s at no_file) changed
-          ∙ subst (λ (i : ℕ). get_or (set a (first + k) (grown (get_or a (first + k) no_file) (take n (capture_record d)))) i no_file ≡ grown (get_or a i no_file) (take n (capture_record d))) own
-          (get_or-set_same a (first + k) (grown (get_or a (first + k) no_file) (take n (capture_record d))) no_file there)
-          ∙ file_bytes (get_or a at no_file) (take n (capture_record d)) (take n (record_at first at (k, d) ++ [])) (ap (take n) (sym (own_record first k d at own))),
-    )
-    | inr other ↦ (
-      0,
-      ap (λ (s : List File). get_or s at no_file) changed
-          ∙ get_or-set_other a (first + k) at (grown (get_or a (first + k) no_file) (take n (capture_record d))) no_file (λ e. other (sym e))
-          ∙ sym (grown_nil (get_or a at no_file)),
-    )
-  ];
-}
+-- the records of pairs, and one record behind them
+pub records-push : (first : ℕ) (pairs : List (ℕ × List ℕ)) (k : ℕ) (d : List ℕ) (at : ℕ)
+    → records_at first pairs at ++ text_in first k (capture_record d) at ≡ records_at first (pairs ++ (k, d) ∷ []) at
+records-push first pairs k d at =
+    ap (λ (t : List ℕ). records_at first pairs at ++ t) (sym (append-nil (text_in first k (capture_record d) at)))
+    ∙ sym (flat_map-append (record_at first at) pairs ((k, d) ∷ []))
 
-pub grow_one_part : (a b : Option (List File)) (first k n : ℕ) (d : List ℕ) → IsThere a (first + k) → ChangesFile a b (first + k) (λ file. grown file (take n (capture_record d)))
-    → GrowPart a b (records_at first ((k, d) ∷ []))
-grow_one_part None b first k n d there changed = tt
-grow_one_part (Some a) None first k n d there changed = absurd changed
-grow_one_part (Some a) (Some b) first k n d there changed = one_part a b first k n d there changed
-
--- the records of pairs, and of pairs behind them
 pub records-append : (first : ℕ) (ps qs : List (ℕ × List ℕ)) (at : ℕ) → records_at first ps at ++ records_at first qs at ≡ records_at first (ps ++ qs) at
 records-append first ps qs at = sym (flat_map-append (record_at first at) ps qs)
+
+pub records_and-append : (first service : ℕ) (text : List ℕ) (ps qs : List (ℕ × List ℕ)) (at : ℕ)
+    → records_at first ps at ++ records_and first service text qs at ≡ records_and first service text (ps ++ qs) at
+records_and-append first service text ps qs at =
+    sym (append_assoc (records_at first ps at) (records_at first qs at) (text_in first service text at))
+    ∙ ap (λ (t : List ℕ). t ++ text_in first service text at) (records-append first ps qs at)
+
+-- The text behind the records is the one that the file ends with.
+
+same_suffix : (x y s t : List ℕ) → x ++ s ≡ y ++ t → length s ≡ length t → s ≡ t
+same_suffix x y s t e size =
+    let long : length x ≡ length y = omega (arith, length-append x s, length-append y t, ap length e, size) in
+    sym (drop-append_seam x s) ∙ ap (drop (length x)) e ∙ ap (λ (n : ℕ). drop n (y ++ t)) long ∙ drop-append_seam y t
+
+ends_same : (file was : File) (records text front t : List ℕ) → file ≡ grown was (records ++ text) → file.bytes ≡ front ++ t → length text ≡ length t → text ≡ t
+ends_same file was records text front t grew ends size =
+    same_suffix (was.bytes ++ records) front text t (append_assoc was.bytes records text ∙ sym (ap (λ (f : File). f.bytes) grew) ∙ ends) size
+
+exact_each : (a b : List File) (first at service : ℕ) (text t : List ℕ) (pairs : List (ℕ × List ℕ)) → at ≡ service → length text ≡ length t
+    → GrowEach a b (records_and first at text pairs) → (front : List ℕ) → (get_or b (first + service) no_file).bytes ≡ front ++ t
+    → GrowEach a b (records_and first service t pairs)
+exact_each a b first at service text t pairs same size grew front ends = record {
+  size = grew.size;
+  each = λ k lt. elim (cases_eq (first + service) k) [
+    | inl own ↦
+        let step : get_or b k no_file ≡ grown (get_or a k no_file) (records_at first pairs k ++ text) =
+        grew.each k lt ∙ file_bytes (get_or a k no_file) _ _ (ap (λ (s : List ℕ). records_at first pairs k ++ s) (own_text first at text k (omega (arith, same, own)))) in
+        let is : text ≡ t = ends_same (get_or b k no_file) (get_or a k no_file) (records_at first pairs k) text front t step
+        (subst (λ (i : ℕ). (get_or b i no_file).bytes ≡ front ++ t) own ends) size in
+        step ∙ file_bytes (get_or a k no_file) _ _ (ap (λ (s : List ℕ). records_at first pairs k ++ s) (is ∙ sym (own_text first service t k own)))
+    | inr other ↦
+        grew.each k lt
+        ∙ file_bytes (get_or a k no_file) _ _ (ap (λ (s : List ℕ). records_at first pairs k ++ s)
+        (other_text first at text k (λ e. other (omega (arith, same, e))) ∙ sym (other_text first service t k other)))
+  ];
+}
+
+pub grow_exact : (a b : Option (List File)) (first at service : ℕ) (text t : List ℕ) (pairs : List (ℕ × List ℕ)) → at ≡ service → length text ≡ length t
+    → Grow a b (records_and first at text pairs) → EndsWith a b (first + service) t → Grow a b (records_and first service t pairs)
+grow_exact None b first at service text t pairs same size grew ends = tt
+grow_exact (Some a) None first at service text t pairs same size grew ends = absurd grew
+grow_exact (Some a) (Some b) first at service text t pairs same size grew ends = exact_each a b first at service text t pairs same size grew ends.0 ends.1
+
+-- a file that grew by a text ends with it
+pub grown_ends : (z a b : Option (List File)) (at : ℕ) (text : List ℕ) → StayTold z a → IsThere a at → ChangesFile a b at (λ file. grown file text) → EndsWith z b at text
+grown_ends None a b at text told there changed = tt
+grown_ends (Some z) None b at text told there changed = absurd (false≢true (told refl))
+grown_ends (Some z) (Some a) None at text told there changed = absurd changed
+grown_ends (Some z) (Some a) (Some b) at text told there changed = (
+  (get_or a at no_file).bytes,
+  ap (λ (s : List File). (get_or s at no_file).bytes) changed ∙ ap (λ (f : File). f.bytes) (get_or-set_same a at (grown (get_or a at no_file) text) no_file there),
+)
+
+-- told files stay told
+pub told_same : (a b : Option (List File)) → a ≡ b → StayTold a b
+told_same a b e = λ some. sym (ap is_some e) ∙ some
+
+pub told_changed : (z a b : Option (List File)) (at : ℕ) (change : File → File) → StayTold z a → ChangesFile a b at change → StayTold z b
+told_changed z None b at change told changed = λ some. absurd (false≢true (told some))
+told_changed z (Some a) None at change told changed = absurd changed
+told_changed z (Some a) (Some b) at change told changed = λ some. refl

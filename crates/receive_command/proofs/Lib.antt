@@ -7,7 +7,7 @@ pub mod Flushed
 pub mod Pairs
 pub mod Advance
 pub mod Assembly
-pub mod Unflushed
 pub mod Ends
+pub mod Parted
 pub mod Lines
 pub mod Plans

@@ -10,7 +10,7 @@ use Rattle.pcap_file.specs.Capture.{capture_record}
 use Rattle.reception_spec.specs.Delivered.{delivered_datagrams, delivered_pairs, pairs_of_record}
 use Rattle.reception_law.specs.Words.{datagram_of, datagrams_of}
 use Rattle.reception_law.proofs.Pairs.{pairs_more, nothing_delivered, part_is}
-use Rattle.receive_command.specs.Growth.{record_at, records_at}
+use Rattle.receive_command.specs.Growth.{text_in, record_at, records_at}
 
 pub pairs_none : (plan : PlanFields) → delivered_pairs plan [] ≡ []
 pairs_none plan = refl
@@ -49,3 +49,21 @@ pub none_before : (first at : ℕ) (pairs : List (ℕ × List ℕ)) → at < fir
 none_before first at [] lt = refl
 none_before first at (pair ∷ pairs) lt =
     ap₂ (λ a b. a ++ b) (ap (λ (b : Bool). cond b (capture_record pair.1) []) (ne_eqb (first + pair.0) at (λ e. omega (arith, e, lt)))) (none_before first at pairs lt)
+
+pub text_before : (first service : ℕ) (text : List ℕ) (at : ℕ) → at < first → text_in first service text at ≡ []
+text_before first service text at lt = ap (λ (b : Bool). cond b text []) (ne_eqb (first + service) at (λ e. omega (arith, e, lt)))
+
+-- the places from the first are the services
+same_place : (first a b : ℕ) → (first + a == first + b) ≡ (a == b)
+same_place first a b = elim (cases_eq a b) [
+  | inl same ↦ eq-eqb (first + a) (first + b) (ap (λ (n : ℕ). first + n) same) ∙ sym (eq-eqb a b same)
+  | inr other ↦ ne_eqb (first + a) (first + b) (λ e. other (omega (arith, e))) ∙ sym (ne_eqb a b other)
+]
+
+pub text_from : (first service : ℕ) (text : List ℕ) (k : ℕ) → text_in first service text (first + k) ≡ text_in 0 service text k
+text_from first service text k =
+    ap (λ (b : Bool). cond b text []) (same_place first service k ∙ sym (ap (λ (n : ℕ). n == k) (omega arith)))
+
+pub records_from : (first k : ℕ) (pairs : List (ℕ × List ℕ)) → records_at first pairs (first + k) ≡ records_at 0 pairs k
+records_from first k [] = refl
+records_from first k (pair ∷ pairs) = ap₂ (λ a b. a ++ b) (text_from first pair.0 (capture_record pair.1) k) (records_from first k pairs)

@@ -1,11 +1,13 @@
 -- How a reception into files ends, over an input, a rack and an output that may tell their content.
-use Rattle.std.specs.Prelude.{◌≡◌, ℕ, ◌<◌, Bool, true, false, List, length, take, Option}
+use Rattle.std.specs.Prelude.{◌≡◌, ℕ, ◌<◌, true, List, [], ◌∷◌, ◌++◌, length, take, Option}
 use Rattle.std.specs.Io.KnownBytes.{Appends, IsAtEnd}
 use Rattle.wire_spec.specs.Content.{File}
 use Rattle.ts_spec.specs.Recording.{Record}
 use Rattle.plan_spec.specs.Plan.{PlanFields}
+use Rattle.reception_spec.specs.Delivered.{delivered_pairs, pairs_of_record}
+use Rattle.pcap_file.specs.Capture.{capture_record}
 use Rattle.demux_core.specs.Receiving.{ReceiverState, HasReceived}
-use Rattle.receive_command.specs.Files.{AddsCaptures, AddsParts, capture_of}
+use Rattle.receive_command.specs.Files.{AddsCaptures, AddsHeadsPart, AddsPairs, AddsPairsAnd, AddsFlushed, capture_of}
 use Rattle.receive_command.specs.Reading.{HasRead, records_in, most_records}
 use Rattle.receive_command.specs.Report.{IsReport}
 
@@ -24,24 +26,60 @@ pub record WritesWhole (plan : PlanFields) (receiver : ReceiverState) (left now 
   pub tail_is : tail ≡ length ends.tail
   pub received : HasReceived plan (records_in plan ends.pieces) receiver
 
--- the reading stopped, and the files are the captures of what was delivered until then
+-- the input could not be read on: fewer records than the most were read, and less than one behind them; each file has what these
+-- records give, and nothing is flushed
 pub record EndsFront (plan : PlanFields) (left now : Option (List ℕ)) (old new : Option (List File)) : Type 0 where
   pub pieces : List (List ℕ)
   pub behind : List ℕ
   pub read : HasRead plan.recording left now pieces behind
-  pub files : AddsCaptures false (capture_of (records_in plan pieces)) plan.services old new
+  pub fewer : length pieces < most_records
+  pub files : AddsPairs (delivered_pairs plan (records_in plan pieces)) plan.services old new
 
--- the same behind the last record that is read
+-- the most records were read, and nothing behind them; each file has what these records give, and nothing is flushed
 pub record EndsAtLimit (plan : PlanFields) (left now : Option (List ℕ)) (old new : Option (List File)) : Type 0 where
-  pub ends : EndsFront plan left now old new
-  pub limit : length ends.pieces ≡ most_records
+  pub pieces : List (List ℕ)
+  pub read : HasRead plan.recording left now pieces []
+  pub limit : length pieces ≡ most_records
+  pub files : AddsPairs (delivered_pairs plan (records_in plan pieces)) plan.services old new
 
--- some of the input was read, and files of the first services have each a prefix of the capture of what it delivers
-pub record EndsPart (plan : PlanFields) (left now : Option (List ℕ)) (old new : Option (List File)) : Type 0 where
+-- the files stopped at the head of one of them: nothing was read, the heads before it are whole, and of this one less than all was written
+pub record StopsInHeads (plan : PlanFields) (left now : Option (List ℕ)) (old new : Option (List File)) : Type 0 where
+  pub unread : now ≡ left
+  pub count : ℕ
+  pub files : AddsHeadsPart plan.services count old new
+
+-- the files stopped at a pair of the last record that was read: each file has its datagrams among the pairs before it, that of its
+-- service also less than all of the pair's capture record, and nothing is flushed
+pub record StopsInRecord (plan : PlanFields) (left now : Option (List ℕ)) (old new : Option (List File)) : Type 0 where
+  pub pieces : List (List ℕ)
+  pub piece : List ℕ
+  pub read : HasRead plan.recording left now (pieces ++ piece ∷ []) []
+  pub fewer : length pieces < most_records
+  pub front : List (ℕ × List ℕ)
+  pub service : ℕ
+  pub datagram : List ℕ
+  pub rest : List (ℕ × List ℕ)
+  pub pairs : pairs_of_record plan (records_in plan (pieces ++ piece ∷ [])) (length pieces) ≡ front ++ (service, datagram) ∷ rest
+  pub count : ℕ
+  pub less : count < length (capture_record datagram)
+  pub files : AddsPairsAnd service (take count (capture_record datagram)) (delivered_pairs plan (records_in plan pieces) ++ front) plan.services old new
+
+-- the files stopped at the flush of one of them: the input was read to its end, all files are whole, and those before this one are flushed
+pub record StopsInFlush (plan : PlanFields) (left now : Option (List ℕ)) (old new : Option (List File)) : Type 0 where
   pub pieces : List (List ℕ)
   pub behind : List ℕ
   pub read : HasRead plan.recording left now pieces behind
-  pub files : AddsParts (capture_of (records_in plan pieces)) plan.services old new
+  pub fewer : length pieces < most_records
+  pub at_end : IsAtEnd now
+  pub count : ℕ
+  pub less : count < length plan.services
+  pub files : AddsFlushed count (capture_of (records_in plan pieces)) plan.services old new
+
+-- a file could not be added, written or flushed
+pub data EndsInFiles (plan : PlanFields) (left now : Option (List ℕ)) (old new : Option (List File)) : Type 0 where
+  in_heads : StopsInHeads plan left now old new → EndsInFiles plan left now old new
+  in_record : StopsInRecord plan left now old new → EndsInFiles plan left now old new
+  in_flush : StopsInFlush plan left now old new → EndsInFiles plan left now old new
 
 -- an output grew by the report of the records, with so many bytes behind them
 pub record Reports (plan : PlanFields) (records : List Record) (tail : ℕ) (old new : Option (List ℕ)) : Type 0 where

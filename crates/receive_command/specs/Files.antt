@@ -1,10 +1,11 @@
 -- The files of services: a capture for each, in the order of the services.
-use Rattle.std.specs.Prelude.{◌≡◌, ◌⊎◌, ℕ, ◌+◌, ◌<◌, Bool, false, List, [], ◌∷◌, ◌++◌, length, take, drop, map, codes, if◌then◌else◌, All, Option, None, Some, ⊤}
+use Rattle.std.specs.Prelude.{◌≡◌, ◌⊎◌, ℕ, ◌+◌, ◌<◌, ◌==◌, Bool, true, false, List, [], ◌∷◌, ◌++◌, length, take, drop, map, slice_get, codes, if◌then◌else◌, Option, None, Some, ⊤}
 use Rattle.wire_spec.specs.Content.{File, AddsFile, Stays}
 use Rattle.ts_spec.specs.Recording.{Record}
 use Rattle.plan_spec.specs.Plan.{ServiceFields}
 use Rattle.reception_spec.specs.Delivered.{delivered_datagrams}
 use Rattle.pcap_file.specs.Capture.{capture_head, capture_text}
+use Rattle.receive_command.specs.Growth.{records_at, records_and}
 
 -- the name of the file of a service
 abbrev pub file_name : List ℕ → List ℕ
@@ -64,22 +65,39 @@ pub record AddsParts (text : ServiceFields → List ℕ) (services : List Servic
 abbrev pub file_of : List ℕ → List ℕ → File
 file_of name bytes = record { name = file_name name; bytes = bytes; flushed = 0 }
 
--- no file was added, or one of that name with a prefix of its head
+-- no file was added, or one of that name with less than its head
 abbrev pub AddsPart : List ℕ → Option (List File) → Option (List File) → Type 0
-AddsPart name old new = Stays old new ⊎ ((n : ℕ) × AddsFile old new (file_of name (take n capture_head)))
+AddsPart name old new = Stays old new ⊎ ((n : ℕ) × (n < length capture_head) × AddsFile old new (file_of name (take n capture_head)))
 
--- nothing of these files is flushed
-abbrev pub AreUnflushed : List File → Type 0
-AreUnflushed files = All (λ file. file.flushed ≡ 0) files
+-- the files of the first services, so many, with their heads, and behind them no file or that of the next service with less than its head
+pub record AddsHeadsPart (services : List ServiceFields) (count : ℕ) (old new : Option (List File)) : Type 0 where
+  pub service : ServiceFields
+  pub next : slice_get services count ≡ Some service
+  pub files : AddsCaptures false head_of (take count services) old new
+      ⊎ ((n : ℕ) × (n < length capture_head) × AddsFiles old new (map (file_with false head_of) (take count services) ++ file_of service.name (take n capture_head) ∷ []))
 
--- of the files that were added, nothing is flushed behind the first ones, which are so many
-abbrev pub UnflushedFrom : ℕ → Option (List File) → Option (List File) → Type 0
-UnflushedFrom count None new = ⊤
-UnflushedFrom count (Some old) None = ⊥
-UnflushedFrom count (Some old) (Some new) = AreUnflushed (drop (length old + count) new)
+-- the files of all services, the first of them with the text of this number, the next with that of the next number; nothing is flushed
+abbrev pub files_from : ℕ → (ℕ → List ℕ) → List ServiceFields → List File
+files_from k text [] = []
+files_from k text (service ∷ services) = file_of service.name (text k) ∷ files_from (k + 1) text services
 
--- not all files of so many services are flushed: behind the first ones, which are fewer, nothing is
-pub record IsUnflushed (services : ℕ) (old new : Option (List File)) : Type 0 where
-  pub count : ℕ
-  pub fewer : count < services
-  pub unflushed : UnflushedFrom count old new
+-- the capture of the datagrams of service k among pairs of service and datagram
+abbrev pub capture_of_pairs : List (ℕ × List ℕ) → ℕ → List ℕ
+capture_of_pairs pairs k = capture_head ++ records_at 0 pairs k
+
+-- and behind it, in the file of one service alone, a text
+abbrev pub capture_and : ℕ → List ℕ → List (ℕ × List ℕ) → ℕ → List ℕ
+capture_and service text pairs k = capture_head ++ records_and 0 service text pairs k
+
+-- the files of all services were added, each with the datagrams of its service among the pairs; nothing is flushed
+abbrev pub AddsPairs : List (ℕ × List ℕ) → List ServiceFields → Option (List File) → Option (List File) → Type 0
+AddsPairs pairs services old new = AddsFiles old new (files_from 0 (capture_of_pairs pairs) services)
+
+-- the same, and in the file of one service a text behind them
+abbrev pub AddsPairsAnd : ℕ → List ℕ → List (ℕ × List ℕ) → List ServiceFields → Option (List File) → Option (List File) → Type 0
+AddsPairsAnd service text pairs services old new = AddsFiles old new (files_from 0 (capture_and service text pairs) services)
+
+-- the files of all services were added, each with its text, and the first of them, so many, are flushed
+abbrev pub AddsFlushed : ℕ → (ServiceFields → List ℕ) → List ServiceFields → Option (List File) → Option (List File) → Type 0
+AddsFlushed count text services old new =
+    AddsFiles old new (take count (map (file_with true text) services) ++ drop count (map (file_with false text) services))

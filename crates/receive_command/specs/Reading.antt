@@ -1,13 +1,14 @@
 -- What was read of a recording, and what files of a rack have of it.
-use Rattle.std.specs.Prelude.{◌≡◌, ℕ, ◌^◌, ◌<◌, List, ◌++◌, length, All, Option}
+use Rattle.std.specs.Prelude.{◌≡◌, ℕ, ◌^◌, ◌<◌, List, [], ◌∷◌, ◌++◌, length, take, All, Option}
 use Rattle.std.specs.Io.KnownBytes.{Consumes, IsAtEnd}
 use Rattle.wire_spec.specs.Lists.{joined}
 use Rattle.wire_spec.specs.Content.{File}
 use Rattle.ts_spec.specs.Recording.{RecordingForm, record_size, Record, records_of}
 use Rattle.plan_spec.specs.Plan.{PlanFields}
-use Rattle.reception_spec.specs.Delivered.{delivered_pairs}
+use Rattle.reception_spec.specs.Delivered.{delivered_pairs, pairs_of_record}
+use Rattle.pcap_file.specs.Capture.{capture_record}
 use Rattle.demux_core.specs.Receiving.{ReceiverState, HasReceived}
-use Rattle.receive_command.specs.Growth.{Grow, GrowPart, records_at}
+use Rattle.receive_command.specs.Growth.{Grow, records_at, records_and}
 
 -- the most records of a recording
 abbrev pub most_records : ℕ
@@ -37,21 +38,33 @@ pub record ReadsWhole (plan : PlanFields) (receiver : ReceiverState) (left now :
   pub files : Grow old new (text_at plan first pieces)
   pub received : HasReceived plan (records_in plan pieces) receiver
 
--- the reading stopped; the files grew by all that was delivered until then
+-- the reading stopped: fewer records than the most were read, and the files grew by what these give
 pub record ReadsFront (plan : PlanFields) (left now : Option (List ℕ)) (old new : Option (List File)) (first : ℕ) : Type 0 where
   pub pieces : List (List ℕ)
   pub behind : List ℕ
   pub read : HasRead plan.recording left now pieces behind
+  pub fewer : length pieces < most_records
   pub files : Grow old new (text_at plan first pieces)
 
--- the same behind the last record that is read
+-- the most records were read, and nothing behind them; the files grew by what these give
 pub record ReadsToLimit (plan : PlanFields) (left now : Option (List ℕ)) (old new : Option (List File)) (first : ℕ) : Type 0 where
-  pub reads : ReadsFront plan left now old new first
-  pub limit : length reads.pieces ≡ most_records
-
--- the writing stopped; each file grew by a prefix of what was delivered
-pub record ReadsPart (plan : PlanFields) (left now : Option (List ℕ)) (old new : Option (List File)) (first : ℕ) : Type 0 where
   pub pieces : List (List ℕ)
-  pub behind : List ℕ
-  pub read : HasRead plan.recording left now pieces behind
-  pub files : GrowPart old new (text_at plan first pieces)
+  pub read : HasRead plan.recording left now pieces []
+  pub limit : length pieces ≡ most_records
+  pub files : Grow old new (text_at plan first pieces)
+
+-- the writing stopped at a pair of the last record that was read: the files grew by the records of the pairs before it, and that of its
+-- service also by less than its record
+pub record ReadsToStop (plan : PlanFields) (left now : Option (List ℕ)) (old new : Option (List File)) (first : ℕ) : Type 0 where
+  pub pieces : List (List ℕ)
+  pub piece : List ℕ
+  pub read : HasRead plan.recording left now (pieces ++ piece ∷ []) []
+  pub fewer : length pieces < most_records
+  pub front : List (ℕ × List ℕ)
+  pub service : ℕ
+  pub datagram : List ℕ
+  pub rest : List (ℕ × List ℕ)
+  pub pairs : pairs_of_record plan (records_in plan (pieces ++ piece ∷ [])) (length pieces) ≡ front ++ (service, datagram) ∷ rest
+  pub count : ℕ
+  pub less : count < length (capture_record datagram)
+  pub files : Grow old new (records_and first service (take count (capture_record datagram)) (delivered_pairs plan (records_in plan pieces) ++ front))

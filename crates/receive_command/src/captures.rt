@@ -1,13 +1,13 @@
 //! A recording -> a capture for each service: files added, written record by record, flushed.
-ghost use Rattle.std.specs.Prelude.{◌≡◌, ◌⊎◌, ℕ, ◌+◌, ◌*◌, ◌^◌, ◌<◌, ◌≤◌, true, List, [], length};
-ghost use Rattle.wire_spec.specs.Causes.{Rose, RoseBy, raised};
+ghost use Rattle.std.specs.Prelude.{◌≡◌, ◌≢◌, ◌⊎◌, ℕ, ◌+◌, ◌*◌, ◌^◌, ◌<◌, ◌≤◌, true, false, List, [], length};
+ghost use Rattle.wire_spec.specs.Causes.{Rose, raised};
 ghost use Rattle.ts_spec.specs.Recording.{record_size, Record as ReadRecord};
 ghost use Rattle.service_plan.specs.PlanView.{plan_fields};
 ghost use Rattle.demux_core.specs.Receiving.{HasReceived};
-ghost use Rattle.receive_command.specs.Files.{AddsHeads, IsUnflushed};
+ghost use Rattle.receive_command.specs.Files.{AddsHeads};
 ghost use Rattle.receive_command.specs.Flushes.{Flush};
 ghost use Rattle.receive_command.specs.Reading.{most_records};
-ghost use Rattle.receive_command.specs.Ends.{WritesWhole, EndsFront, EndsAtLimit, EndsPart};
+ghost use Rattle.receive_command.specs.Ends.{WritesWhole, EndsFront, EndsAtLimit, EndsInFiles};
 
 use crate::files::{add_files, flush_files};
 use crate::reading::{Ending, read_records};
@@ -46,18 +46,22 @@ pub(crate) fn write_captures<I: Source, R: Rack>(
     requires fresh { HasReceived (plan_fields plan.now) [] receiver.old }
     requires some { 0 < length plan.now.services }
     requires few { length plan.now.services ≤ 64 }
-    ensures whole { (tail : ℕ) → result ≡ CapturesEnd.Whole tail → WritesWhole (plan_fields plan.now) receiver.new (I.left input.old) (I.left input.new) (R.files rack.old) (R.files rack.new) tail }
-    ensures read { (tail : ℕ) → result ≡ CapturesEnd.Whole tail → I.ended input.new ≡ true }
-    ensures fewer { (tail : ℕ) → result ≡ CapturesEnd.Whole tail → (n : ℕ) × (n < record_size (plan_fields plan.now).recording * most_records) × (I.taken input.new ≡ raised (I.taken input.old) n) }
-    ensures front { result ≡ CapturesEnd.SourceFault → EndsFront (plan_fields plan.now) (I.left input.old) (I.left input.new) (R.files rack.old) (R.files rack.new) }
-    ensures limit { result ≡ CapturesEnd.TooLong → EndsAtLimit (plan_fields plan.now) (I.left input.old) (I.left input.new) (R.files rack.old) (R.files rack.new) }
-    ensures part { result ≡ CapturesEnd.RackFault → EndsPart (plan_fields plan.now) (I.left input.old) (I.left input.new) (R.files rack.old) (R.files rack.new) }
-    ensures unflushed { result ≡ CapturesEnd.RackFault → IsUnflushed (length (plan_fields plan.now).services) (R.files rack.old) (R.files rack.new) }
-    ensures memory { result ≡ CapturesEnd.OutOfMemory → (input.new ≡ input.old) × ((heads : AddsHeads (plan_fields plan.now).services (R.files rack.old) (R.files rack.new))
-        × (R.count rack.new ≡ R.count rack.old + heads.count)) }
-    ensures source { result ≡ CapturesEnd.SourceFault → Rose (I.faults input.old) (I.faults input.new) }
-    ensures file { result ≡ CapturesEnd.RackFault → Rose (R.faults rack.old) (R.faults rack.new) }
-    ensures too_long { result ≡ CapturesEnd.TooLong → RoseBy (I.taken input.old) (I.taken input.new) (record_size (plan_fields plan.now).recording * most_records) }
+    ensures whole { (tail : ℕ) → result ≡ CapturesEnd.Whole tail → WritesWhole (plan_fields plan.now) receiver.new (I.told input.old).left (I.told input.new).left (R.told rack.old).files (R.told rack.new).files tail }
+    ensures read { (tail : ℕ) → result ≡ CapturesEnd.Whole tail → (I.told input.new).ended ≡ true }
+    ensures fewer { (tail : ℕ) → result ≡ CapturesEnd.Whole tail → (n : ℕ) × (n < record_size (plan_fields plan.now).recording * most_records) × ((I.told input.new).taken ≡ raised (I.told input.old).taken n) }
+    ensures front { result ≡ CapturesEnd.SourceFault → EndsFront (plan_fields plan.now) (I.told input.old).left (I.told input.new).left (R.told rack.old).files (R.told rack.new).files }
+    ensures front_taken { result ≡ CapturesEnd.SourceFault → (n : ℕ) × (n < record_size (plan_fields plan.now).recording * most_records) × ((I.told input.new).taken ≡ raised (I.told input.old).taken n) }
+    ensures not_ended { result ≡ CapturesEnd.SourceFault → (I.told input.old).ended ≡ false → (I.told input.new).ended ≡ false }
+    ensures limit { result ≡ CapturesEnd.TooLong → EndsAtLimit (plan_fields plan.now) (I.told input.old).left (I.told input.new).left (R.told rack.old).files (R.told rack.new).files }
+    ensures limit_taken { result ≡ CapturesEnd.TooLong → (I.told input.new).taken ≡ raised (I.told input.old).taken (record_size (plan_fields plan.now).recording * most_records) }
+    ensures files { result ≡ CapturesEnd.RackFault → EndsInFiles (plan_fields plan.now) (I.told input.old).left (I.told input.new).left (R.told rack.old).files (R.told rack.new).files }
+    ensures files_taken { result ≡ CapturesEnd.RackFault → (n : ℕ) × (n ≤ record_size (plan_fields plan.now).recording * most_records) × ((I.told input.new).taken ≡ raised (I.told input.old).taken n) }
+    ensures memory { result ≡ CapturesEnd.OutOfMemory → (input.new ≡ input.old) × ((heads : AddsHeads (plan_fields plan.now).services (R.told rack.old).files (R.told rack.new).files)
+        × ((R.told rack.new).count ≡ (R.told rack.old).count + heads.count)) }
+    ensures source { result ≡ CapturesEnd.SourceFault → Rose (I.told input.old).faults (I.told input.new).faults }
+    ensures file { result ≡ CapturesEnd.RackFault → Rose (R.told rack.old).faults (R.told rack.new).faults }
+    ensures input_kept { result ≢ CapturesEnd.SourceFault → (I.told input.new).faults ≡ (I.told input.old).faults }
+    ensures rack_kept { result ≢ CapturesEnd.RackFault → (R.told rack.new).faults ≡ (R.told rack.old).faults }
 {
     let first = match add_files(alloc, &plan.services, rack) {
         Ok(first) => first,
@@ -82,14 +86,15 @@ fn end_captures<R: Rack>(
 ) -> CapturesEnd
     requires is_open { receiver.old.is_open ≡ true }
     requires same { receiver.old.plan ≡ plan_fields plan.now }
-    requires there { first + length plan.now.services ≤ R.count rack.old }
+    requires there { first + length plan.now.services ≤ (R.told rack.old).count }
     requires places { first + length plan.now.services ≤ 2 ^ 32 }
     requires few { length plan.now.services ≤ 64 }
     ensures received { (records : List ReadRecord) → HasReceived (plan_fields plan.now) records receiver.old → HasReceived (plan_fields plan.now) records receiver.new }
     ensures tail { (bytes : ℕ) → result ≡ CapturesEnd.Whole bytes → tail ≡ bytes }
-    ensures flushed { (bytes : ℕ) → result ≡ CapturesEnd.Whole bytes → Flush (R.files rack.old) (R.files rack.new) first (first + length plan.now.services) }
-    ensures stopped { result ≡ CapturesEnd.RackFault → (count : ℕ) × (count < length plan.now.services) × Flush (R.files rack.old) (R.files rack.new) first (first + count) }
-    ensures file { result ≡ CapturesEnd.RackFault → Rose (R.faults rack.old) (R.faults rack.new) }
+    ensures flushed { (bytes : ℕ) → result ≡ CapturesEnd.Whole bytes → Flush (R.told rack.old).files (R.told rack.new).files first (first + length plan.now.services) }
+    ensures stopped { result ≡ CapturesEnd.RackFault → (count : ℕ) × (count < length plan.now.services) × Flush (R.told rack.old).files (R.told rack.new).files first (first + count) }
+    ensures file { result ≡ CapturesEnd.RackFault → Rose (R.told rack.old).faults (R.told rack.new).faults }
+    ensures kept { (bytes : ℕ) → result ≡ CapturesEnd.Whole bytes → (R.told rack.new).faults ≡ (R.told rack.old).faults }
     ensures kinds { (result ≡ CapturesEnd.Whole tail) ⊎ (result ≡ CapturesEnd.RackFault) }
 {
     let services = plan.services.len() as u32;

@@ -5,7 +5,7 @@ ghost use Rattle.wire_spec.specs.Content.{Stays, AddsFile};
 ghost use Rattle.ipe_io.specs.Counts.{HasAddCause};
 ghost use Rattle.pcap_file.specs.Capture.{capture_head};
 ghost use Rattle.service_plan.specs.Parts.{service_seen};
-ghost use Rattle.receive_command.specs.Files.{file_name as name_of_file, file_of, AddsPart, AddsCaptures, AddsHeads, AddsParts, UnflushedFrom, head_of};
+ghost use Rattle.receive_command.specs.Files.{file_name as name_of_file, file_of, AddsPart, AddsCaptures, AddsHeads, AddsHeadsPart, head_of};
 ghost use Rattle.receive_command.specs.Flushes.{Flush};
 
 use ipe_io::{AddFault, Failed, OutOfMemory, Rack, put_file};
@@ -24,12 +24,12 @@ fn file_name(alloc: Global, name: &str) -> Result<String, OutOfMemory>
 
 /// Adds the file of a service, and writes its head.
 fn add_file<R: Rack>(alloc: Global, name: &str, rack: &mut R) -> Result<u32, AddFault>
-    ensures place { IfOk result (λ at. (at ≡ R.count rack.old) × (at < 2 ^ 32)) }
-    ensures count { OnOk result (R.count rack.new ≡ R.count rack.old + 1) }
-    ensures written { OnOk result (AddsFile (R.files rack.old) (R.files rack.new) (file_of name.now capture_head)) }
-    ensures failed { IsErrOf result AddFault.Failed → AddsPart name.now (R.files rack.old) (R.files rack.new) }
-    ensures memory { IsErrOf result AddFault.OutOfMemory → (R.count rack.new ≡ R.count rack.old) × Stays (R.files rack.old) (R.files rack.new) }
-    ensures cause { HasAddCause (R.faults rack.old) (R.faults rack.new) result }
+    ensures place { IfOk result (λ at. (at ≡ (R.told rack.old).count) × (at < 2 ^ 32)) }
+    ensures count { OnOk result ((R.told rack.new).count ≡ (R.told rack.old).count + 1) }
+    ensures written { OnOk result (AddsFile (R.told rack.old).files (R.told rack.new).files (file_of name.now capture_head)) }
+    ensures failed { IsErrOf result AddFault.Failed → AddsPart name.now (R.told rack.old).files (R.told rack.new).files }
+    ensures memory { IsErrOf result AddFault.OutOfMemory → ((R.told rack.new).count ≡ (R.told rack.old).count) × Stays (R.told rack.old).files (R.told rack.new).files }
+    ensures cause { HasAddCause (R.told rack.old).faults (R.told rack.new).faults result }
 {
     let text = match file_name(alloc, name) {
         Ok(text) => text,
@@ -54,15 +54,14 @@ pub(crate) fn add_files<R: Rack>(
     rack: &mut R,
 ) -> Result<u32, AddFault>
     requires some { 0 < length services.now }
-    ensures place { IfOk result (λ first. first ≡ R.count rack.old) }
+    ensures place { IfOk result (λ first. first ≡ (R.told rack.old).count) }
     ensures places { IfOk result (λ first. first + length services.now ≤ 2 ^ 32) }
-    ensures count { OnOk result (R.count rack.new ≡ R.count rack.old + length services.now) }
-    ensures written { OnOk result (AddsCaptures false head_of (map service_seen services.now) (R.files rack.old) (R.files rack.new)) }
-    ensures failed { IsErrOf result AddFault.Failed → AddsParts head_of (map service_seen services.now) (R.files rack.old) (R.files rack.new) }
-    ensures unflushed { IsErrOf result AddFault.Failed → UnflushedFrom 0 (R.files rack.old) (R.files rack.new) }
-    ensures memory { IsErrOf result AddFault.OutOfMemory → (heads : AddsHeads (map service_seen services.now) (R.files rack.old) (R.files rack.new))
-        × (R.count rack.new ≡ R.count rack.old + heads.count) }
-    ensures cause { HasAddCause (R.faults rack.old) (R.faults rack.new) result }
+    ensures count { OnOk result ((R.told rack.new).count ≡ (R.told rack.old).count + length services.now) }
+    ensures written { OnOk result (AddsCaptures false head_of (map service_seen services.now) (R.told rack.old).files (R.told rack.new).files) }
+    ensures failed { IsErrOf result AddFault.Failed → (count : ℕ) × AddsHeadsPart (map service_seen services.now) count (R.told rack.old).files (R.told rack.new).files }
+    ensures memory { IsErrOf result AddFault.OutOfMemory → (heads : AddsHeads (map service_seen services.now) (R.told rack.old).files (R.told rack.new).files)
+        × ((R.told rack.new).count ≡ (R.told rack.old).count + heads.count) }
+    ensures cause { HasAddCause (R.told rack.old).faults (R.told rack.new).faults result }
 {
     let first = match add_file(alloc, services.at(0).name.text(), rack) {
         Ok(at) => at,
@@ -79,11 +78,11 @@ pub(crate) fn add_files<R: Rack>(
 
 /// Flushes the files of all services, the first of them at a place.
 pub(crate) fn flush_files<R: Rack>(rack: &mut R, first: u32, services: u32) -> Result<(), Failed>
-    requires there { first + services ≤ R.count rack.old }
+    requires there { first + services ≤ (R.told rack.old).count }
     requires places { first + services ≤ 2 ^ 32 }
-    ensures flushed { OnOk result (Flush (R.files rack.old) (R.files rack.new) first (first + services)) }
-    ensures stopped { OnErr result ((count : ℕ) × (count < services) × Flush (R.files rack.old) (R.files rack.new) first (first + count)) }
-    ensures cause { HasCause (R.faults rack.old) (R.faults rack.new) result }
+    ensures flushed { OnOk result (Flush (R.told rack.old).files (R.told rack.new).files first (first + services)) }
+    ensures stopped { OnErr result ((count : ℕ) × (count < services) × Flush (R.told rack.old).files (R.told rack.new).files first (first + count)) }
+    ensures cause { HasCause (R.told rack.old).faults (R.told rack.new).faults result }
 {
     for k in 0..services {
         match rack.flush(first + k) {

@@ -1,6 +1,7 @@
 //! The files of a rack as an outlet: one record of a capture for each datagram, in the file of its service.
 ghost use Rattle.std.specs.Prelude.{◌≡◌, ℕ, ◌+◌, ◌≤◌, ◌^◌, false, List, Option};
 ghost use Rattle.wire_spec.specs.Content.{File};
+ghost use Rattle.receive_command.specs.Growth.{StayTold};
 
 use crate::records::put_datagram;
 use ipe_io::{Failed, Outlet, Rack};
@@ -33,10 +34,21 @@ impl Began for Brand {
     ghost files = { None };
 }
 
-/// An outlet over the files of services, which stand one behind another in a rack, that of service 0 first.
+/// How far an outlet has come.
+#[derive(Clone, Copy, Debug, PartialEq, Eq)]
+pub(crate) enum Progress {
+    /// All that it was given is written.
+    Whole,
+    /// The rack failed at a record: of which service, and how many bytes of the record are in its file.
+    Stopped(u32, usize),
+    /// It was asked again after that.
+    Passed,
+}
+
+/// An outlet over the files of services, which stand one after another in a rack, that of service 0 first.
 ///
-/// It answers Ok also where the rack fails: it keeps that, and writes nothing from then on. So the pairs that it was given tell
-/// what the files hold.
+/// It fails where the rack fails, and keeps where that was. The receiver asks no more then; asked again, it would write nothing,
+/// and stand for nothing.
 #[derive(Drop)]
 pub(crate) struct RackOutlet<'r, R: Rack, B: Began> {
     /// The rack.
@@ -45,38 +57,45 @@ pub(crate) struct RackOutlet<'r, R: Rack, B: Began> {
     pub(crate) first: u32,
     /// How many files there are.
     pub(crate) services: u32,
-    /// Whether the rack has failed.
-    pub(crate) failed: bool,
+    /// How far it has come.
+    pub(crate) progress: Progress,
     /// What it began with.
     pub(crate) began: PhantomData<B>,
-    pub(crate) ghost there: { first + services ≤ R.count rack.now },
+    pub(crate) ghost there: { first + services ≤ (R.told rack.now).count },
     pub(crate) ghost places: { first + services ≤ 2 ^ 32 },
+    pub(crate) ghost told: { StayTold B.files (R.told rack.now).files },
 }
 
 impl<'r, R: Rack, B: Began> Outlet for RackOutlet<'r, R, B> {
-    ghost use Rattle.std.specs.Prelude.{⊤};
-    ghost use Rattle.receive_command.specs.Outlets.{StandsFor as Stands};
+    ghost use Rattle.receive_command.specs.Outlets.{StandsFor as Stands, Refuses, failures};
 
     ghost services = { λ o. o.services };
 
-    ghost faults = { λ o. 0 };
+    ghost faults = { λ o. failures o.progress };
 
     ghost StandsFor = { λ o pairs. Stands
         (record { first = B.first; count = B.count; faults = B.faults; files = B.files })
-        (record { first = o.first; count = R.count o.rack.now; faults = R.faults o.rack.now; files = R.files o.rack.now })
-        o.failed o.rack.ghost_name pairs };
+        (record { first = o.first; count = (R.told o.rack.now).count; faults = (R.told o.rack.now).faults; files = (R.told o.rack.now).files })
+        o.progress o.rack.ghost_name pairs };
 
-    ghost Refused = { λ o service datagram. ⊤ };
+    ghost Refused = { λ o service datagram. Refuses
+        (record { first = B.first; count = B.count; faults = B.faults; files = B.files })
+        (record { first = o.first; count = (R.told o.rack.now).count; faults = (R.told o.rack.now).faults; files = (R.told o.rack.now).files })
+        o.progress service datagram };
 
     fn deliver(&mut self, service: u32, datagram: &[u8]) -> Result<(), Failed> {
-        if self.failed {
-            return Ok(());
+        match self.progress {
+            Progress::Whole => {}
+            Progress::Stopped(_, _) | Progress::Passed => {
+                self.progress = Progress::Passed;
+                return Ok(());
+            }
         }
         match put_datagram(self.rack, self.first + service, datagram) {
             Ok(()) => Ok(()),
-            Err(Failed) => {
-                self.failed = true;
-                Ok(())
+            Err(put) => {
+                self.progress = Progress::Stopped(service, put);
+                Err(Failed)
             }
         }
     }

@@ -1,10 +1,10 @@
 //! A recording -> the datagrams of all services, record by record, written to their files.
-ghost use Rattle.std.specs.Prelude.{◌≡◌, ◌≢◌, ℕ, ◌+◌, ◌*◌, ◌^◌, ◌<◌, ◌≤◌, true, [], length};
-ghost use Rattle.wire_spec.specs.Causes.{Rose, RoseBy, raised};
+ghost use Rattle.std.specs.Prelude.{◌≡◌, ◌≢◌, ℕ, ◌+◌, ◌*◌, ◌^◌, ◌<◌, ◌≤◌, true, false, [], length};
+ghost use Rattle.wire_spec.specs.Causes.{Rose, raised};
 ghost use Rattle.ts_spec.specs.Recording.{record_size};
 ghost use Rattle.service_plan.specs.PlanView.{plan_fields};
 ghost use Rattle.demux_core.specs.Receiving.{HasReceived};
-ghost use Rattle.receive_command.specs.Reading.{ReadsWhole, ReadsFront, ReadsToLimit, ReadsPart, most_records};
+ghost use Rattle.receive_command.specs.Reading.{ReadsWhole, ReadsFront, ReadsToLimit, ReadsToStop, most_records};
 
 use crate::steps::take_record;
 use demux_core::Receiver;
@@ -37,21 +37,25 @@ pub(crate) fn read_records<I: Source, R: Rack>(
 ) -> Ending
     requires is_open { receiver.old.is_open ≡ true }
     requires fresh { HasReceived (plan_fields plan.now) [] receiver.old }
-    requires there { first + length plan.now.services ≤ R.count rack.old }
+    requires there { first + length plan.now.services ≤ (R.told rack.old).count }
     requires places { first + length plan.now.services ≤ 2 ^ 32 }
     requires few { length plan.now.services ≤ 64 }
-    ensures whole { (tail : ℕ) → result ≡ Ending.Whole tail → ReadsWhole (plan_fields plan.now) receiver.new (I.left input.old) (I.left input.new) (R.files rack.old) (R.files rack.new) first tail }
+    ensures whole { (tail : ℕ) → result ≡ Ending.Whole tail → ReadsWhole (plan_fields plan.now) receiver.new (I.told input.old).left (I.told input.new).left (R.told rack.old).files (R.told rack.new).files first tail }
     ensures open { (tail : ℕ) → result ≡ Ending.Whole tail → receiver.new.is_open ≡ true }
-    ensures count { (tail : ℕ) → result ≡ Ending.Whole tail → R.count rack.new ≡ R.count rack.old }
-    ensures read { (tail : ℕ) → result ≡ Ending.Whole tail → I.ended input.new ≡ true }
-    ensures fewer { (tail : ℕ) → result ≡ Ending.Whole tail → (n : ℕ) × (n < record_size (plan_fields plan.now).recording * most_records) × (I.taken input.new ≡ raised (I.taken input.old) n) }
-    ensures front { result ≡ Ending.SourceFault → ReadsFront (plan_fields plan.now) (I.left input.old) (I.left input.new) (R.files rack.old) (R.files rack.new) first }
-    ensures limit { result ≡ Ending.TooLong → ReadsToLimit (plan_fields plan.now) (I.left input.old) (I.left input.new) (R.files rack.old) (R.files rack.new) first }
-    ensures part { result ≡ Ending.RackFault → ReadsPart (plan_fields plan.now) (I.left input.old) (I.left input.new) (R.files rack.old) (R.files rack.new) first }
-    ensures source { result ≡ Ending.SourceFault → Rose (I.faults input.old) (I.faults input.new) }
-    ensures file { result ≡ Ending.RackFault → Rose (R.faults rack.old) (R.faults rack.new) }
-    ensures too_long { result ≡ Ending.TooLong → RoseBy (I.taken input.old) (I.taken input.new) (record_size (plan_fields plan.now).recording * most_records) }
-    ensures rack_faults { R.faults rack.old ≤ R.faults rack.new }
+    ensures count { (tail : ℕ) → result ≡ Ending.Whole tail → (R.told rack.new).count ≡ (R.told rack.old).count }
+    ensures read { (tail : ℕ) → result ≡ Ending.Whole tail → (I.told input.new).ended ≡ true }
+    ensures fewer { (tail : ℕ) → result ≡ Ending.Whole tail → (n : ℕ) × (n < record_size (plan_fields plan.now).recording * most_records) × ((I.told input.new).taken ≡ raised (I.told input.old).taken n) }
+    ensures front { result ≡ Ending.SourceFault → ReadsFront (plan_fields plan.now) (I.told input.old).left (I.told input.new).left (R.told rack.old).files (R.told rack.new).files first }
+    ensures front_taken { result ≡ Ending.SourceFault → (n : ℕ) × (n < record_size (plan_fields plan.now).recording * most_records) × ((I.told input.new).taken ≡ raised (I.told input.old).taken n) }
+    ensures not_ended { result ≡ Ending.SourceFault → (I.told input.old).ended ≡ false → (I.told input.new).ended ≡ false }
+    ensures limit { result ≡ Ending.TooLong → ReadsToLimit (plan_fields plan.now) (I.told input.old).left (I.told input.new).left (R.told rack.old).files (R.told rack.new).files first }
+    ensures limit_taken { result ≡ Ending.TooLong → (I.told input.new).taken ≡ raised (I.told input.old).taken (record_size (plan_fields plan.now).recording * most_records) }
+    ensures stop { result ≡ Ending.RackFault → ReadsToStop (plan_fields plan.now) (I.told input.old).left (I.told input.new).left (R.told rack.old).files (R.told rack.new).files first }
+    ensures stop_taken { result ≡ Ending.RackFault → (n : ℕ) × (n ≤ record_size (plan_fields plan.now).recording * most_records) × ((I.told input.new).taken ≡ raised (I.told input.old).taken n) }
+    ensures source { result ≡ Ending.SourceFault → Rose (I.told input.old).faults (I.told input.new).faults }
+    ensures file { result ≡ Ending.RackFault → Rose (R.told rack.old).faults (R.told rack.new).faults }
+    ensures input_kept { result ≢ Ending.SourceFault → (I.told input.new).faults ≡ (I.told input.old).faults }
+    ensures rack_kept { result ≢ Ending.RackFault → (R.told rack.new).faults ≡ (R.told rack.old).faults }
 {
     let mut reader = RecordReader::new(plan.recording);
     let services = plan.services.len() as u32;

@@ -1,15 +1,16 @@
 //! The command `receive`: a recording in, a capture for each service and the report out.
-ghost use Rattle.std.specs.Prelude.{◌≡◌, ◌≢◌, ◌⊎◌, ℕ, ◌*◌, ◌<◌, ◌≤◌, true, List, length, Some, slice_get};
-ghost use Rattle.wire_spec.specs.Causes.{Rose, RoseBy, raised};
+ghost use Rattle.std.specs.Prelude.{◌≡◌, ◌≢◌, ◌⊎◌, ℕ, ◌*◌, ◌<◌, ◌≤◌, true, false, List, length, Some, slice_get};
+ghost use Rattle.wire_spec.specs.Causes.{Rose, raised};
+ghost use Rattle.wire_spec.specs.Content.{Stays};
 ghost use Rattle.ts_spec.specs.Recording.{record_size, Record as ReadRecord};
 ghost use Rattle.plan_spec.specs.Plan.{ServiceFields};
 ghost use Rattle.service_plan.specs.PlanView.{plan_fields};
 ghost use Rattle.ipe_io.specs.Counts.{IsFlushed};
 ghost use Rattle.loss_report.specs.Names.{IsServiceName};
 ghost use Rattle.demux_core.specs.Receiving.{are_built, HasReceived};
-ghost use Rattle.receive_command.specs.Files.{AddsHeads, IsUnflushed};
+ghost use Rattle.receive_command.specs.Files.{AddsHeads};
 ghost use Rattle.receive_command.specs.Reading.{most_records};
-ghost use Rattle.receive_command.specs.Ends.{EndsWhole, EndsFront, EndsAtLimit, EndsPart, EndsReported, EndsInReport, Reports, ReportsPart};
+ghost use Rattle.receive_command.specs.Ends.{EndsWhole, EndsFront, EndsAtLimit, EndsInFiles, EndsReported, EndsInReport, Reports, ReportsPart};
 
 use crate::captures::{CapturesEnd, write_captures};
 use crate::report::report_of;
@@ -48,22 +49,28 @@ pub fn receive<I: Source, O: Sink, R: Rack>(
     rack: &mut R,
 ) -> ReceiveEnd
     requires built { are_built (plan_fields plan.now) ≡ true }
-    ensures done { result ≡ ReceiveEnd.Done → EndsReported (plan_fields plan.now) (I.left input.old) (I.left input.new) (R.files rack.old) (R.files rack.new) (O.held output.old) (O.held output.new) }
-    ensures flushed { result ≡ ReceiveEnd.Done → IsFlushed (O.held output.new) (O.flushed output.new) }
-    ensures read { result ≡ ReceiveEnd.Done → I.ended input.new ≡ true }
-    ensures fewer { result ≡ ReceiveEnd.Done → (n : ℕ) × (n < record_size (plan_fields plan.now).recording * most_records) × (I.taken input.new ≡ raised (I.taken input.old) n) }
-    ensures front { result ≡ ReceiveEnd.SourceFault → EndsFront (plan_fields plan.now) (I.left input.old) (I.left input.new) (R.files rack.old) (R.files rack.new) }
-    ensures limit { result ≡ ReceiveEnd.TooLong → EndsAtLimit (plan_fields plan.now) (I.left input.old) (I.left input.new) (R.files rack.old) (R.files rack.new) }
-    ensures part { result ≡ ReceiveEnd.RackFault → EndsPart (plan_fields plan.now) (I.left input.old) (I.left input.new) (R.files rack.old) (R.files rack.new) }
-    ensures unflushed { result ≡ ReceiveEnd.RackFault → IsUnflushed (length (plan_fields plan.now).services) (R.files rack.old) (R.files rack.new) }
-    ensures report { result ≡ ReceiveEnd.SinkFault → EndsInReport (plan_fields plan.now) (I.left input.old) (I.left input.new) (R.files rack.old) (R.files rack.new) (O.held output.old) (O.held output.new) }
-    ensures memory { result ≡ ReceiveEnd.OutOfMemory → ((input.new ≡ input.old) × AddsHeads (plan_fields plan.now).services (R.files rack.old) (R.files rack.new))
-        ⊎ EndsWhole (plan_fields plan.now) (I.left input.old) (I.left input.new) (R.files rack.old) (R.files rack.new) }
+    ensures done { result ≡ ReceiveEnd.Done → EndsReported (plan_fields plan.now) (I.told input.old).left (I.told input.new).left (R.told rack.old).files (R.told rack.new).files (O.told output.old).held (O.told output.new).held }
+    ensures flushed { result ≡ ReceiveEnd.Done → IsFlushed (O.told output.new).held (O.told output.new).flushed }
+    ensures read { result ≡ ReceiveEnd.Done → (I.told input.new).ended ≡ true }
+    ensures fewer { result ≡ ReceiveEnd.Done → (n : ℕ) × (n < record_size (plan_fields plan.now).recording * most_records) × ((I.told input.new).taken ≡ raised (I.told input.old).taken n) }
+    ensures front { result ≡ ReceiveEnd.SourceFault → EndsFront (plan_fields plan.now) (I.told input.old).left (I.told input.new).left (R.told rack.old).files (R.told rack.new).files }
+    ensures front_taken { result ≡ ReceiveEnd.SourceFault → (n : ℕ) × (n < record_size (plan_fields plan.now).recording * most_records) × ((I.told input.new).taken ≡ raised (I.told input.old).taken n) }
+    ensures not_ended { result ≡ ReceiveEnd.SourceFault → (I.told input.old).ended ≡ false → (I.told input.new).ended ≡ false }
+    ensures limit { result ≡ ReceiveEnd.TooLong → EndsAtLimit (plan_fields plan.now) (I.told input.old).left (I.told input.new).left (R.told rack.old).files (R.told rack.new).files }
+    ensures limit_taken { result ≡ ReceiveEnd.TooLong → (I.told input.new).taken ≡ raised (I.told input.old).taken (record_size (plan_fields plan.now).recording * most_records) }
+    ensures files { result ≡ ReceiveEnd.RackFault → EndsInFiles (plan_fields plan.now) (I.told input.old).left (I.told input.new).left (R.told rack.old).files (R.told rack.new).files }
+    ensures files_taken { result ≡ ReceiveEnd.RackFault → (n : ℕ) × (n ≤ record_size (plan_fields plan.now).recording * most_records) × ((I.told input.new).taken ≡ raised (I.told input.old).taken n) }
+    ensures report { result ≡ ReceiveEnd.SinkFault → EndsInReport (plan_fields plan.now) (I.told input.old).left (I.told input.new).left (R.told rack.old).files (R.told rack.new).files (O.told output.old).held (O.told output.new).held }
+    ensures memory { result ≡ ReceiveEnd.OutOfMemory → ((input.new ≡ input.old) × AddsHeads (plan_fields plan.now).services (R.told rack.old).files (R.told rack.new).files)
+        ⊎ EndsWhole (plan_fields plan.now) (I.told input.old).left (I.told input.new).left (R.told rack.old).files (R.told rack.new).files }
+    ensures report_unflushed { result ≡ ReceiveEnd.SinkFault → Stays (O.told output.old).flushed (O.told output.new).flushed }
     ensures unchanged { result ≢ ReceiveEnd.Done → result ≢ ReceiveEnd.SinkFault → output.new ≡ output.old }
-    ensures source { result ≡ ReceiveEnd.SourceFault → Rose (I.faults input.old) (I.faults input.new) }
-    ensures sink { result ≡ ReceiveEnd.SinkFault → Rose (O.faults output.old) (O.faults output.new) }
-    ensures file { result ≡ ReceiveEnd.RackFault → Rose (R.faults rack.old) (R.faults rack.new) }
-    ensures too_long { result ≡ ReceiveEnd.TooLong → RoseBy (I.taken input.old) (I.taken input.new) (record_size (plan_fields plan.now).recording * most_records) }
+    ensures source { result ≡ ReceiveEnd.SourceFault → Rose (I.told input.old).faults (I.told input.new).faults }
+    ensures sink { result ≡ ReceiveEnd.SinkFault → Rose (O.told output.old).faults (O.told output.new).faults }
+    ensures file { result ≡ ReceiveEnd.RackFault → Rose (R.told rack.old).faults (R.told rack.new).faults }
+    ensures input_kept { result ≢ ReceiveEnd.SourceFault → (I.told input.new).faults ≡ (I.told input.old).faults }
+    ensures output_kept { result ≢ ReceiveEnd.SinkFault → (O.told output.new).faults ≡ (O.told output.old).faults }
+    ensures rack_kept { result ≢ ReceiveEnd.RackFault → (R.told rack.new).faults ≡ (R.told rack.old).faults }
 {
     let arena = Bump::new(alloc);
     let mut receiver = match Receiver::open(&arena, plan) {
@@ -91,12 +98,14 @@ fn put_report<O: Sink>(
     requires few { length plan.now.services ≤ 64 }
     requires named { (k : ℕ) (service : ServiceFields) → slice_get (plan_fields plan.now).services k ≡ Some service → IsServiceName service.name }
     ensures done { (records : List ReadRecord) → HasReceived (plan_fields plan.now) records receiver.now → result ≡ ReceiveEnd.Done
-        → Reports (plan_fields plan.now) records tail (O.held output.old) (O.held output.new) }
+        → Reports (plan_fields plan.now) records tail (O.told output.old).held (O.told output.new).held }
     ensures report { (records : List ReadRecord) → HasReceived (plan_fields plan.now) records receiver.now → result ≡ ReceiveEnd.SinkFault
-        → ReportsPart (plan_fields plan.now) records tail (O.held output.old) (O.held output.new) }
-    ensures flushed { result ≡ ReceiveEnd.Done → IsFlushed (O.held output.new) (O.flushed output.new) }
+        → ReportsPart (plan_fields plan.now) records tail (O.told output.old).held (O.told output.new).held }
+    ensures flushed { result ≡ ReceiveEnd.Done → IsFlushed (O.told output.new).held (O.told output.new).flushed }
+    ensures report_unflushed { result ≡ ReceiveEnd.SinkFault → Stays (O.told output.old).flushed (O.told output.new).flushed }
     ensures unchanged { result ≡ ReceiveEnd.OutOfMemory → output.new ≡ output.old }
-    ensures sink { result ≡ ReceiveEnd.SinkFault → Rose (O.faults output.old) (O.faults output.new) }
+    ensures kept { result ≢ ReceiveEnd.SinkFault → (O.told output.new).faults ≡ (O.told output.old).faults }
+    ensures sink { result ≡ ReceiveEnd.SinkFault → Rose (O.told output.old).faults (O.told output.new).faults }
     ensures kinds { (result ≡ ReceiveEnd.Done) ⊎ ((result ≡ ReceiveEnd.SinkFault) ⊎ (result ≡ ReceiveEnd.OutOfMemory)) }
 {
     let text = match report_of(alloc, plan, receiver, tail) {

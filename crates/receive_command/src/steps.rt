@@ -6,9 +6,9 @@ ghost use Rattle.plan_spec.specs.Plan.{PlanFields};
 ghost use Rattle.ts_record.specs.Reading.{record_seen};
 ghost use Rattle.reception_spec.specs.Delivered.{pairs_of_record};
 ghost use Rattle.demux_core.specs.Receiving.{HasReceived};
-ghost use Rattle.receive_command.specs.Growth.{Grow, GrowPart, records_at};
+ghost use Rattle.receive_command.specs.Growth.{Grow, GrowTo, records_at};
 
-use crate::outlet::{Began, RackOutlet};
+use crate::outlet::{Began, Progress, RackOutlet};
 use demux_core::Receiver;
 use ipe_io::{Failed, Rack};
 use std::marker::{Brand, PhantomData};
@@ -25,20 +25,20 @@ pub(crate) fn take_record<R: Rack>(
     requires is_open { receiver.old.is_open ≡ true }
     requires few { receiver.old.stream.records < 2 ^ 32 }
     requires served { length receiver.old.plan.services ≤ services }
-    requires there { first + services ≤ R.count rack.old }
+    requires there { first + services ≤ (R.told rack.old).count }
     requires places { first + services ≤ 2 ^ 32 }
     ensures received { (plan : PlanFields) (records : List ReadRecord) → HasReceived plan records receiver.old
         → OnOk result (HasReceived plan (records ++ record_seen item.now ∷ []) receiver.new) }
     ensures written { (plan : PlanFields) (records : List ReadRecord) → HasReceived plan records receiver.old
-        → OnOk result (Grow (R.files rack.old) (R.files rack.new) (records_at first (pairs_of_record plan (records ++ record_seen item.now ∷ []) (length records)))) }
+        → OnOk result (Grow (R.told rack.old).files (R.told rack.new).files (records_at first (pairs_of_record plan (records ++ record_seen item.now ∷ []) (length records)))) }
     ensures failed { (plan : PlanFields) (records : List ReadRecord) → HasReceived plan records receiver.old
-        → OnErr result (GrowPart (R.files rack.old) (R.files rack.new) (records_at first (pairs_of_record plan (records ++ record_seen item.now ∷ []) (length records)))) }
+        → OnErr result (GrowTo first (R.told rack.old).files (R.told rack.new).files (pairs_of_record plan (records ++ record_seen item.now ∷ []) (length records))) }
     ensures goes_on { OnOk result (receiver.new.is_open ≡ true) }
     ensures plan { receiver.new.plan ≡ receiver.old.plan }
     ensures kept { (plan : PlanFields) (records : List ReadRecord) → HasReceived plan records receiver.old
-        → OnOk result (R.count rack.new ≡ R.count rack.old) }
+        → OnOk result ((R.told rack.new).count ≡ (R.told rack.old).count) }
     ensures cause { (plan : PlanFields) (records : List ReadRecord) → HasReceived plan records receiver.old
-        → HasCause (R.faults rack.old) (R.faults rack.new) result }
+        → HasCause (R.told rack.old).faults (R.told rack.new).faults result }
 {
     take_from::<R, Brand>(item, receiver, rack, first, services)
 }
@@ -52,7 +52,7 @@ pub(crate) fn end_reception<R: Rack>(
 ) -> Result<(), Failed>
     requires is_open { receiver.old.is_open ≡ true }
     requires served { length receiver.old.plan.services ≤ services }
-    requires there { first + services ≤ R.count rack.old }
+    requires there { first + services ≤ (R.told rack.old).count }
     requires places { first + services ≤ 2 ^ 32 }
     ensures received { (plan : PlanFields) (records : List ReadRecord) → HasReceived plan records receiver.old → HasReceived plan records receiver.new }
     ensures done { IsOk result }
@@ -62,7 +62,7 @@ pub(crate) fn end_reception<R: Rack>(
         rack,
         first,
         services,
-        failed: false,
+        progress: Progress::Whole,
         began: PhantomData,
     };
     receiver.finish(&mut outlet)
@@ -79,33 +79,32 @@ fn take_from<R: Rack, B: Began>(
     requires is_open { receiver.old.is_open ≡ true }
     requires few { receiver.old.stream.records < 2 ^ 32 }
     requires served { length receiver.old.plan.services ≤ services }
-    requires there { first + services ≤ R.count rack.old }
+    requires there { first + services ≤ (R.told rack.old).count }
     requires places { first + services ≤ 2 ^ 32 }
     requires began_place { B.first ≡ first }
-    requires began_rack { (B.count ≡ R.count rack.old) × (B.faults ≡ R.faults rack.old) × (B.files ≡ R.files rack.old) }
+    requires began_rack { (B.count ≡ (R.told rack.old).count) × (B.faults ≡ (R.told rack.old).faults) × (B.files ≡ (R.told rack.old).files) }
     ensures received { (plan : PlanFields) (records : List ReadRecord) → HasReceived plan records receiver.old
         → OnOk result (HasReceived plan (records ++ record_seen item.now ∷ []) receiver.new) }
     ensures written { (plan : PlanFields) (records : List ReadRecord) → HasReceived plan records receiver.old
-        → OnOk result (Grow (R.files rack.old) (R.files rack.new) (records_at first (pairs_of_record plan (records ++ record_seen item.now ∷ []) (length records)))) }
+        → OnOk result (Grow (R.told rack.old).files (R.told rack.new).files (records_at first (pairs_of_record plan (records ++ record_seen item.now ∷ []) (length records)))) }
     ensures failed { (plan : PlanFields) (records : List ReadRecord) → HasReceived plan records receiver.old
-        → OnErr result (GrowPart (R.files rack.old) (R.files rack.new) (records_at first (pairs_of_record plan (records ++ record_seen item.now ∷ []) (length records)))) }
+        → OnErr result (GrowTo first (R.told rack.old).files (R.told rack.new).files (pairs_of_record plan (records ++ record_seen item.now ∷ []) (length records))) }
     ensures goes_on { OnOk result (receiver.new.is_open ≡ true) }
     ensures plan { receiver.new.plan ≡ receiver.old.plan }
     ensures kept { (plan : PlanFields) (records : List ReadRecord) → HasReceived plan records receiver.old
-        → OnOk result (R.count rack.new ≡ R.count rack.old) }
+        → OnOk result ((R.told rack.new).count ≡ (R.told rack.old).count) }
     ensures cause { (plan : PlanFields) (records : List ReadRecord) → HasReceived plan records receiver.old
-        → HasCause (R.faults rack.old) (R.faults rack.new) result }
+        → HasCause (R.told rack.old).faults (R.told rack.new).faults result }
 {
     let mut outlet: RackOutlet<'_, R, B> = RackOutlet {
         rack,
         first,
         services,
-        failed: false,
+        progress: Progress::Whole,
         began: PhantomData,
     };
     match receiver.step(item, &mut outlet) {
-        Ok(()) => {}
-        Err(Failed) => return Err(Failed),
+        Ok(()) => Ok(()),
+        Err(Failed) => Err(Failed),
     }
-    if outlet.failed { Err(Failed) } else { Ok(()) }
 }

@@ -1,13 +1,12 @@
 -- What was read and offered, with one record more, and at its end.
 use Rattle.std.proofs.Common.{◌≡◌, ℕ, ◌+◌, ◌-◌, ◌<◌, ◌≤◌, ◌^◌, true, List, [], ◌∷◌, ◌++◌, length, drop, map, is_some, if◌then◌else◌, Option, Some, None, IfSome, option_map, ap, sym, ◌∙◌, subst, arith, length-append}
-use Rattle.std.specs.Io.{StartsWith}
 use Rattle.std.specs.Io.KnownBytes.{Consumes}
-use Rattle.std.proofs.KnownBytes.{prepend_known-nil, starts_with_rest}
+use Rattle.std.proofs.KnownBytes.{prepend_known-nil}
 use Rattle.std.proofs.lemmas.List.{map_push, length-map, length_push}
 use Rattle.pcap_file.specs.Reading.{head_fault, link_at, most_records}
 use Rattle.pcap_file.specs.Told.{Tells, place_of_fault}
 use Rattle.pcap_file.specs.Known.{ReaderState}
-use Rattle.pcap_file.specs.Reader.{HasRead, Passes, rest_of}
+use Rattle.pcap_file.specs.Reader.{HasRead, rest_of}
 use Rattle.pcap_file.specs.Captured.{captured_datagram}
 use Rattle.pcap_file.specs.declared.captured.LinkType.{LinkType}
 use Rattle.pcap_file.specs.declared.faults.CaptureFault.{CaptureFault}
@@ -93,15 +92,6 @@ pub consumed_none : (a b : Option (List ℕ)) (head held : List ℕ) → Consume
 consumed_none a b head held took none =
     subst (λ (l : List ℕ). Consumes a (rest_of l b) head) (sym none) (subst (λ (o : Option (List ℕ)). Consumes a o head) (sym (prepend_known-nil b)) took)
 
--- a record's head and its bytes were read
-pub consumed_record : (a b : Option (List ℕ)) (head bytes : List ℕ) → length head ≡ 16 → IfSome a (λ rest. StartsWith rest (head ++ bytes)) → Passes a b (16 + length bytes)
-    → Consumes a b (head ++ bytes)
-consumed_record None b head bytes size starts passes = tt
-consumed_record (Some rest) None head bytes size starts passes = absurd passes
-consumed_record (Some rest) (Some now) head bytes size starts passes =
-    let n : length (head ++ bytes) ≡ 16 + length bytes = omega (arith, length-append head bytes, size) in
-    starts_with_rest rest (head ++ bytes) starts ∙ ap (λ l. (head ++ bytes) ++ l) (ap (λ (k : ℕ). drop k rest) n ∙ sym passes)
-
 -- what a reader stands for is not in the bytes that it holds
 pub has_read_held : (reader : ReaderState) (held front : List ℕ) (captured : List (List ℕ)) → HasRead reader front captured → HasRead (record reader { held = held }) front captured
 has_read_held reader held front captured read = record { capture = read.capture; order = read.order; link = read.link; count = read.count; size = read.size }
@@ -118,7 +108,7 @@ by_told None P Q f h = tt
 by_told (Some xs) P Q f h = f xs h
 
 -- behind a right head a fault is in the record behind those that are told
-place_behind_records : (front rest : List ℕ) (captured : List (List ℕ)) → head_fault front ≡ None → place_of_fault (front ++ rest) captured ≡ length captured + 1
+pub place_behind_records : (front rest : List ℕ) (captured : List (List ℕ)) → head_fault front ≡ None → place_of_fault (front ++ rest) captured ≡ length captured + 1
 place_behind_records front rest captured right =
     ap (λ (f : Option CaptureFault). if is_some f then 0 else length captured + 1) (head_fault-append front rest (head_is_whole front right) ∙ right)
 

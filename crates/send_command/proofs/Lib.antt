@@ -1,6 +1,7 @@
 pub mod Puts
 pub mod Given
 pub mod Intakes
+pub mod Taking
 pub mod Built
 pub mod Counts
 pub mod Standing

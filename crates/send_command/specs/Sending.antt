@@ -2,7 +2,9 @@
 use Rattle.std.specs.Prelude.{◌≡◌, ℕ, Bool, true, false, List, take, Option, Some, None, ⊤}
 use Rattle.std.specs.Io.KnownBytes.{Appends}
 use Rattle.wire_spec.specs.Lists.{joined}
+use Rattle.ipe_io.specs.Told.{InputTold}
 use Rattle.pcap_file.specs.Told.{Tells, place_of_fault}
+use Rattle.pcap_file.specs.Reader.{Takes, ShowsNoFault, IsReadAhead}
 use Rattle.pcap_file.specs.declared.faults.CaptureFault.{CaptureFault}
 use Rattle.plan_spec.specs.Plan.{PlanFields}
 use Rattle.plan_spec.specs.Offered.{offered}
@@ -82,3 +84,18 @@ OnCapture (ends.Capture fault place) P = P fault place
 OnCapture ends.SinkFault P = ⊤
 OnCapture ends.SourceFault P = ⊤
 OnCapture ends.OutOfMemory P = ⊤
+
+-- the bytes tell this fault of a capture, and it is that of the record with this number
+pub record ShowsFault (bytes : List ℕ) (fault : CaptureFault) (place : ℕ) : Type 0 where
+  pub captured : List (List ℕ)
+  pub told : Tells bytes captured (Some fault)
+  pub place_is : place ≡ place_of_fault bytes captured
+
+-- what a send read of its input, and what that shows: at a fault of the capture that fault, and at a fault of the input none, or
+-- none but that the bytes are cut. Behind the record that was read last no more was read than a reader holds
+pub record Reads (end : SendEnd) (old new : InputTold) : Type 0 where
+  pub bytes : List ℕ
+  pub takes : Takes old new bytes
+  pub ahead : IsReadAhead bytes
+  pub fault : OnCapture end (λ fault place. ShowsFault bytes fault place)
+  pub source : end ≡ ends.SourceFault → ShowsNoFault bytes

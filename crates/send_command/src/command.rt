@@ -1,13 +1,14 @@
 //! The command `send`, behind its settings.
-ghost use Rattle.std.specs.Prelude.{◌≡◌, ℕ, ◌≤◌, List, true, Some, None, ◌⊎◌, OnOk};
+ghost use Rattle.std.specs.Prelude.{◌≡◌, ◌≢◌, ℕ, ◌≤◌, List, true, false, Some, None, ◌⊎◌, OnOk};
 ghost use Rattle.wire_spec.specs.Causes.{Rose};
+ghost use Rattle.wire_spec.specs.Content.{Stays};
 ghost use Rattle.ipe_io.specs.Counts.{IsFlushed};
 ghost use Rattle.plan_spec.specs.Plan.{kinds};
 ghost use Rattle.pcap_file.specs.Reader.{is_cut};
 ghost use Rattle.service_plan.specs.PlanView.{plan_fields};
 ghost use Rattle.mux_core.specs.Sending.{are_built, IsUnderPlan};
 ghost use Rattle.send_command.specs.Gathering.{IsGathered};
-ghost use Rattle.send_command.specs.Sending.{Sends, OnCapture, is_done, is_whole, is_begun};
+ghost use Rattle.send_command.specs.Sending.{Sends, Reads, OnCapture, is_done, is_whole, is_begun};
 
 use crate::ends::{SendEnd, Tally};
 use crate::gather::{Gathered, ReadFault, gather};
@@ -29,18 +30,22 @@ pub fn send<I: Source, O: Sink>(
     requires built { are_built (kinds (plan_fields plan.now)) ≡ true }
 
     // What stands, where the input tells its bytes.
-    ensures sent { (bytes : List ℕ) → I.left input.old ≡ Some bytes → Sends (plan_fields plan.now) bytes result (O.held output.old) (O.held output.new) }
-    ensures flushed { is_whole result ≡ true → IsFlushed (O.held output.new) (O.flushed output.new) }
+    ensures sent { (bytes : List ℕ) → (I.told input.old).left ≡ Some bytes → Sends (plan_fields plan.now) bytes result (O.told output.old).held (O.told output.new).held }
+    ensures flushed { is_whole result ≡ true → IsFlushed (O.told output.new).held (O.told output.new).flushed }
+    ensures unflushed { result ≡ SendEnd.SinkFault → Stays (O.told output.old).flushed (O.told output.new).flushed }
     ensures unchanged { is_begun result ≡ true ⊎ (output.new ≡ output.old) }
 
-    // The input was read to its end.
-    ensures read { is_done result ≡ true → I.ended input.new ≡ true }
-    ensures cut { OnCapture result (λ fault place. is_cut fault ≡ true → I.ended input.new ≡ true) }
+    // What was read of the input.
+    ensures reads { Reads result (I.told input.old) (I.told input.new) }
+    ensures read { is_done result ≡ true → (I.told input.new).ended ≡ true }
+    ensures cut { OnCapture result (λ fault place. is_cut fault ≡ true → (I.told input.new).ended ≡ true) }
+    ensures goes_on { result ≡ SendEnd.SourceFault → (I.told input.old).ended ≡ false → (I.told input.new).ended ≡ false }
 
-    // It ends early only by a fault, or for want of memory.
-    ensures complete { ¬ Rose (I.faults input.old) (I.faults input.new) → ¬ Rose (O.faults output.old) (O.faults output.new) → is_whole result ≡ true ⊎ (result ≡ SendEnd.OutOfMemory) }
-    ensures source { result ≡ SendEnd.SourceFault → Rose (I.faults input.old) (I.faults input.new) }
-    ensures sink { result ≡ SendEnd.SinkFault → Rose (O.faults output.old) (O.faults output.new) }
+    // It ends at a fault of the input or the output only where that was counted, and no other count changes.
+    ensures source { result ≡ SendEnd.SourceFault → Rose (I.told input.old).faults (I.told input.new).faults }
+    ensures sink { result ≡ SendEnd.SinkFault → Rose (O.told output.old).faults (O.told output.new).faults }
+    ensures input_kept { result ≢ SendEnd.SourceFault → (I.told input.new).faults ≡ (I.told input.old).faults }
+    ensures output_kept { result ≢ SendEnd.SinkFault → (O.told output.new).faults ≡ (O.told output.old).faults }
 {
     match gather(alloc, plan, input) {
         Ok(gathered) => write_stream(alloc, plan, &gathered, output),
@@ -53,13 +58,15 @@ pub fn send<I: Source, O: Sink>(
 fn write_stream<O: Sink>(alloc: Global, plan: &Plan, gathered: &Gathered, output: &mut O) -> SendEnd
     requires built { are_built (kinds (plan_fields plan.now)) ≡ true }
     requires offered { IsUnderPlan (plan_fields plan.now) gathered.now.offered }
-    ensures sent { (bytes : List ℕ) → IsGathered (plan_fields plan.now) bytes gathered.now → Sends (plan_fields plan.now) bytes result (O.held output.old) (O.held output.new) }
-    ensures flushed { is_whole result ≡ true → IsFlushed (O.held output.new) (O.flushed output.new) }
+    ensures sent { (bytes : List ℕ) → IsGathered (plan_fields plan.now) bytes gathered.now → Sends (plan_fields plan.now) bytes result (O.told output.old).held (O.told output.new).held }
+    ensures flushed { is_whole result ≡ true → IsFlushed (O.told output.new).held (O.told output.new).flushed }
     ensures unchanged { is_begun result ≡ true ⊎ (output.new ≡ output.old) }
+    ensures unflushed { result ≡ SendEnd.SinkFault → Stays (O.told output.old).flushed (O.told output.new).flushed }
     ensures done { is_done result ≡ true → gathered.now.fault ≡ None }
     ensures fault { OnCapture result (λ fault place. gathered.now.fault ≡ Some (record { fault = fault; place = place })) }
-    ensures source { result ≡ SendEnd.SourceFault → ⊥ }
-    ensures sink { result ≡ SendEnd.SinkFault → Rose (O.faults output.old) (O.faults output.new) }
+    ensures source { result ≢ SendEnd.SourceFault }
+    ensures sink { result ≡ SendEnd.SinkFault → Rose (O.told output.old).faults (O.told output.new).faults }
+    ensures output_kept { result ≢ SendEnd.SinkFault → (O.told output.new).faults ≡ (O.told output.old).faults }
 {
     let sent = match stream(alloc, plan, &gathered.offered, output) {
         Ok(sent) => sent,

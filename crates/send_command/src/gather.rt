@@ -1,13 +1,12 @@
 //! A capture -> what its records offer to the services of a plan, and the fault behind them.
-ghost use Rattle.std.specs.Prelude.{◌≡◌, ℕ, ◌≤◌, List, ◌∷◌, ◌++◌, [], Ok, true, IfOk, IfSome, is_none, None, Some};
-ghost use Rattle.std.specs.Io.KnownBytes.{Consumes};
+ghost use Rattle.std.specs.Prelude.{◌≡◌, ℕ, ◌≤◌, List, ◌∷◌, ◌++◌, [], Ok, true, false, IfOk, IsErrOf, IfSome, is_none, None, Some};
 ghost use Rattle.pcap_file.specs.Told.{Tells};
 ghost use Rattle.pcap_file.specs.Reader.{is_cut, rest_of};
 ghost use Rattle.pcap_file.specs.declared.faults.CaptureFault.{CaptureFault as FaultFound};
 ghost use Rattle.service_plan.specs.PlanView.{plan_fields};
 ghost use Rattle.offered_datagrams.specs.Offering.{HasRoom};
 ghost use Rattle.mux_core.specs.Sending.{IsUnderPlan};
-ghost use Rattle.send_command.specs.Gathering.{HasReadCause, IsIntake, IsGathered};
+ghost use Rattle.send_command.specs.Gathering.{HasReadCause, IsIntake, IsGathered, ReadsAll, ReadsNext, TakesIn};
 
 use ipe_io::Source;
 use offered_datagrams::Offered;
@@ -53,11 +52,13 @@ pub(crate) fn gather<I: Source>(
     plan: &Plan,
     input: &mut I,
 ) -> Result<Gathered, ReadFault>
-    ensures told { IfOk result (λ gathered. IfSome (I.left input.old) (λ bytes. IsGathered (plan_fields plan.now) bytes gathered)) }
+    ensures told { IfOk result (λ gathered. IfSome (I.told input.old).left (λ bytes. IsGathered (plan_fields plan.now) bytes gathered)) }
     ensures offered { IfOk result (λ gathered. IsUnderPlan (plan_fields plan.now) gathered.offered) }
-    ensures ended { IfOk result (λ gathered. is_none gathered.fault ≡ true → I.ended input.new ≡ true) }
-    ensures cut { IfOk result (λ gathered. IfSome gathered.fault (λ found. is_cut found.fault ≡ true → I.ended input.new ≡ true)) }
-    ensures cause { HasReadCause (I.faults input.old) (I.faults input.new) result }
+    ensures ended { IfOk result (λ gathered. is_none gathered.fault ≡ true → (I.told input.new).ended ≡ true) }
+    ensures cut { IfOk result (λ gathered. IfSome gathered.fault (λ found. is_cut found.fault ≡ true → (I.told input.new).ended ≡ true)) }
+    ensures reads { ReadsAll result (I.told input.old) (I.told input.new) }
+    ensures goes_on { IsErrOf result ReadFault.Source → (I.told input.old).ended ≡ false → (I.told input.new).ended ≡ false }
+    ensures cause { HasReadCause (I.told input.old).faults (I.told input.new).faults result }
 {
     let mut offered = match Offered::new(alloc, plan) {
         Ok(offered) => offered,
@@ -105,17 +106,21 @@ fn offer_next<I: Source>(
     requires readable { reader.old.is_open ≡ true }
     requires room { HasRoom (plan_fields plan.now) offered.old }
     ensures more { (front : List ℕ) (captured : List (List ℕ)) → IsIntake (plan_fields plan.now) reader.old offered.old front captured
-        → result ≡ Ok Next.Record → (piece bytes : List ℕ) × Consumes (rest_of reader.old.held (I.left input.old)) (rest_of reader.new.held (I.left input.new)) piece × IsIntake (plan_fields plan.now) reader.new offered.new (front ++ piece) (captured ++ bytes ∷ []) }
+        → result ≡ Ok Next.Record → TakesIn (plan_fields plan.now) reader.old reader.new offered.new front captured (I.told input.old) (I.told input.new) }
     ensures end { (front : List ℕ) (captured : List (List ℕ)) → IsIntake (plan_fields plan.now) reader.old offered.old front captured
-        → result ≡ Ok Next.End → IfSome (rest_of reader.old.held (I.left input.old)) (λ rest. Tells (front ++ rest) captured None) }
+        → result ≡ Ok Next.End → IfSome (rest_of reader.old.held (I.told input.old).left) (λ rest. Tells (front ++ rest) captured None) }
     ensures fault { (front : List ℕ) (captured : List (List ℕ)) (fault : FaultFound) → IsIntake (plan_fields plan.now) reader.old offered.old front captured
-        → result ≡ Ok (Next.Fault fault) → IfSome (rest_of reader.old.held (I.left input.old)) (λ rest. Tells (front ++ rest) captured (Some fault)) }
+        → result ≡ Ok (Next.Fault fault) → IfSome (rest_of reader.old.held (I.told input.old).left) (λ rest. Tells (front ++ rest) captured (Some fault)) }
     ensures records { (fault : FaultFound) → result ≡ Ok (Next.Fault fault) → reader.new.records ≡ reader.old.records }
     ensures kept_end { result ≡ Ok Next.End → offered.new ≡ offered.old }
     ensures kept_fault { (fault : FaultFound) → result ≡ Ok (Next.Fault fault) → offered.new ≡ offered.old }
-    ensures ended { result ≡ Ok Next.End → I.ended input.new ≡ true }
-    ensures cut { (fault : FaultFound) → result ≡ Ok (Next.Fault fault) → is_cut fault ≡ true → I.ended input.new ≡ true }
-    ensures cause { HasReadCause (I.faults input.old) (I.faults input.new) result }
+    ensures ended { result ≡ Ok Next.End → (I.told input.new).ended ≡ true }
+    ensures cut { (fault : FaultFound) → result ≡ Ok (Next.Fault fault) → is_cut fault ≡ true → (I.told input.new).ended ≡ true }
+    ensures reads { (front : List ℕ) (captured : List (List ℕ)) → IsIntake (plan_fields plan.now) reader.old offered.old front captured
+        → ReadsNext reader.old.held front captured result (I.told input.old) (I.told input.new) }
+    ensures on { result ≡ Ok Next.Record → (I.told input.old).ended ≡ false → (I.told input.new).ended ≡ false }
+    ensures goes_on { IsErrOf result ReadFault.Source → (I.told input.old).ended ≡ false → (I.told input.new).ended ≡ false }
+    ensures cause { HasReadCause (I.told input.old).faults (I.told input.new).faults result }
 {
     let link = reader.link();
     match reader.next(input) {

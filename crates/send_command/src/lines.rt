@@ -12,8 +12,8 @@ use pcap_file::CaptureFault;
 /// Writes the line of a send that is done: `ipencap: offered A, not IP B, unrouted C, too long D`. On `Failed` a prefix of it.
 #[tactic(auto, unfolding(crate::specs::Lines::tally_line))]
 pub fn tell_tally<E: Sink>(tally: &Tally, complaints: &mut E) -> Result<(), Failed>
-    ensures written { Puts result (E.held complaints.old) (E.held complaints.new) (tally_line tally.now) }
-    ensures cause { HasCause (E.faults complaints.old) (E.faults complaints.new) result }
+    ensures written { Puts result (E.told complaints.old).held (E.told complaints.new).held (tally_line tally.now) }
+    ensures cause { HasCause (E.told complaints.old).faults (E.told complaints.new).faults result }
 {
     match put_numbers(
         complaints,
@@ -45,8 +45,8 @@ pub fn tell_fault<E: Sink>(
     place: u32,
     complaints: &mut E,
 ) -> Result<(), Failed>
-    ensures written { Puts result (E.held complaints.old) (E.held complaints.new) (fault_line fault place) }
-    ensures cause { HasCause (E.faults complaints.old) (E.faults complaints.new) result }
+    ensures written { Puts result (E.told complaints.old).held (E.told complaints.new).held (fault_line fault place) }
+    ensures cause { HasCause (E.told complaints.old).faults (E.told complaints.new).faults result }
 {
     match put_numbers(
         complaints,
@@ -69,8 +69,8 @@ fn put_numbers<E: Sink>(
     second: &str,
     b: u32,
 ) -> Result<(), Failed>
-    ensures written { Puts result (E.held complaints.old) (E.held complaints.new) (first.now ++ decimal a ++ second.now ++ decimal b) }
-    ensures cause { HasCause (E.faults complaints.old) (E.faults complaints.new) result }
+    ensures written { Puts result (E.told complaints.old).held (E.told complaints.new).held (first.now ++ decimal a ++ second.now ++ decimal b) }
+    ensures cause { HasCause (E.told complaints.old).faults (E.told complaints.new).faults result }
 {
     match put_number(complaints, first, a) {
         Ok(()) => {}
@@ -81,8 +81,8 @@ fn put_numbers<E: Sink>(
 
 /// Writes a text and a number.
 fn put_number<E: Sink>(complaints: &mut E, text: &str, number: u32) -> Result<(), Failed>
-    ensures written { Puts result (E.held complaints.old) (E.held complaints.new) (text.now ++ decimal number) }
-    ensures cause { HasCause (E.faults complaints.old) (E.faults complaints.new) result }
+    ensures written { Puts result (E.told complaints.old).held (E.told complaints.new).held (text.now ++ decimal number) }
+    ensures cause { HasCause (E.told complaints.old).faults (E.told complaints.new).faults result }
 {
     match put_all(complaints, text.as_bytes()) {
         Ok(()) => {}

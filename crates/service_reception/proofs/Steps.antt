@@ -10,7 +10,7 @@ use Rattle.reception_spec.specs.Numbers.{PidNumbers, UnitNumbers, unit_numbers}
 use Rattle.unit_stream.specs.Joining.{JoinerState, IsGiving, Answers, left_events}
 use Rattle.service_reception.specs.declared.counts.Counts.{Counts}
 use Rattle.service_reception.specs.Counting.{counted_event, counted_units, units_in, with_events}
-use Rattle.service_reception.specs.Taking.{IsProper, CountsEvent, IsTaking, TakesMore, TakesAll, TakesPart, delivered_of}
+use Rattle.service_reception.specs.Taking.{IsProper, CountsEvent, IsTaking, CountsMore, TakesMore, TakesAll, TakesPart, delivered_of}
 use Rattle.service_reception.specs.Telling.{Told, StopsWithin}
 use Rattle.service_reception.proofs.Counted.{event_counted, units_with_event, delivered_of-append}
 use Rattle.service_reception.proofs.Proper.{event_proper}
@@ -23,12 +23,10 @@ next_proper form lawful it old new packet packets links counts given event answe
     event_proper form lawful packets given event (left_events form packet new) (answers.gives packets given taking.gives).events
 
 -- one event more is given and counted
-pub taking_more : (form : UnitForm) (it : ServiceFields) (old new : JoinerState) (packet : PacketFields) (packets : List Arrival) (links : PidNumbers) (before after : Counts) (given : List Event) (event : Event)
-    (a b : List (ℕ × List ℕ) → Type 0) (number : ℕ)
+pub taking_counts : (form : UnitForm) (it : ServiceFields) (old new : JoinerState) (packet : PacketFields) (packets : List Arrival) (links : PidNumbers) (before after : Counts) (given : List Event) (event : Event)
     → Answers form old new packet (Some event) → IsTaking form it old packet packets links before given → CountsEvent it event before after
-    → Told a b number (delivered_of it (event ∷ []))
-    → TakesMore form it new packet packets links after given a b number
-taking_more form it old new packet packets links before after given event a b number answers taking counted told =
+    → CountsMore form it new packet packets links after given
+taking_counts form it old new packet packets links before after given event answers taking counted =
     let gives : IsGiving form new packet packets (given ++ event ∷ []) = answers.gives packets given taking.gives in
     let few : length (given ++ event ∷ []) < 2 ^ 64 =
     omega (arith, taking.few, ap (λ (t : List Event). length t) gives.events, length-append (given ++ event ∷ []) (left_events form packet new)) in
@@ -40,8 +38,20 @@ taking_more form it old new packet packets links before after given event a b nu
         on_pid_are = counted.on_pid_are ∙ ap (λ (n : PidNumbers). counted_event n event) taking.on_pid_are ∙ event_counted links given event few;
         of_units_are = counted.of_units_are ∙ ap (λ (n : UnitNumbers). counted_units n (unit_numbers it (units_in (event ∷ [])))) taking.of_units_are ∙ units_with_event it given event few;
       };
-      told = told;
     }
+
+-- and its datagrams are delivered
+pub taking_more : (form : UnitForm) (it : ServiceFields) (old new : JoinerState) (packet : PacketFields) (packets : List Arrival) (links : PidNumbers) (before after : Counts) (given : List Event) (event : Event)
+    (a b : List (ℕ × List ℕ) → Type 0) (number : ℕ)
+    → Answers form old new packet (Some event) → IsTaking form it old packet packets links before given → CountsEvent it event before after
+    → Told a b number (delivered_of it (event ∷ []))
+    → TakesMore form it new packet packets links after given a b number
+unfolding taking_counts
+taking_more form it old new packet packets links before after given event a b number answers taking counted told = record {
+  events = event ∷ [];
+  taking = (taking_counts form it old new packet packets links before after given event answers taking counted).taking;
+  told = told;
+}
 
 -- a datagram of the next event was refused
 pub taking_stops : (form : UnitForm) (it : ServiceFields) (old new : JoinerState) (packet : PacketFields) (packets : List Arrival) (links : PidNumbers) (before : Counts) (given : List Event) (event : Event)
@@ -115,6 +125,16 @@ more_then_part form it packet packets links one first given a b c Refused number
   stops = stops_behind a b c Refused number (delivered_of it more.events) (delivered_of it then.events) [] (delivered_of it (more.events ++ then.events))
       (delivered_of-append it more.events then.events ∙ ap (λ (t : List (List ℕ)). delivered_of it more.events ++ t) (sym (append-nil (delivered_of it then.events))))
       more.told then.stops;
+}
+
+pub more_then_counted : (form : UnitForm) (it : ServiceFields) (packet : PacketFields) (packets : List Arrival) (links : PidNumbers) (one two : JoinerState) (first second : Counts) (given : List Event)
+    (a b : List (ℕ × List ℕ) → Type 0) (number : ℕ)
+    → (more : TakesMore form it one packet packets links first given a b number)
+    → CountsMore form it two packet packets links second (given ++ more.events)
+    → CountsMore form it two packet packets links second given
+more_then_counted form it packet packets links one two first second given a b number more then = record {
+  events = more.events ++ then.events;
+  taking = subst (λ (t : List Event). IsTaking form it two packet packets links second t) (append_assoc given more.events then.events) then.taking;
 }
 
 -- nothing more is taken yet

@@ -16,7 +16,7 @@ use Rattle.ts_packet.specs.Links.{link_of}
 use Rattle.unit_stream.specs.Joining.{JoinerState, Stands, IsGiving, packets_with}
 use Rattle.service_reception.specs.declared.counts.Counts.{Counts}
 use Rattle.service_reception.specs.Counting.{on_pid, of_units, counted_link, units_in}
-use Rattle.service_reception.specs.Taking.{IsTaking, TakesAll, TakesPart, delivered_of}
+use Rattle.service_reception.specs.Taking.{IsTaking, HasTaken, TakesAll, TakesPart, delivered_of}
 use Rattle.service_reception.specs.Telling.{Told, StopsWithin}
 use Rattle.service_reception.specs.Reception.{ReceptionState, HasReceived, packet_record, added_by}
 use Rattle.service_reception.proofs.Counted.{delivered_of-append}
@@ -90,21 +90,20 @@ added_of form pid it records r events form_is pid_is told =
     ∙ drop_at (delivered_of it before) (delivered_of it events) (length (delivered_datagrams it records))
     (ap (λ (t : List (List ℕ)). length t) (sym (delivered_of_events form pid it records form_is pid_is)))
 
--- all its events are taken
-pub record_received : {T E : Type 0} (result : Result T E) (form : UnitForm) (pid : ℕ) (it : ServiceFields) (records : List Record) (moment : ℕ) (bytes : List ℕ) (last now_last : Option (List ℕ)) (joiner now : JoinerState) (before after : Counts)
-    (a b : List (ℕ × List ℕ) → Type 0) (number : ℕ)
+-- all its events are counted
+pub record_received : (form : UnitForm) (pid : ℕ) (it : ServiceFields) (records : List Record) (moment : ℕ) (bytes : List ℕ) (last now_last : Option (List ℕ)) (joiner now : JoinerState) (before after : Counts)
     → form_of_kind it.kind ≡ form → pid_of it.kind ≡ Some pid → HasOn form pid it last joiner before records → is_of pid bytes ≡ true → now_last ≡ Some bytes
-    → OnOk result (TakesAll form it now (received_packets pid (records ++ packet_record moment bytes ∷ [])) (pid_numbers form pid (records ++ packet_record moment bytes ∷ [])) after (events_of form (received_packets pid records)) a b number)
-    → OnOk result (HasReceived it (state_of now_last now after) (records ++ packet_record moment bytes ∷ []))
-record_received (Err x) form pid it records moment bytes last now_last joiner now before after a b number form_is pid_is on of_pid seen takes = tt
-record_received (Ok x) form pid it records moment bytes last now_last joiner now before after a b number form_is pid_is on of_pid seen takes =
+    → HasTaken form it now (received_packets pid (records ++ packet_record moment bytes ∷ [])) (pid_numbers form pid (records ++ packet_record moment bytes ∷ [])) after
+    → HasReceived it (state_of now_last now after) (records ++ packet_record moment bytes ∷ [])
+record_received form pid it records moment bytes last now_last joiner now before after form_is pid_is on of_pid seen taken =
     has_received form pid it now_last now after (records ++ packet_record moment bytes ∷ []) form_is pid_is (record {
       last_is = seen ∙ last_with pid records moment bytes last on.last_is of_pid;
-      stands = takes.taken.stands;
-      on_pid_are = takes.taken.on_pid_are;
-      of_units_are = takes.taken.of_units_are;
+      stands = taken.stands;
+      on_pid_are = taken.on_pid_are;
+      of_units_are = taken.of_units_are;
     })
 
+-- all are delivered too
 pub record_told : {T E : Type 0} (result : Result T E) (form : UnitForm) (pid : ℕ) (it : ServiceFields) (records : List Record) (r : Record) (now : JoinerState) (links : PidNumbers) (after : Counts)
     (a b : List (ℕ × List ℕ) → Type 0) (number : ℕ) → form_of_kind it.kind ≡ form → pid_of it.kind ≡ Some pid
     → OnOk result (TakesAll form it now (received_packets pid (records ++ r ∷ [])) links after (events_of form (received_packets pid records)) a b number)

@@ -41,6 +41,11 @@ pub record HasTaken (form : UnitForm) (service : ServiceFields) (joiner : Joiner
   pub on_pid_are : on_pid counts ≡ with_events links (events_of form packets)
   pub of_units_are : of_units counts ≡ unit_numbers service (units_in (events_of form packets))
 
+-- some events more are given and counted, delivered or not
+pub record CountsMore (form : UnitForm) (service : ServiceFields) (joiner : JoinerState) (packet : PacketFields) (packets : List Arrival) (links : PidNumbers) (counts : Counts) (given : List Event) : Type 0 where
+  pub events : List Event
+  pub taking : IsTaking form service joiner packet packets links counts (given ++ events)
+
 -- some events more are taken, and their datagrams delivered
 pub record TakesMore (form : UnitForm) (service : ServiceFields) (joiner : JoinerState) (packet : PacketFields) (packets : List Arrival) (links : PidNumbers) (counts : Counts) (given : List Event)
     (old new : List (ℕ × List ℕ) → Type 0) (number : ℕ) : Type 0 where

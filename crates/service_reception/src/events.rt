@@ -1,4 +1,4 @@
-//! The events of one packet -> counted, and the datagrams of their units delivered.
+//! The events of one packet -> counted, and the datagrams of their units delivered, up to the first that is refused.
 ghost use Rattle.std.specs.Prelude.{◌≡◌, ◌<◌, true, false, Ok, List, [], ◌∷◌, length, OnOk, OnErr};
 ghost use Rattle.wire_spec.specs.Causes.{HasCause};
 ghost use Rattle.ts_spec.specs.Received.{Arrival};
@@ -9,7 +9,7 @@ ghost use Rattle.ts_packet.specs.Fields.{fields_in};
 ghost use Rattle.unit_stream.specs.Joining.{steps_left};
 ghost use Rattle.unit_stream.specs.States.{event_in};
 ghost use Rattle.service_reception.specs.Services.{IsServed};
-ghost use Rattle.service_reception.specs.Taking.{IsProper, CountsEvent, IsTaking, TakesMore, TakesAll, TakesPart, delivered_of};
+ghost use Rattle.service_reception.specs.Taking.{IsProper, CountsEvent, IsTaking, HasTaken, CountsMore, TakesMore, TakesAll, TakesPart, delivered_of};
 ghost use Rattle.service_reception.specs.Telling.{Told, StopsWithin};
 
 use crate::carried::UnitReader;
@@ -21,8 +21,39 @@ use std::alloc::Allocator;
 use ts_packet::Packet;
 use unit_stream::{JoinEvent, Joiner};
 
-/// Takes all events of the packet that the joiner was fed last.
+/// Takes all events of the packet that the joiner was fed last. Behind a refused datagram they are counted alone.
 pub(crate) fn take_events<K: UnitReader, A: Allocator, T: Outlet>(
+    joiner: &mut Joiner<K, A>,
+    counts: &mut Counts,
+    packet: &Packet<'_>,
+    filter: &MacList,
+    service: u32,
+    outlet: &mut T,
+) -> Result<(), Failed>
+    requires { service < T.services outlet.old }
+    ensures counted { (it : ServiceFields) (packets : List Arrival) (links : PidNumbers) (given : List Event) → IsServed K.IsOfKind filter.now it
+        → IsTaking K.form it joiner.old (fields_in packet.now) packets links counts.old given
+        → HasTaken K.form it joiner.new packets links counts.new }
+    ensures taken { (it : ServiceFields) (packets : List Arrival) (links : PidNumbers) (given : List Event) → IsServed K.IsOfKind filter.now it
+        → IsTaking K.form it joiner.old (fields_in packet.now) packets links counts.old given
+        → OnOk result (TakesAll K.form it joiner.new packets links counts.new given (T.StandsFor outlet.old) (T.StandsFor outlet.new) service) }
+    ensures failed { (it : ServiceFields) (packets : List Arrival) (links : PidNumbers) (given : List Event) → IsServed K.IsOfKind filter.now it
+        → IsTaking K.form it joiner.old (fields_in packet.now) packets links counts.old given
+        → OnErr result (TakesPart K.form it packets given (T.StandsFor outlet.old) (T.StandsFor outlet.new) (T.Refused outlet.new service) service) }
+    ensures services { T.services outlet.new ≡ T.services outlet.old }
+    ensures cause { HasCause (T.faults outlet.old) (T.faults outlet.new) result }
+{
+    match take_accepted(joiner, counts, packet, filter, service, outlet) {
+        Ok(()) => Ok(()),
+        Err(Failed) => {
+            count_rest(joiner, counts, packet, filter);
+            Err(Failed)
+        }
+    }
+}
+
+/// Takes the events of a packet up to the first refused datagram, which is counted.
+fn take_accepted<K: UnitReader, A: Allocator, T: Outlet>(
     joiner: &mut Joiner<K, A>,
     counts: &mut Counts,
     packet: &Packet<'_>,
@@ -34,6 +65,9 @@ pub(crate) fn take_events<K: UnitReader, A: Allocator, T: Outlet>(
     ensures taken { (it : ServiceFields) (packets : List Arrival) (links : PidNumbers) (given : List Event) → IsServed K.IsOfKind filter.now it
         → IsTaking K.form it joiner.old (fields_in packet.now) packets links counts.old given
         → OnOk result (TakesAll K.form it joiner.new packets links counts.new given (T.StandsFor outlet.old) (T.StandsFor outlet.new) service) }
+    ensures counted { (it : ServiceFields) (packets : List Arrival) (links : PidNumbers) (given : List Event) → IsServed K.IsOfKind filter.now it
+        → IsTaking K.form it joiner.old (fields_in packet.now) packets links counts.old given
+        → OnErr result (CountsMore K.form it joiner.new (fields_in packet.now) packets links counts.new given) }
     ensures failed { (it : ServiceFields) (packets : List Arrival) (links : PidNumbers) (given : List Event) → IsServed K.IsOfKind filter.now it
         → IsTaking K.form it joiner.old (fields_in packet.now) packets links counts.old given
         → OnErr result (TakesPart K.form it packets given (T.StandsFor outlet.old) (T.StandsFor outlet.new) (T.Refused outlet.new service) service) }
@@ -46,6 +80,41 @@ pub(crate) fn take_events<K: UnitReader, A: Allocator, T: Outlet>(
             Ok(false) => return Ok(()),
             Err(Failed) => return Err(Failed),
         }
+    }
+}
+
+/// An outlet that refuses nothing and keeps nothing: what is delivered to it is counted alone.
+#[derive(Drop)]
+struct Nowhere {}
+
+impl Outlet for Nowhere {
+    ghost services = { λ _. 1 };
+
+    ghost faults = { λ _. 0 };
+
+    ghost StandsFor = { λ _ _. Unit {0} };
+
+    ghost Refused = { λ _ _ _. Unit {0} };
+
+    fn deliver(&mut self, service: u32, datagram: &[u8]) -> Result<(), Failed> {
+        Ok(())
+    }
+}
+
+/// Counts the other events of a packet, and delivers nothing.
+fn count_rest<K: UnitReader, A: Allocator>(
+    joiner: &mut Joiner<K, A>,
+    counts: &mut Counts,
+    packet: &Packet<'_>,
+    filter: &MacList,
+)
+    ensures counted { (it : ServiceFields) (packets : List Arrival) (links : PidNumbers) (given : List Event) → IsServed K.IsOfKind filter.now it
+        → IsTaking K.form it joiner.old (fields_in packet.now) packets links counts.old given
+        → HasTaken K.form it joiner.new packets links counts.new }
+{
+    match take_accepted(joiner, counts, packet, filter, 0, &mut Nowhere {}) {
+        Ok(()) => {}
+        Err(Failed) => unreachable!(),
     }
 }
 
@@ -65,6 +134,9 @@ fn take_next<K: UnitReader, A: Allocator, T: Outlet>(
     ensures none { (it : ServiceFields) (packets : List Arrival) (links : PidNumbers) (given : List Event) → IsServed K.IsOfKind filter.now it
         → IsTaking K.form it joiner.old (fields_in packet.now) packets links counts.old given
         → result ≡ Ok false → TakesAll K.form it joiner.new packets links counts.new given (T.StandsFor outlet.old) (T.StandsFor outlet.new) service }
+    ensures counted { (it : ServiceFields) (packets : List Arrival) (links : PidNumbers) (given : List Event) → IsServed K.IsOfKind filter.now it
+        → IsTaking K.form it joiner.old (fields_in packet.now) packets links counts.old given
+        → OnErr result (CountsMore K.form it joiner.new (fields_in packet.now) packets links counts.new given) }
     ensures failed { (it : ServiceFields) (packets : List Arrival) (links : PidNumbers) (given : List Event) → IsServed K.IsOfKind filter.now it
         → IsTaking K.form it joiner.old (fields_in packet.now) packets links counts.old given
         → OnErr result (TakesPart K.form it packets given (T.StandsFor outlet.old) (T.StandsFor outlet.new) (T.Refused outlet.new service) service) }

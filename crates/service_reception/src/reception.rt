@@ -61,7 +61,7 @@ impl<K: UnitReader, A: Allocator> Reception<K, A> {
     /// Takes one packet of the service's PID, which `parse` read from `bytes`, and the moment of its record.
     ///
     /// The datagrams that end in it and that `filter` wants go to the outlet, as those of this service. Failed: the outlet
-    /// refused one, and those behind it are not offered; the reception is to be asked nothing then but its numbers.
+    /// refused one, and those behind it are not offered; the packet and all its units are counted as with Ok.
     pub fn take<T: Outlet>(
         &mut self,
         bytes: &[u8; 188],
@@ -75,7 +75,7 @@ impl<K: UnitReader, A: Allocator> Reception<K, A> {
         requires read { fields_in packet.now ≡ fields_of bytes.now }
         requires served { service < T.services outlet.old }
         ensures received { (it : ServiceFields) (records : List Record) → IsReceiving K.IsOfKind filter.now packet.now.pid it self.old records
-            → OnOk result (HasReceived it self.new (records ++ packet_record moment bytes.now ∷ [])) }
+            → HasReceived it self.new (records ++ packet_record moment bytes.now ∷ []) }
         ensures delivered { (it : ServiceFields) (records : List Record) → IsReceiving K.IsOfKind filter.now packet.now.pid it self.old records
             → OnOk result (Told (T.StandsFor outlet.old) (T.StandsFor outlet.new) service (added_by it records (packet_record moment bytes.now))) }
         ensures failed { (it : ServiceFields) (records : List Record) → IsReceiving K.IsOfKind filter.now packet.now.pid it self.old records

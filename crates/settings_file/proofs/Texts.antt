@@ -1,12 +1,14 @@
 -- Texts put one after another, whole and in part.
-use Rattle.std.proofs.Common.{◌≡◌, ℕ, zero, suc, ◌+◌, ◌≤◌, List, [], ◌∷◌, ◌++◌, length, map, take, drop, slice_get, refl, ap, sym, subst, ◌∙◌, append_assoc, append-nil, add-one, arith, Option, None, Some, Result, Ok, Err}
+use Rattle.std.proofs.Common.{◌≡◌, ℕ, zero, suc, ◌+◌, ◌≤◌, List, [], ◌∷◌, ◌++◌, length, map, take, drop, slice_get, refl, ap, sym, subst, ◌∙◌, append_assoc, append-nil, add-one, arith, Option, None, Some, Result, Ok, Err, OnErr}
 use Rattle.std.proofs.Math.Seq.{take-suc, take-append-add}
 use Rattle.std.proofs.lemmas.List.{map-append, take-append-drop, take_all}
 use Rattle.std.proofs.lemmas.Option.{get_or_from_slice_get, slice_get_within}
 use Rattle.std.specs.Io.KnownBytes.{Appends, Keeps}
 use Rattle.std.proofs.KnownBytes.{Appends-trans}
 use Rattle.wire_spec.specs.Lists.{joined}
-use Rattle.wire_spec.specs.Content.{Puts}
+use Rattle.wire_spec.specs.Causes.{HasCause}
+use Rattle.wire_spec.specs.Content.{Puts, Stays}
+use Rattle.ipe_io.proofs.Told.{stays-trans}
 use Rattle.service_plan.specs.Parts.{service_seen}
 use Rattle.service_plan.specs.declared.service.Service.{Service}
 use Rattle.settings_file.specs.Lines.{service_line}
@@ -69,6 +71,15 @@ appends_kept (Some x) (Some y) (Some z) text h k = k ∙ h
 pub puts_kept : {T E : Type 0} (result : Result T E) (a b c : Option (List ℕ)) (text : List ℕ) → Appends a b text → Keeps b c → Puts result a c text
 puts_kept (Ok x) a b c text h k = appends_kept a b c text h k
 puts_kept (Err e) a b c text h k = (length text, subst (λ (t : List ℕ). Appends a c t) (sym (take_all (length text) text (omega arith))) (appends_kept a b c text h k))
+
+-- nothing more was flushed, and a call that fails flushes nothing more
+pub stays_at_err : {T E : Type 0} (result : Result T E) (a b c : Option ℕ) → Stays a b → OnErr result (Stays b c) → OnErr result (Stays a c)
+stays_at_err (Ok x) a b c before after = tt
+stays_at_err (Err e) a b c before after = stays-trans a b c before after
+
+-- a count that had not changed has the cause of the last call
+pub cause_kept : {T E : Type 0} (result : Result T E) (a b c : ℕ) → b ≡ a → HasCause b c result → HasCause a c result
+cause_kept result a b c same cause = subst (λ (n : ℕ). HasCause n c result) same cause
 
 -- the lines of services
 pub lines-seen : (services : List Service) → joined (map (λ service. service_line (service_seen service)) services) ≡ joined (map service_line (map service_seen services))

@@ -47,8 +47,8 @@ fn key_of(fault: PlanFault) -> (&'static str, &'static str)
 
 /// Puts the line of a fault.
 pub fn put_fault<E: Sink>(fault: FileFault, complaints: &mut E) -> Result<(), Failed>
-    ensures written { Puts result (E.held complaints.old) (E.held complaints.new) (refusal_line (refusal_seen fault)) }
-    ensures cause { HasCause (E.faults complaints.old) (E.faults complaints.new) result }
+    ensures written { Puts result (E.told complaints.old).held (E.told complaints.new).held (refusal_line (refusal_seen fault)) }
+    ensures cause { HasCause (E.told complaints.old).faults (E.told complaints.new).faults result }
 {
     match fault {
         FileFault::TooLong => put_all(complaints, b"ipencap: settings too long\n"),

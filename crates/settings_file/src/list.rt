@@ -1,7 +1,7 @@
 //! A plan -> the lines of its services.
-ghost use Rattle.std.specs.Prelude.{◌≡◌, [], ◌∷◌, ◌++◌, OnOk};
+ghost use Rattle.std.specs.Prelude.{◌≡◌, [], ◌∷◌, ◌++◌, OnOk, OnErr};
 ghost use Rattle.wire_spec.specs.Causes.{HasCause};
-ghost use Rattle.wire_spec.specs.Content.{Puts};
+ghost use Rattle.wire_spec.specs.Content.{Puts, Stays};
 ghost use Rattle.ipe_io.specs.Counts.{IsFlushed};
 ghost use Rattle.service_plan.specs.Parts.{kind_seen, service_seen};
 ghost use Rattle.service_plan.specs.PlanView.{plan_fields};
@@ -32,16 +32,18 @@ fn put_parts<'f, O: Sink>(
     word: &'f [u8],
     number: &'f [u8],
 ) -> Result<(), Failed>
-    ensures written { Puts result (O.held output.old) (O.held output.new) (name.now ++ 32 ∷ word.now ++ 32 ∷ number.now ++ 10 ∷ []) }
-    ensures cause { HasCause (O.faults output.old) (O.faults output.new) result }
+    ensures written { Puts result (O.told output.old).held (O.told output.new).held (name.now ++ 32 ∷ word.now ++ 32 ∷ number.now ++ 10 ∷ []) }
+    ensures flushed { Stays (O.told output.old).flushed (O.told output.new).flushed }
+    ensures cause { HasCause (O.told output.old).faults (O.told output.new).faults result }
 {
     put_pieces(output, &[name, b" ", word, b" ", number, b"\n"])
 }
 
 /// Puts the line of a service.
 fn put_service<O: Sink>(service: &Service, output: &mut O) -> Result<(), Failed>
-    ensures written { Puts result (O.held output.old) (O.held output.new) (service_line (service_seen service.now)) }
-    ensures cause { HasCause (O.faults output.old) (O.faults output.new) result }
+    ensures written { Puts result (O.told output.old).held (O.told output.new).held (service_line (service_seen service.now)) }
+    ensures flushed { Stays (O.told output.old).flushed (O.told output.new).flushed }
+    ensures cause { HasCause (O.told output.old).faults (O.told output.new).faults result }
 {
     let (word, number) = parts_of(service.kind);
     let mut digits = Buffer::new();
@@ -56,8 +58,9 @@ fn put_service<O: Sink>(service: &Service, output: &mut O) -> Result<(), Failed>
 
 /// Puts the lines of all services, in their order.
 fn put_services<O: Sink>(plan: &Plan, output: &mut O) -> Result<(), Failed>
-    ensures written { Puts result (O.held output.old) (O.held output.new) (check_text (plan_fields plan.now)) }
-    ensures cause { HasCause (O.faults output.old) (O.faults output.new) result }
+    ensures written { Puts result (O.told output.old).held (O.told output.new).held (check_text (plan_fields plan.now)) }
+    ensures flushed { Stays (O.told output.old).flushed (O.told output.new).flushed }
+    ensures cause { HasCause (O.told output.old).faults (O.told output.new).faults result }
 {
     for place in 0..plan.services.len() {
         match put_service(plan.services.at(place), output) {
@@ -71,11 +74,12 @@ fn put_services<O: Sink>(plan: &Plan, output: &mut O) -> Result<(), Failed>
 /// Puts one line for each service, and flushes all of it.
 ///
 /// A line is the name, the kind and the PID or ISI in decimal, parted by one space. On `Failed` a prefix of the lines was
-/// appended.
+/// appended, and nothing more is flushed.
 pub fn list_services<O: Sink>(plan: &Plan, output: &mut O) -> Result<(), Failed>
-    ensures written { Puts result (O.held output.old) (O.held output.new) (check_text (plan_fields plan.now)) }
-    ensures flushed { OnOk result (IsFlushed (O.held output.new) (O.flushed output.new)) }
-    ensures cause { HasCause (O.faults output.old) (O.faults output.new) result }
+    ensures written { Puts result (O.told output.old).held (O.told output.new).held (check_text (plan_fields plan.now)) }
+    ensures flushed { OnOk result (IsFlushed (O.told output.new).held (O.told output.new).flushed) }
+    ensures unflushed { OnErr result (Stays (O.told output.old).flushed (O.told output.new).flushed) }
+    ensures cause { HasCause (O.told output.old).faults (O.told output.new).faults result }
 {
     match put_services(plan, output) {
         Ok(()) => output.flush(),

@@ -13,14 +13,15 @@ use std::alloc::Global;
 
 /// Loads a settings file, and reads the plan that it gives.
 pub fn load_plan<S: Shelf>(alloc: Global, name: &str, shelf: &mut S) -> Result<Plan, SettingsError>
-    ensures read { IfOk result (λ plan. IfSome (S.file shelf.old name.now) (λ bytes. IsAcceptedFile bytes (plan_fields plan))) }
-    ensures refused { IfErr result (λ e. IfSome (refusal_of e) (λ refusal. IfSome (S.file shelf.old name.now) (λ bytes. IsRefusedFile bytes refusal))) }
-    ensures only { (bytes : List ℕ) (plan : PlanFields) → S.file shelf.old name.now ≡ Some bytes → IsAcceptedFile bytes plan → IfErr result (λ e. refusal_of e ≡ None) }
-    ensures fails { (bytes : List ℕ) (refusal : Refusal) → S.file shelf.old name.now ≡ Some bytes → IsRefusedFile bytes refusal
+    ensures read { IfOk result (λ plan. IfSome ((S.told shelf.old).file name.now) (λ bytes. IsAcceptedFile bytes (plan_fields plan))) }
+    ensures refused { IfErr result (λ e. IfSome (refusal_of e) (λ refusal. IfSome ((S.told shelf.old).file name.now) (λ bytes. IsRefusedFile bytes refusal))) }
+    ensures only { (bytes : List ℕ) (plan : PlanFields) → (S.told shelf.old).file name.now ≡ Some bytes → IsAcceptedFile bytes plan → IfErr result (λ e. refusal_of e ≡ None) }
+    ensures fails { (bytes : List ℕ) (refusal : Refusal) → (S.told shelf.old).file name.now ≡ Some bytes → IsRefusedFile bytes refusal
         → MatchResult result (λ _. ⊥) (λ e. (refusal_of e ≡ Some refusal) ⊎ (refusal_of e ≡ None)) }
-    ensures cause { IsErrOf result SettingsError.ShelfFault → Rose (S.faults shelf.old name.now) (S.faults shelf.new name.now) }
-    ensures unchanged { (other : List ℕ) → S.file shelf.new other ≡ S.file shelf.old other }
-    ensures later { (other : List ℕ) → S.faults shelf.old other ≤ S.faults shelf.new other }
+    ensures cause { IsErrOf result SettingsError.ShelfFault → Rose ((S.told shelf.old).faults name.now) ((S.told shelf.new).faults name.now) }
+    ensures unchanged { (other : List ℕ) → (S.told shelf.new).file other ≡ (S.told shelf.old).file other }
+    ensures later { (other : List ℕ) → (S.told shelf.old).faults other ≤ (S.told shelf.new).faults other }
+    ensures kept { ¬ IsErrOf result SettingsError.ShelfFault → (other : List ℕ) → (S.told shelf.new).faults other ≡ (S.told shelf.old).faults other }
 {
     let bytes = match shelf.load(alloc, name) {
         Ok(bytes) => bytes,

@@ -62,28 +62,33 @@ impl RecordReader {
 
     /// Reads the next record, or None at the end of the input, where fewer bytes than a record may be left over.
     ///
-    /// `Failed`: the source failed. `TooLong`: 2^32 records were read before; nothing is taken from the source.
+    /// `Failed`: the source failed, where fewer than 2^32 records were read before. `TooLong`: so many were read before;
+    /// nothing is taken from the source.
     /// After an Err the reader is closed, and may not be asked again.
     pub fn next<S: Source>(&mut self, source: &mut S) -> Result<Option<Record>, RecordFault>
         requires { self.old.is_open ≡ true }
         ensures read { (pieces : List (List ℕ)) → ReaderOf self.old pieces
             → IfOk result (λ it. IfSome it (λ r.
-            ReadsRecord self.old self.new (S.left source.old) (S.left source.new)
-            (S.taken source.old) (S.taken source.new) pieces (record_seen r))) }
+            ReadsRecord self.old self.new (S.told source.old).left (S.told source.new).left
+            (S.told source.old).taken (S.told source.new).taken pieces (record_seen r))) }
         ensures end { (pieces : List (List ℕ)) → ReaderOf self.old pieces
             → IfOk result (λ it. IfNone it (
-            ReadsEnd self.old self.new (S.left source.old) (S.left source.new)
-            (S.taken source.old) (S.taken source.new) pieces)) }
-        ensures ended { IfOk result (λ it. IfNone it (S.ended source.new ≡ true)) }
+            ReadsEnd self.old self.new (S.told source.old).left (S.told source.new).left
+            (S.told source.old).taken (S.told source.new).taken pieces)) }
+        ensures ended { IfOk result (λ it. IfNone it ((S.told source.new).ended ≡ true)) }
+        ensures unended { IfOk result (λ it. IfSome it (λ r. (S.told source.old).ended ≡ false → (S.told source.new).ended ≡ false)) }
         ensures few { OnOk result (self.old.count < 2 ^ 32) }
         ensures too_long { IsErrOf result RecordFault.TooLong ↔ (self.old.count ≡ 2 ^ 32) }
         ensures unchanged { IsErrOf result RecordFault.TooLong → source.new ≡ source.old }
         ensures failed { IsErrOf result RecordFault.Failed → (bytes : List ℕ)
             × (length bytes < record_size self.old.form)
-            × TakesBytes (S.left source.old) (S.left source.new)
-            (S.taken source.old) (S.taken source.new) bytes }
-        ensures cause { IsErrOf result RecordFault.Failed → Rose (S.faults source.old) (S.faults source.new) }
-        ensures later { S.faults source.old ≤ S.faults source.new }
+            × TakesBytes (S.told source.old).left (S.told source.new).left
+            (S.told source.old).taken (S.told source.new).taken bytes }
+        ensures cause { IsErrOf result RecordFault.Failed → Rose (S.told source.old).faults (S.told source.new).faults }
+        ensures soon { IsErrOf result RecordFault.Failed → self.old.count < 2 ^ 32 }
+        ensures goes_on { IsErrOf result RecordFault.Failed → (S.told source.old).ended ≡ false → (S.told source.new).ended ≡ false }
+        ensures later { (S.told source.old).faults ≤ (S.told source.new).faults }
+        ensures kept { ¬ IsErrOf result RecordFault.Failed → (S.told source.new).faults ≡ (S.told source.old).faults }
         ensures closed { OnErr result (self.new ≡ closed self.old) }
     {
         let mut record = Record {
@@ -107,21 +112,25 @@ impl RecordReader {
     ) -> Result<bool, RecordFault>
         requires { self.old.is_open ≡ true }
         ensures read { (pieces : List (List ℕ)) → ReaderOf self.old pieces → result ≡ Ok true
-            → ReadsRecord self.old self.new (S.left source.old) (S.left source.new)
-            (S.taken source.old) (S.taken source.new) pieces (record_seen into.new) }
+            → ReadsRecord self.old self.new (S.told source.old).left (S.told source.new).left
+            (S.told source.old).taken (S.told source.new).taken pieces (record_seen into.new) }
         ensures end { (pieces : List (List ℕ)) → ReaderOf self.old pieces → result ≡ Ok false
-            → ReadsEnd self.old self.new (S.left source.old) (S.left source.new)
-            (S.taken source.old) (S.taken source.new) pieces }
-        ensures ended { result ≡ Ok false → S.ended source.new ≡ true }
+            → ReadsEnd self.old self.new (S.told source.old).left (S.told source.new).left
+            (S.told source.old).taken (S.told source.new).taken pieces }
+        ensures ended { result ≡ Ok false → (S.told source.new).ended ≡ true }
+        ensures unended { result ≡ Ok true → (S.told source.old).ended ≡ false → (S.told source.new).ended ≡ false }
         ensures few { OnOk result (self.old.count < 2 ^ 32) }
         ensures too_long { IsErrOf result RecordFault.TooLong ↔ (self.old.count ≡ 2 ^ 32) }
         ensures unchanged { IsErrOf result RecordFault.TooLong → source.new ≡ source.old }
         ensures failed { IsErrOf result RecordFault.Failed → (bytes : List ℕ)
             × (length bytes < record_size self.old.form)
-            × TakesBytes (S.left source.old) (S.left source.new)
-            (S.taken source.old) (S.taken source.new) bytes }
-        ensures cause { IsErrOf result RecordFault.Failed → Rose (S.faults source.old) (S.faults source.new) }
-        ensures later { S.faults source.old ≤ S.faults source.new }
+            × TakesBytes (S.told source.old).left (S.told source.new).left
+            (S.told source.old).taken (S.told source.new).taken bytes }
+        ensures cause { IsErrOf result RecordFault.Failed → Rose (S.told source.old).faults (S.told source.new).faults }
+        ensures soon { IsErrOf result RecordFault.Failed → self.old.count < 2 ^ 32 }
+        ensures goes_on { IsErrOf result RecordFault.Failed → (S.told source.old).ended ≡ false → (S.told source.new).ended ≡ false }
+        ensures later { (S.told source.old).faults ≤ (S.told source.new).faults }
+        ensures kept { ¬ IsErrOf result RecordFault.Failed → (S.told source.new).faults ≡ (S.told source.old).faults }
         ensures closed { OnErr result (self.new ≡ closed self.old) }
     {
         if self.count == MOST_RECORDS {

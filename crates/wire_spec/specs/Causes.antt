@@ -1,5 +1,5 @@
 -- Counters that stand still at the last value of a u64, and what a counter says of an answer.
-use Rattle.std.specs.Prelude.{ℕ, ◌+◌, ◌-◌, ◌^◌, ◌≤◌, min, Result, OnErr}
+use Rattle.std.specs.Prelude.{◌≡◌, ℕ, ◌+◌, ◌-◌, ◌^◌, ◌≤◌, min, Result, OnOk, OnErr}
 
 -- the counter, raised by n
 abbrev pub raised : ℕ → ℕ → ℕ
@@ -13,7 +13,8 @@ RoseBy before now n = raised before n ≤ now
 abbrev pub Rose : ℕ → ℕ → Type 0
 Rose before now = RoseBy before now 1
 
--- a call's error has its cause in a counter of faults: it comes only where the counter rose, which never falls
+-- a call's error has its cause in a counter of faults, which never falls: an error comes only where it rose, and an Ok leaves it
 pub record HasCause {T E : Type 0} (before now : ℕ) (result : Result T E) : Type 0 where
   pub later : before ≤ now
   pub failed : OnErr result (Rose before now)
+  pub kept : OnOk result (now ≡ before)

@@ -1,6 +1,6 @@
 -- What an object of the outside may tell of its content, and what a call does to that.
 -- An object that tells nothing has None, and then each of these facts holds of it.
-use Rattle.std.specs.Prelude.{◌≡◌, ℕ, List, [], ◌∷◌, ◌++◌, length, get_or, take, set, Option, None, Some, Result, MatchResult, ⊤}
+use Rattle.std.specs.Prelude.{◌≡◌, ℕ, ◌<◌, List, [], ◌∷◌, ◌++◌, length, get_or, take, set, Option, None, Some, Result, MatchResult, ⊤}
 use Rattle.std.specs.Io.KnownBytes.{Appends}
 
 -- what is told stays as it was
@@ -46,7 +46,7 @@ ChangesFile None new at change = ⊤
 ChangesFile (Some files) None at change = ⊥
 ChangesFile (Some files) (Some now) at change = now ≡ set files at (change (get_or files at no_file))
 
--- a call appended the bytes to the file at a place: all of them at Ok, a prefix of them at Err
+-- a call appended the bytes to the file at a place: all of them at Ok, fewer of them at Err
 abbrev pub PutsInFile : {T E : Type 0} → Result T E → Option (List File) → Option (List File) → ℕ → List ℕ → Type 0
 PutsInFile result old new at bytes =
-    MatchResult result (λ _. ChangesFile old new at (λ file. grown file bytes)) (λ _. (n : ℕ) × ChangesFile old new at (λ file. grown file (take n bytes)))
+    MatchResult result (λ _. ChangesFile old new at (λ file. grown file bytes)) (λ _. (n : ℕ) × (n < length bytes) × ChangesFile old new at (λ file. grown file (take n bytes)))

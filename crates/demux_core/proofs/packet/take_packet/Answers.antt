@@ -89,3 +89,23 @@ returns-in-Err-clause-failed g c = λ records few all. stopped_one (g.T.Outlet.S
     (is_receiving (plan_fields c.args.plan.now) c.args.receivers.now c.args.table.now records c.in-Some.at c.args.packet.now.pid (service_seen c.at.result.now) c.index-receivers-at.result
     (found_at c.args.receivers.now c.args.packet.now.pid c.in-Some.at c.index-receivers-at.result (sym c.place_of.ensures ∙ c.in-Some.is)).1
     (slice_get-map service_seen c.args.plan.now.services c.in-Some.at ∙ ap (option_map service_seen) c.at.ensures.read) few all))
+
+pub returns-in-Err-clause-received : goal.returns-in-Err-clause-received
+returns-in-Err-clause-received g c = λ records few all.
+    subst (λ (t : Option TableReceiver). HaveAllReceived (plan_fields c.args.plan.now) (set c.args.receivers.now c.in-Some.at c.take.new.self) t (records ++ packet_record c.args.moment c.args.bytes.now ∷ [])) (sym (c.take_for_table.ensures.unchanged c.if-take_for_table.false))
+    (service_took (plan_fields c.args.plan.now) c.args.receivers.now c.args.table.now records (packet_record c.args.moment c.args.bytes.now) c.args.packet.now.pid
+    (sym (ap (λ (f : PacketFields). f.pid) c.requires.read.fields_are)) c.requires.fits.differ all
+    c.in-Some.at (service_seen c.at.result.now) c.index-receivers-at.result
+    (found_at c.args.receivers.now c.args.packet.now.pid c.in-Some.at c.index-receivers-at.result (sym c.place_of.ensures ∙ c.in-Some.is)).0
+    (found_at c.args.receivers.now c.args.packet.now.pid c.in-Some.at c.index-receivers-at.result (sym c.place_of.ensures ∙ c.in-Some.is)).1
+    (slice_get-map service_seen c.args.plan.now.services c.in-Some.at ∙ ap (option_map service_seen) c.at.ensures.read)
+    c.take.new.self (sym c.take_for_table.ensures.taken ∙ c.if-take_for_table.false)
+    (c.in-Err.ensures.received (service_seen c.at.result.now) records
+    (is_receiving (plan_fields c.args.plan.now) c.args.receivers.now c.args.table.now records c.in-Some.at c.args.packet.now.pid (service_seen c.at.result.now) c.index-receivers-at.result
+    (found_at c.args.receivers.now c.args.packet.now.pid c.in-Some.at c.index-receivers-at.result (sym c.place_of.ensures ∙ c.in-Some.is)).1
+    (slice_get-map service_seen c.args.plan.now.services c.in-Some.at ∙ ap (option_map service_seen) c.at.ensures.read) few all)))
+
+pub returns-in-Err-clause-of_plan : goal.returns-in-Err-clause-of_plan
+returns-in-Err-clause-of_plan g c = λ records all. (known (plan_fields c.args.plan.now) c.args.receivers.now c.args.table.now records (packet_record c.args.moment c.args.bytes.now) c.args.packet.now.pid
+    (sym (ap (λ (f : PacketFields). f.pid) c.requires.read.fields_are)) c.requires.fits.differ all
+    ∙ ap₂ (λ a b. a || b) (sym c.take_for_table.ensures.taken ∙ c.if-take_for_table.false) (place_known c.args.receivers.now c.args.packet.now.pid c.in-Some.at (sym c.place_of.ensures ∙ c.in-Some.is)))

@@ -1,4 +1,4 @@
-use Rattle.std.proofs.Common.{◌≤◌, ◌-◌, ◌≡◌, length, take}
+use Rattle.std.proofs.Common.{◌≤◌, ◌-◌, ◌≡◌, false, length, take}
 use Rattle.std.specs.Io.KnownBytes.{Consumes}
 use Rattle.wire_spec.specs.Causes.{raised}
 use Rattle.ipe_io.proofs.helpers.fill.Given as goal
@@ -7,9 +7,10 @@ abbrev pub invariant-loop-got : goal.invariant-loop-got
 invariant-loop-got g l =
     record {
       within : l.got ≤ length l.buf;
-      read : Consumes (g.S.Source.left l.fn.source) (g.S.Source.left l.source) (take l.got l.buf);
-      taken : g.S.Source.taken l.source ≡ raised (g.S.Source.taken l.fn.source) l.got;
-      later : g.S.Source.faults l.fn.source ≤ g.S.Source.faults l.source;
+      read : Consumes (g.S.Source.told l.fn.source).left (g.S.Source.told l.source).left (take l.got l.buf);
+      taken : (g.S.Source.told l.source).taken ≡ raised (g.S.Source.told l.fn.source).taken l.got;
+      unended : (g.S.Source.told l.fn.source).ended ≡ false → (g.S.Source.told l.source).ended ≡ false;
+      same : (g.S.Source.told l.source).faults ≡ (g.S.Source.told l.fn.source).faults;
     }
 
 abbrev pub decreases-loop-got : goal.decreases-loop-got

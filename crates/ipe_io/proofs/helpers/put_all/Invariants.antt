@@ -1,4 +1,4 @@
-use Rattle.std.proofs.Common.{◌≤◌, ◌-◌, length, take}
+use Rattle.std.proofs.Common.{◌≡◌, ◌≤◌, ◌-◌, length, take}
 use Rattle.std.specs.Io.KnownBytes.{Appends}
 use Rattle.wire_spec.specs.Content.{Stays}
 use Rattle.ipe_io.proofs.helpers.put_all.Given as goal
@@ -7,9 +7,9 @@ abbrev pub invariant-loop-done : goal.invariant-loop-done
 invariant-loop-done g l =
     record {
       within : l.done ≤ length l.piece;
-      written : Appends (g.K.Sink.held l.fn.sink) (g.K.Sink.held l.sink) (take l.done l.piece);
-      flushed : Stays (g.K.Sink.flushed l.fn.sink) (g.K.Sink.flushed l.sink);
-      later : g.K.Sink.faults l.fn.sink ≤ g.K.Sink.faults l.sink;
+      written : Appends (g.K.Sink.told l.fn.sink).held (g.K.Sink.told l.sink).held (take l.done l.piece);
+      flushed : Stays (g.K.Sink.told l.fn.sink).flushed (g.K.Sink.told l.sink).flushed;
+      same : (g.K.Sink.told l.sink).faults ≡ (g.K.Sink.told l.fn.sink).faults;
     }
 
 abbrev pub decreases-loop-done : goal.decreases-loop-done

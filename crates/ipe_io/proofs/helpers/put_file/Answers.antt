@@ -7,9 +7,9 @@ pub loop-put-preserved : goal.loop-put-preserved
 loop-put-preserved g c = record {
   within = search rules;
   count = c.in_ok-put.ensures.count ∙ c.loop-put.invariant.count;
-  written = changes-trans (g.R.Rack.files c.args.rack.now) (g.R.Rack.files c.loop-put.rack) (g.R.Rack.files c.write.new.self) c.args.at
+  written = changes-trans (g.R.Rack.told c.args.rack.now).files (g.R.Rack.told c.loop-put.rack).files (g.R.Rack.told c.write.new.self).files c.args.at
       (take c.loop-put.put c.args.piece.now) (take c.in_ok-put.field-0 (take (length c.args.piece.now - c.loop-put.put) (drop c.loop-put.put c.args.piece.now))) (take (c.loop-put.put + c.in_ok-put.field-0) c.args.piece.now)
       (take-more c.args.piece.now c.loop-put.put c.in_ok-put.field-0 c.in_ok-put.ensures.bound)
-      (is_there (g.R.Rack.files c.args.rack.now) c.args.at (g.R.Rack.count c.args.rack.now) (g.met.R.Rack.as_many c.args.rack.now) c.requires) c.loop-put.invariant.written c.in_ok-put.ensures.written;
-  later = omega (arith, c.loop-put.invariant.later, c.in_ok-put.ensures.cause.later);
+      (is_there (g.R.Rack.told c.args.rack.now).files c.args.at (g.R.Rack.told c.args.rack.now).count (g.met.R.Rack.as_many c.args.rack.now) c.requires) c.loop-put.invariant.written c.in_ok-put.ensures.written;
+  same = c.in_ok-put.ensures.cause.kept ∙ c.loop-put.invariant.same;
 }

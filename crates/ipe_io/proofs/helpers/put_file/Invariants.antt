@@ -6,9 +6,9 @@ abbrev pub invariant-loop-put : goal.invariant-loop-put
 invariant-loop-put g l =
     record {
       within : l.put ≤ length l.piece;
-      count : g.R.Rack.count l.rack ≡ g.R.Rack.count l.fn.rack;
-      written : ChangesFile (g.R.Rack.files l.fn.rack) (g.R.Rack.files l.rack) l.at (λ file. grown file (take l.put l.piece));
-      later : g.R.Rack.faults l.fn.rack ≤ g.R.Rack.faults l.rack;
+      count : (g.R.Rack.told l.rack).count ≡ (g.R.Rack.told l.fn.rack).count;
+      written : ChangesFile (g.R.Rack.told l.fn.rack).files (g.R.Rack.told l.rack).files l.at (λ file. grown file (take l.put l.piece));
+      same : (g.R.Rack.told l.rack).faults ≡ (g.R.Rack.told l.fn.rack).faults;
     }
 
 abbrev pub decreases-loop-put : goal.decreases-loop-put

@@ -1,12 +1,11 @@
-use Rattle.std.proofs.Common.{◌≡◌, ap, Err}
+use Rattle.std.proofs.Common.{◌≡◌, ap, inl, Err}
 use Rattle.command_words.specs.declared.parse.WordsFault.TheVariants.{Usage, OutOfMemory}
-use Rattle.ipencap_engine.proofs.Commands.{none_built}
 use Rattle.ipencap_engine.proofs.words.read_words.Goals as goal
 
 pub returns-in-Err-clause-usage : goal.returns-in-Err-clause-usage
 returns-in-Err-clause-usage c = λ e.
     let usage : c.in-Err.fault ≡ Usage = cc in
-    none_built _ (c.in-Err.ensures.usage (ap (λ f. Err f) usage))
+    inl (c.in-Err.ensures.usage (ap (λ f. Err f) usage))
 
 pub returns-in-Err-clause-memory : goal.returns-in-Err-clause-memory
 returns-in-Err-clause-memory c = λ e.

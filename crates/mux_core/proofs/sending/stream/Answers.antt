@@ -21,19 +21,19 @@ pub returns-in-Err-clause-written : goal.returns-in-Err-clause-written
 returns-in-Err-clause-written g c = λ gives stands.
     let plan : PlanFields = plan_fields c.args.plan.now in
     let found : (records : List (List ℕ)) × IsStream plan (offered_to plan gives) records = c.there_is_one_stream.ensures.is plan (offered_to plan gives) c.args.plan.now.valid in
-    record { records = found.0; stream = found.1; written = (0, Appends-nil (g.K.Sink.held c.args.sink.now)); packets = tt }
+    record { records = found.0; stream = found.1; written = (0, Appends-nil (g.K.Sink.told c.args.sink.now).held); packets = tt }
 
 pub returns-in-Err-new-clause-written : goal.returns-in-Err-new-clause-written
 returns-in-Err-new-clause-written g c = λ gives stands.
     let plan : PlanFields = plan_fields c.args.plan.now in
     let found : (records : List (List ℕ)) × IsStream plan (offered_to plan gives) records = c.there_is_one_stream.ensures.is plan (offered_to plan gives) c.args.plan.now.valid in
-    record { records = found.0; stream = found.1; written = (0, Appends-nil (g.K.Sink.held c.args.sink.now)); packets = tt }
+    record { records = found.0; stream = found.1; written = (0, Appends-nil (g.K.Sink.told c.args.sink.now).held); packets = tt }
 
 pub returns-in-Err-new-2-clause-written : goal.returns-in-Err-new-2-clause-written
 returns-in-Err-new-2-clause-written g c = λ gives stands.
     let plan : PlanFields = plan_fields c.args.plan.now in
     let found : (records : List (List ℕ)) × IsStream plan (offered_to plan gives) records = c.there_is_one_stream.ensures.is plan (offered_to plan gives) c.args.plan.now.valid in
-    record { records = found.0; stream = found.1; written = (0, Appends-nil (g.K.Sink.held c.args.sink.now)); packets = tt }
+    record { records = found.0; stream = found.1; written = (0, Appends-nil (g.K.Sink.told c.args.sink.now).held); packets = tt }
 
 pub count_datagrams-datagrams-requires-clause-services : goal.count_datagrams-datagrams-requires-clause-services
 count_datagrams-datagrams-requires-clause-services g c = omega (arith, c.requires.offered.stands.count, few_services (plan_fields c.args.plan.now) c.args.plan.now.valid)

@@ -1,4 +1,4 @@
-use Rattle.std.proofs.Common.{◌≡◌, ◌+◌, ◌<◌, ℕ, List, true, false, ltb, length, refl, ap, arith}
+use Rattle.std.proofs.Common.{◌≡◌, ◌+◌, ◌<◌, ℕ, List, true, false, ltb, length, refl, ap, ◌∙◌, arith}
 use Rattle.ipe_io.proofs.Told.{stays-refl, stays-trans}
 use Rattle.ts_spec.specs.Packet.{PacketFields}
 use Rattle.plan_spec.specs.Plan.{PlanFields}
@@ -17,10 +17,10 @@ loop-turn-init g c = record {
   last = λ none s e. absurd (omega (arith, e));
   few = c.requires.count;
   most = omega (arith, c.requires.count);
-  handed = none_handed (plan_fields c.args.plan.now) c.args.services.now.packets (g.K.Sink.held c.args.sink.now) c.args.batch.now c.requires.empty;
+  handed = none_handed (plan_fields c.args.plan.now) c.args.services.now.packets (g.K.Sink.told c.args.sink.now).held c.args.batch.now c.requires.empty;
   room = omega (arith, ap (λ (l : List ℕ). length l) c.requires.empty);
-  flushed = stays-refl (g.K.Sink.flushed c.args.sink.now);
-  later = omega arith;
+  flushed = stays-refl (g.K.Sink.told c.args.sink.now).flushed;
+  same = refl;
 }
 
 -- packets are left, as it is told
@@ -37,14 +37,14 @@ returns-in-Err-clause-written g c =
     let slot : ℕ = c.loop-turn.slot in
     let end : (slots : ℕ) × IsSlotCount (slot_in plan services) slots = slots_end plan services c.args.plan.now.valid in
     let adds : AddsRecord plan services slot c.add.new.services c.loop-turn.batch c.add.new.self = c.add.ensures.added services c.loop-turn.invariant.services in
-    let handed : AreHanded plan services slot (g.K.Sink.held c.args.sink.now) (g.K.Sink.held c.loop-turn.sink) c.loop-turn.batch = c.loop-turn.invariant.handed in
+    let handed : AreHanded plan services slot (g.K.Sink.told c.args.sink.now).held (g.K.Sink.told c.loop-turn.sink).held c.loop-turn.batch = c.loop-turn.invariant.handed in
     let some : 0 < packet_total c.loop-turn.services.packets = some_left (packet_total c.loop-turn.services.packets) c.in-Some.ensures.left in
     record {
       slots = end.0;
       count = end.1;
-      written = part_handed plan services end.0 (slot + 1) (g.K.Sink.held c.args.sink.now) (g.K.Sink.held c.loop-turn.sink) (g.K.Sink.held c.put_full.new.sink) handed.front c.add.new.self
+      written = part_handed plan services end.0 (slot + 1) (g.K.Sink.told c.args.sink.now).held (g.K.Sink.told c.loop-turn.sink).held (g.K.Sink.told c.put_full.new.sink).held handed.front c.add.new.self
           (omega (arith, goes_on plan services c.args.plan.now.valid end.0 slot c.loop-turn.services end.1 c.loop-turn.invariant.services some))
-          (added_bytes plan services slot c.add.new.services (g.K.Sink.held c.args.sink.now) (g.K.Sink.held c.loop-turn.sink) c.loop-turn.batch c.add.new.self adds handed)
+          (added_bytes plan services slot c.add.new.services (g.K.Sink.told c.args.sink.now).held (g.K.Sink.told c.loop-turn.sink).held c.loop-turn.batch c.add.new.self adds handed)
           handed.appended c.in-Err.ensures.handed;
       packets = tt;
     }
@@ -77,11 +77,11 @@ loop-turn-preserved g c =
         c.add.ensures.count,
         c.loop-turn.invariant.most,
       );
-      handed = one_handed plan services slot c.add.new.services (g.K.Sink.held c.args.sink.now) (g.K.Sink.held c.loop-turn.sink) (g.K.Sink.held c.put_full.new.sink) c.loop-turn.batch c.add.new.self
+      handed = one_handed plan services slot c.add.new.services (g.K.Sink.told c.args.sink.now).held (g.K.Sink.told c.loop-turn.sink).held (g.K.Sink.told c.put_full.new.sink).held c.loop-turn.batch c.add.new.self
           c.put_full.new.self adds c.loop-turn.invariant.handed c.in-Ok.ensures.handed;
       room = c.in-Ok.ensures.room;
-      flushed = stays-trans (g.K.Sink.flushed c.args.sink.now) (g.K.Sink.flushed c.loop-turn.sink) (g.K.Sink.flushed c.put_full.new.sink) c.loop-turn.invariant.flushed c.in-Ok.ensures.flushed;
-      later = omega (arith, c.loop-turn.invariant.later, c.in-Ok.ensures.cause.later);
+      flushed = stays-trans (g.K.Sink.told c.args.sink.now).flushed (g.K.Sink.told c.loop-turn.sink).flushed (g.K.Sink.told c.put_full.new.sink).flushed c.loop-turn.invariant.flushed c.in-Ok.ensures.flushed;
+      same = c.in-Ok.ensures.cause.kept ∙ c.loop-turn.invariant.same;
     }
 
 pub returns-in-Ok-put-clause-written : goal.returns-in-Ok-put-clause-written
@@ -93,7 +93,7 @@ returns-in-Ok-put-clause-written g c =
     record {
       slots = slot;
       count = record { last = c.loop-turn.invariant.last none; over = over_there plan services slot c.loop-turn.services c.loop-turn.invariant.services none };
-      written = all_handed plan services slot (g.K.Sink.held c.args.sink.now) (g.K.Sink.held c.loop-turn.sink) (g.K.Sink.held c.put.new.sink) c.loop-turn.batch c.loop-turn.invariant.handed c.in-Ok-put.ensures.written;
+      written = all_handed plan services slot (g.K.Sink.told c.args.sink.now).held (g.K.Sink.told c.loop-turn.sink).held (g.K.Sink.told c.put.new.sink).held c.loop-turn.batch c.loop-turn.invariant.handed c.in-Ok-put.ensures.written;
       packets = refl;
     }
 
@@ -103,11 +103,11 @@ returns-in-Err-put-clause-written g c =
     let services : List (List PacketFields) = c.args.services.now.packets in
     let slot : ℕ = c.loop-turn.slot in
     let none : packet_total c.loop-turn.services.packets ≡ 0 = none_left (packet_total c.loop-turn.services.packets) c.in_default.ensures.left in
-    let handed : AreHanded plan services slot (g.K.Sink.held c.args.sink.now) (g.K.Sink.held c.loop-turn.sink) c.loop-turn.batch = c.loop-turn.invariant.handed in
+    let handed : AreHanded plan services slot (g.K.Sink.told c.args.sink.now).held (g.K.Sink.told c.loop-turn.sink).held c.loop-turn.batch = c.loop-turn.invariant.handed in
     record {
       slots = slot;
       count = record { last = c.loop-turn.invariant.last none; over = over_there plan services slot c.loop-turn.services c.loop-turn.invariant.services none };
-      written = part_handed plan services slot slot (g.K.Sink.held c.args.sink.now) (g.K.Sink.held c.loop-turn.sink) (g.K.Sink.held c.put.new.sink) handed.front c.loop-turn.batch (omega arith)
+      written = part_handed plan services slot slot (g.K.Sink.told c.args.sink.now).held (g.K.Sink.told c.loop-turn.sink).held (g.K.Sink.told c.put.new.sink).held handed.front c.loop-turn.batch (omega arith)
           handed.bytes_are handed.appended c.in-Err-put.ensures.written;
       packets = tt;
     }

@@ -17,10 +17,10 @@ invariant-loop-turn g l = record {
   last : packet_total l.services.packets ≡ 0 → (s : ℕ) → l.slot ≡ s + 1 → is_of_service (slot_in (plan_fields l.plan) l.fn.services.packets s) ≡ true;
   few : l.table.count ≤ 23;
   most : l.slot + (24 * packet_total l.services.packets + (l.table.count - l.slot % l.plan.cycle)) ≤ 24 * packet_total l.fn.services.packets + 23;
-  handed : AreHanded (plan_fields l.plan) l.fn.services.packets l.slot (g.K.Sink.held l.fn.sink) (g.K.Sink.held l.sink) l.batch;
+  handed : AreHanded (plan_fields l.plan) l.fn.services.packets l.slot (g.K.Sink.told l.fn.sink).held (g.K.Sink.told l.sink).held l.batch;
   room : length l.batch ≤ 192512;
-  flushed : Stays (g.K.Sink.flushed l.fn.sink) (g.K.Sink.flushed l.sink);
-  later : g.K.Sink.faults l.fn.sink ≤ g.K.Sink.faults l.sink;
+  flushed : Stays (g.K.Sink.told l.fn.sink).flushed (g.K.Sink.told l.sink).flushed;
+  same : (g.K.Sink.told l.sink).faults ≡ (g.K.Sink.told l.fn.sink).faults;
 }
 
 abbrev pub decreases-loop-turn : goal.decreases-loop-turn

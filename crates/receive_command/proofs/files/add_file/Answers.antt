@@ -5,7 +5,7 @@ use Rattle.receive_command.proofs.files.add_file.Goals as goal
 
 pub returns-in-Ok-put_file-clause-written : goal.returns-in-Ok-put_file-clause-written
 returns-in-Ok-put_file-clause-written g c =
-    rw (← c.write_head.ensures.written) (adds_grown (g.R.Rack.files c.args.rack.now) (g.R.Rack.files c.add.new.self) (g.R.Rack.files c.put_file.new.rack) c.in-Ok-add.at (g.R.Rack.count c.args.rack.now)
+    rw (← c.write_head.ensures.written) (adds_grown (g.R.Rack.told c.args.rack.now).files (g.R.Rack.told c.add.new.self).files (g.R.Rack.told c.put_file.new.rack).files c.in-Ok-add.at (g.R.Rack.told c.args.rack.now).count
     c.args.name.now c.as_str.result.now c.write_head.new.into (c.as_str.ensures.value ∙ c.in-Ok.ensures.written)
     (g.met.R.Rack.as_many c.args.rack.now) c.in-Ok-add.ensures.place c.in-Ok-add.ensures.written c.in-Ok-put_file.ensures.written)
 
@@ -13,7 +13,8 @@ pub returns-clause-failed : goal.returns-clause-failed
 returns-clause-failed g c = λ e.
     rw (← c.write_head.ensures.written) (inr (
       c.in-Err-put_file.ensures.written.0,
-      adds_grown (g.R.Rack.files c.args.rack.now) (g.R.Rack.files c.add.new.self) (g.R.Rack.files c.put_file.new.rack) c.in-Ok-add.at (g.R.Rack.count c.args.rack.now)
+      c.in-Err-put_file.ensures.written.1,
+      adds_grown (g.R.Rack.told c.args.rack.now).files (g.R.Rack.told c.add.new.self).files (g.R.Rack.told c.put_file.new.rack).files c.in-Ok-add.at (g.R.Rack.told c.args.rack.now).count
           c.args.name.now c.as_str.result.now (take c.in-Err-put_file.ensures.written.0 c.write_head.new.into) (c.as_str.ensures.value ∙ c.in-Ok.ensures.written)
-          (g.met.R.Rack.as_many c.args.rack.now) c.in-Ok-add.ensures.place c.in-Ok-add.ensures.written c.in-Err-put_file.ensures.written.1,
+          (g.met.R.Rack.as_many c.args.rack.now) c.in-Ok-add.ensures.place c.in-Ok-add.ensures.written c.in-Err-put_file.ensures.written.2,
     ))

@@ -5,9 +5,9 @@ use Rattle.receive_command.proofs.files.add_files.Given as goal
 
 abbrev pub invariant-loop-k : goal.invariant-loop-k
 invariant-loop-k g l = record {
-  count : g.R.Rack.count l.rack ≡ g.R.Rack.count l.fn.rack + l.k;
-  place : l.first ≡ g.R.Rack.count l.fn.rack;
+  count : (g.R.Rack.told l.rack).count ≡ (g.R.Rack.told l.fn.rack).count + l.k;
+  place : l.first ≡ (g.R.Rack.told l.fn.rack).count;
   fits : l.first + l.k ≤ 2 ^ 32;
-  added : AddsCaptures false head_of (take l.k (map service_seen l.services)) (g.R.Rack.files l.fn.rack) (g.R.Rack.files l.rack);
-  faults : g.R.Rack.faults l.fn.rack ≤ g.R.Rack.faults l.rack;
+  added : AddsCaptures false head_of (take l.k (map service_seen l.services)) (g.R.Rack.told l.fn.rack).files (g.R.Rack.told l.rack).files;
+  faults : (g.R.Rack.told l.rack).faults ≡ (g.R.Rack.told l.fn.rack).faults;
 }

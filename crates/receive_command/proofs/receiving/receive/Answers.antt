@@ -30,7 +30,7 @@ returns-in-Whole-clause-done g c = λ e.
     let whole = c.in-Whole.ensures.whole c.in-Whole.tail refl in
     record {
       ends = whole.ends;
-      reports = subst (λ (n : ℕ). Reports plan (records_in plan whole.ends.pieces) n (g.O.Sink.held c.args.output.now) (g.O.Sink.held c.put_report.new.output)) whole.tail_is
+      reports = subst (λ (n : ℕ). Reports plan (records_in plan whole.ends.pieces) n (g.O.Sink.told c.args.output.now).held (g.O.Sink.told c.put_report.new.output).held) whole.tail_is
           (c.put_report.ensures.done (records_in plan whole.ends.pieces) whole.received e);
     }
 
@@ -40,7 +40,7 @@ returns-in-Whole-clause-report g c = λ e.
     let whole = c.in-Whole.ensures.whole c.in-Whole.tail refl in
     record {
       ends = whole.ends;
-      reports = subst (λ (n : ℕ). ReportsPart plan (records_in plan whole.ends.pieces) n (g.O.Sink.held c.args.output.now) (g.O.Sink.held c.put_report.new.output)) whole.tail_is
+      reports = subst (λ (n : ℕ). ReportsPart plan (records_in plan whole.ends.pieces) n (g.O.Sink.told c.args.output.now).held (g.O.Sink.told c.put_report.new.output).held) whole.tail_is
           (c.put_report.ensures.report (records_in plan whole.ends.pieces) whole.received e);
     }
 
@@ -53,7 +53,7 @@ returns-in-Err-clause-memory g c = λ e. inl (
   record {
     count = 0;
     fewer = (services_count (plan_fields c.args.plan.now) c.args.plan.now.valid).0;
-    files = adds_none (g.R.Rack.files c.args.rack.now);
+    files = adds_none (g.R.Rack.told c.args.rack.now).files;
   },
 )
 

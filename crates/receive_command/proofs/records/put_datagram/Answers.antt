@@ -1,17 +1,26 @@
-use Rattle.std.proofs.Common.{◌++◌, List, ℕ, ap, sym}
+use Rattle.std.proofs.Common.{◌≡◌, ◌++◌, ◌+◌, ◌<◌, List, ℕ, length, take, ap, sym, ◌∙◌, subst}
+use Rattle.wire_spec.specs.Content.{ChangesFile, grown}
 use Rattle.pcap_file.specs.Capture.{capture_record}
-use Rattle.ipe_io.proofs.Told.{is_there}
-use Rattle.receive_command.proofs.Texts.{puts_then, stops_before}
+use Rattle.ipe_io.proofs.Told.{is_there, changes-trans}
+use Rattle.receive_command.proofs.Heads.{head_size}
+use Rattle.receive_command.proofs.Texts.{part_then, less_then, part_before, less_before}
 use Rattle.receive_command.proofs.records.put_datagram.Goals as goal
 
-pub returns-in-Err-clause-written : goal.returns-in-Err-clause-written
-returns-in-Err-clause-written g c =
-    stops_before (g.R.Rack.files c.args.rack.now) (g.R.Rack.files c.put_file.new.rack) c.args.at c.in-Err.ensures.written.0 c.head-start.result c.args.datagram.now (capture_record c.args.datagram.now)
-    (sym (ap (λ (h : List ℕ). h ++ c.args.datagram.now) c.head-start.ensures.written)) c.in-Err.ensures.written.1
-
-pub returns-clause-written : goal.returns-clause-written
-returns-clause-written g c =
-    puts_then c.put_file-2.result (g.R.Rack.files c.args.rack.now) (g.R.Rack.files c.put_file.new.rack) (g.R.Rack.files c.put_file-2.new.rack) c.args.at c.head-start.result c.args.datagram.now (capture_record c.args.datagram.now)
+pub returns-in-Ok-put_piece-clause-written : goal.returns-in-Ok-put_piece-clause-written
+returns-in-Ok-put_piece-clause-written g c =
+    changes-trans (g.R.Rack.told c.args.rack.now).files (g.R.Rack.told c.put_piece.new.rack).files (g.R.Rack.told c.put_piece-2.new.rack).files c.args.at c.head-start.result c.args.datagram.now (capture_record c.args.datagram.now)
     (sym (ap (λ (h : List ℕ). h ++ c.args.datagram.now) c.head-start.ensures.written))
-    (is_there (g.R.Rack.files c.args.rack.now) c.args.at (g.R.Rack.count c.args.rack.now) (g.met.R.Rack.as_many c.args.rack.now) c.requires)
-    c.in-Ok.ensures.written c.put_file-2.ensures.written
+    (is_there (g.R.Rack.told c.args.rack.now).files c.args.at (g.R.Rack.told c.args.rack.now).count (g.met.R.Rack.as_many c.args.rack.now) c.requires)
+    c.in-Ok.ensures.written c.in-Ok-put_piece.ensures.written
+
+pub returns-in-Err-put_piece-clause-part : goal.returns-in-Err-put_piece-clause-part
+returns-in-Err-put_piece-clause-part g c =
+    let text : List ℕ = capture_record c.args.datagram.now in
+    let e : c.head-start.result ++ c.args.datagram.now ≡ text = ap (λ (h : List ℕ). h ++ c.args.datagram.now) c.head-start.ensures.written in
+    let size : length c.head-start.result ≡ 16 = ap length c.head-start.ensures.written ∙ head_size (length c.args.datagram.now) in (
+      subst (λ (n : ℕ). n + c.in-Err-put_piece.put < length text) size (less_then c.in-Err-put_piece.put c.head-start.result c.args.datagram.now text e c.in-Err-put_piece.ensures.part.0),
+      subst (λ (n : ℕ). ChangesFile (g.R.Rack.told c.args.rack.now).files (g.R.Rack.told c.put_piece-2.new.rack).files c.args.at (λ file. grown file (take (n + c.in-Err-put_piece.put) text))) size
+          (part_then (g.R.Rack.told c.args.rack.now).files (g.R.Rack.told c.put_piece.new.rack).files (g.R.Rack.told c.put_piece-2.new.rack).files c.args.at c.in-Err-put_piece.put c.head-start.result c.args.datagram.now text e
+          (is_there (g.R.Rack.told c.args.rack.now).files c.args.at (g.R.Rack.told c.args.rack.now).count (g.met.R.Rack.as_many c.args.rack.now) c.requires)
+          c.in-Ok.ensures.written c.in-Err-put_piece.ensures.part.1),
+    )

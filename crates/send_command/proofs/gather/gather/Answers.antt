@@ -1,41 +1,51 @@
-use Rattle.std.proofs.Common.{◌+◌, [], ◌∷◌, ◌++◌, Some, None, Ok, ap, sym, ◌∙◌, subst, arith}
+use Rattle.std.proofs.Common.{inl, List, ℕ, Result, Err, append-nil, ◌+◌, [], ◌∷◌, ◌++◌, Some, None, Ok, ap, sym, ◌∙◌, subst, arith}
 use Rattle.std.proofs.KnownBytes.{Consumes-trans}
-use Rattle.pcap_file.specs.Reader.{rest_of}
+use Rattle.pcap_file.specs.Reader.{Takes, rest_of}
+use Rattle.pcap_file.proofs.Shown.{no_fault_in_head}
 use Rattle.service_plan.specs.PlanView.{plan_fields}
 use Rattle.offered_datagrams.specs.declared.offered.Offered.{Offered}
 use Rattle.mux_core.specs.Sending.{IsUnderPlan}
 use Rattle.send_command.proofs.Intakes.{consumed_none, intake_none, nearer, gathered_none, gathered_all, intake_under, place_behind}
+use Rattle.send_command.specs.declared.gather.Gathered.{Gathered}
+use Rattle.send_command.specs.declared.gather.Next.{Next}
+use Rattle.send_command.specs.declared.gather.Next.TheVariants as next
+use Rattle.send_command.specs.declared.gather.ReadFault.{ReadFault}
+use Rattle.send_command.proofs.Taking.{fault_in_head, reads_all, stops_at_fault, stops_in_error, taken_in}
 use Rattle.send_command.proofs.gather.gather.Goals as goal
 
 pub records-init : goal.records-init
 records-init g c =
     let read = c.in-Ok-open.ensures.read in
     let opened = c.in-Ok-open.ensures.opened in (
-      read.0,
+      read.head,
       [],
       record {
-        consumed = consumed_none (g.I.Source.left c.args.input.now) (g.I.Source.left c.open.new.source) read.0 c.in-Ok-open.reader.held read.1 opened.1;
-        intake = intake_none (plan_fields c.args.plan.now) c.in-Ok-open.reader c.in-Ok.offered read.0 read.2 opened.0 c.in-Ok.ensures.stands;
-        later = c.in-Ok-open.ensures.cause.later;
+        consumed = consumed_none (g.I.Source.told c.args.input.now).left (g.I.Source.told c.open.new.source).left read.head c.in-Ok-open.reader.held read.takes.consumed opened.1;
+        intake = intake_none (plan_fields c.args.plan.now) c.in-Ok-open.reader c.in-Ok.offered read.head read.shows opened.0 c.in-Ok.ensures.stands;
+        taken = subst (λ (l : List ℕ). Takes (g.I.Source.told c.args.input.now) (g.I.Source.told c.open.new.source) l) (sym (ap (λ l. read.head ++ l) opened.1 ∙ append-nil read.head)) read.takes;
+        same = c.in-Ok-open.ensures.cause.kept (λ e. cc);
+        on = c.in-Ok-open.ensures.goes_on tt;
       },
     )
 
 pub records-smaller : goal.records-smaller
 records-smaller g c =
     let more = c.in-Ok-Record.ensures.more c.records.invariant.0 c.records.invariant.1 c.records.invariant.2.intake (ap (λ n. Ok n) c.in-Ok-Record.field-0-is) in
-    nearer (plan_fields c.args.plan.now) c.records.reader c.offer_next.new.reader c.records.offered c.offer_next.new.offered c.records.invariant.0 more.0 c.records.invariant.1 more.1
-    c.records.invariant.2.intake more.3
+    nearer (plan_fields c.args.plan.now) c.records.reader c.offer_next.new.reader c.records.offered c.offer_next.new.offered c.records.invariant.0 more.piece c.records.invariant.1 more.bytes
+    c.records.invariant.2.intake more.intake
 
 pub records-preserved : goal.records-preserved
 records-preserved g c =
     let more = c.in-Ok-Record.ensures.more c.records.invariant.0 c.records.invariant.1 c.records.invariant.2.intake (ap (λ n. Ok n) c.in-Ok-Record.field-0-is) in (
-      c.records.invariant.0 ++ more.0,
-      c.records.invariant.1 ++ more.1 ∷ [],
+      c.records.invariant.0 ++ more.piece,
+      c.records.invariant.1 ++ more.bytes ∷ [],
       record {
-        consumed = Consumes-trans (g.I.Source.left c.args.input.now) (rest_of c.records.reader.held (g.I.Source.left c.records.input)) (rest_of c.offer_next.new.reader.held (g.I.Source.left c.offer_next.new.input)) c.records.invariant.0 more.0
-            c.records.invariant.2.consumed more.2;
-        intake = more.3;
-        later = omega (arith, c.records.invariant.2.later, c.in-Ok-Record.ensures.cause.later);
+        consumed = Consumes-trans (g.I.Source.told c.args.input.now).left (rest_of c.records.reader.held (g.I.Source.told c.records.input).left) (rest_of c.offer_next.new.reader.held (g.I.Source.told c.offer_next.new.input).left) c.records.invariant.0 more.piece
+            c.records.invariant.2.consumed more.consumed;
+        intake = more.intake;
+        taken = taken_in c.records.invariant.0 c.records.reader.held more.more more.piece c.offer_next.new.reader.held (g.I.Source.told c.args.input.now) (g.I.Source.told c.records.input) (g.I.Source.told c.offer_next.new.input) c.records.invariant.2.taken more.takes more.moved;
+        same = c.in-Ok-Record.ensures.cause.kept (λ e. cc) ∙ c.records.invariant.2.same;
+        on = λ was. c.in-Ok-Record.ensures.on (ap (λ n. Ok n) c.in-Ok-Record.field-0-is) (c.records.invariant.2.on was);
       },
     )
 
@@ -43,7 +53,7 @@ pub returns-in-Ok-End-clause-told : goal.returns-in-Ok-End-clause-told
 returns-in-Ok-End-clause-told g c =
     let end = ap (λ n. Ok n) c.in-Ok-End.field-0-is in
     gathered_all (plan_fields c.args.plan.now) c.records.reader c.records.offered c.records.invariant.0 c.records.invariant.1
-    (g.I.Source.left c.args.input.now) (rest_of c.records.reader.held (g.I.Source.left c.records.input)) (record { offered = c.offer_next.new.offered; fault = None })
+    (g.I.Source.told c.args.input.now).left (rest_of c.records.reader.held (g.I.Source.told c.records.input).left) (record { offered = c.offer_next.new.offered; fault = None })
     c.records.invariant.2.intake c.records.invariant.2.consumed (c.in-Ok-End.ensures.end c.records.invariant.0 c.records.invariant.1 c.records.invariant.2.intake end)
     (c.in-Ok-End.ensures.kept_end end) tt
 
@@ -56,7 +66,7 @@ pub returns-in-Ok-Fault-clause-told : goal.returns-in-Ok-Fault-clause-told
 returns-in-Ok-Fault-clause-told g c =
     let found = ap (λ n. Ok n) c.in-Ok-Fault.field-0-is in
     gathered_all (plan_fields c.args.plan.now) c.records.reader c.records.offered c.records.invariant.0 c.records.invariant.1
-    (g.I.Source.left c.args.input.now) (rest_of c.records.reader.held (g.I.Source.left c.records.input))
+    (g.I.Source.told c.args.input.now).left (rest_of c.records.reader.held (g.I.Source.told c.records.input).left)
     (record { offered = c.offer_next.new.offered; fault = Some (record { fault = c.in-Ok-Fault.fault; place = c.records-place.result + 1 }) })
     c.records.invariant.2.intake c.records.invariant.2.consumed
     (c.in-Ok-Fault.ensures.fault c.records.invariant.0 c.records.invariant.1 c.in-Ok-Fault.fault c.records.invariant.2.intake found)
@@ -71,5 +81,48 @@ returns-in-Ok-Fault-clause-offered g c =
 
 pub returns-in-Err-Capture-clause-told : goal.returns-in-Err-Capture-clause-told
 returns-in-Err-Capture-clause-told g c =
-    gathered_none (plan_fields c.args.plan.now) c.in-Err-Capture.fault c.in-Ok.offered (g.I.Source.left c.args.input.now) c.in-Ok.ensures.stands
+    gathered_none (plan_fields c.args.plan.now) c.in-Err-Capture.fault c.in-Ok.offered (g.I.Source.told c.args.input.now).left c.in-Ok.ensures.stands
     (rw c.in-Err-Capture.field-0-is at c.in-Err-Capture.ensures.head)
+
+pub returns-in-Err-Capture-clause-reads : goal.returns-in-Err-Capture-clause-reads
+returns-in-Err-Capture-clause-reads g c =
+    let read = c.in-Err-Capture.ensures.read in
+    let shows = rw c.in-Err-Capture.field-0-is at read.shows in
+    record { bytes = read.head; takes = read.takes; ahead = inl read.few; shows = fault_in_head read.head c.in-Err-Capture.fault shows }
+
+pub returns-in-Err-Failed-clause-reads : goal.returns-in-Err-Failed-clause-reads
+returns-in-Err-Failed-clause-reads g c =
+    let read = c.in-Err-Failed.ensures.read in
+    let shows = rw c.in-Err-Failed.field-0-is at read.shows in
+    record { bytes = read.head; takes = read.takes; ahead = inl read.few; shows = no_fault_in_head read.head shows }
+
+pub returns-in-Err-OutOfMemory-clause-reads : goal.returns-in-Err-OutOfMemory-clause-reads
+returns-in-Err-OutOfMemory-clause-reads g c =
+    let read = c.in-Err-OutOfMemory.ensures.read in
+    record { bytes = read.head; takes = read.takes; ahead = inl read.few; shows = tt }
+
+pub returns-in-Ok-End-clause-reads : goal.returns-in-Ok-End-clause-reads
+returns-in-Ok-End-clause-reads g c =
+    let r : Result Gathered ReadFault = Ok (record { offered = c.offer_next.new.offered; fault = None }) in
+    let n : Result Next ReadFault = Ok next.End in
+    let stop = rw c.in-Ok-End.field-0-is at (c.in-Ok-End.ensures.reads c.records.invariant.0 c.records.invariant.1 c.records.invariant.2.intake) in
+    reads_all r n c.records.reader.held c.records.invariant.0 c.records.invariant.1 (g.I.Source.told c.args.input.now) (g.I.Source.told c.records.input) (g.I.Source.told c.offer_next.new.input) c.records.invariant.2.taken stop (λ bytes shows behind e. tt)
+
+pub returns-in-Ok-Fault-clause-reads : goal.returns-in-Ok-Fault-clause-reads
+returns-in-Ok-Fault-clause-reads g c =
+    let found = ap (λ n. Ok n) c.in-Ok-Fault.field-0-is in
+    let r : Result Gathered ReadFault = Ok (record { offered = c.offer_next.new.offered; fault = Some (record { fault = c.in-Ok-Fault.fault; place = c.records-place.result + 1 }) }) in
+    let n : Result Next ReadFault = Ok (next.Fault c.in-Ok-Fault.fault) in
+    let stop = rw c.in-Ok-Fault.field-0-is at (c.in-Ok-Fault.ensures.reads c.records.invariant.0 c.records.invariant.1 c.records.invariant.2.intake) in
+    reads_all r n c.records.reader.held c.records.invariant.0 c.records.invariant.1 (g.I.Source.told c.args.input.now) (g.I.Source.told c.records.input) (g.I.Source.told c.offer_next.new.input) c.records.invariant.2.taken stop
+    (λ bytes shows behind e.
+    stops_at_fault c.records.invariant.0 bytes behind c.records.invariant.1 c.in-Ok-Fault.fault (c.records-place.result + 1) c.records.invariant.2.intake.has_read.capture.head e shows
+    (place_behind c.records.reader c.records.invariant.0 c.records.invariant.1 (c.records-place.result + 1) c.records.invariant.2.intake.has_read
+    (ap (λ n. n + 1) (c.records-place.ensures.read ∙ c.in-Ok-Fault.ensures.records c.in-Ok-Fault.fault found))))
+
+pub returns-in-Err-offer_next-clause-reads : goal.returns-in-Err-offer_next-clause-reads
+returns-in-Err-offer_next-clause-reads g c =
+    let r : Result Gathered ReadFault = Err c.in-Err-offer_next.fault in
+    let n : Result Next ReadFault = Err c.in-Err-offer_next.fault in
+    reads_all r n c.records.reader.held c.records.invariant.0 c.records.invariant.1 (g.I.Source.told c.args.input.now) (g.I.Source.told c.records.input) (g.I.Source.told c.offer_next.new.input) c.records.invariant.2.taken
+    (c.in-Err-offer_next.ensures.reads c.records.invariant.0 c.records.invariant.1 c.records.invariant.2.intake) (λ bytes shows behind e. stops_in_error c.records.invariant.1 c.in-Err-offer_next.fault bytes shows)

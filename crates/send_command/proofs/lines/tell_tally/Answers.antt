@@ -17,20 +17,20 @@ parts tally =
 
 pub returns-in-Err-clause-written : goal.returns-in-Err-clause-written
 returns-in-Err-clause-written g c =
-    front_of_longer (g.E.Sink.held c.args.complaints.now) (g.E.Sink.held c.put_numbers.new.complaints) (first c.args.tally.now) (second c.args.tally.now ++ 10 ∷ []) (tally_line c.args.tally.now)
+    front_of_longer (g.E.Sink.told c.args.complaints.now).held (g.E.Sink.told c.put_numbers.new.complaints).held (first c.args.tally.now) (second c.args.tally.now ++ 10 ∷ []) (tally_line c.args.tally.now)
     (parts c.args.tally.now ∙ append_assoc (first c.args.tally.now) (second c.args.tally.now) (10 ∷ [])) c.in-Err.ensures.written
 
 pub returns-in-Err-put_numbers-clause-written : goal.returns-in-Err-put_numbers-clause-written
 returns-in-Err-put_numbers-clause-written g c =
-    let two = puts_then c.put_numbers-2.result (g.E.Sink.held c.args.complaints.now) (g.E.Sink.held c.put_numbers.new.complaints) (g.E.Sink.held c.put_numbers-2.new.complaints)
+    let two = puts_then c.put_numbers-2.result (g.E.Sink.told c.args.complaints.now).held (g.E.Sink.told c.put_numbers.new.complaints).held (g.E.Sink.told c.put_numbers-2.new.complaints).held
     (first c.args.tally.now) (second c.args.tally.now) (first c.args.tally.now ++ second c.args.tally.now) refl c.in-Ok.ensures.written c.put_numbers-2.ensures.written in
-    front_of_longer (g.E.Sink.held c.args.complaints.now) (g.E.Sink.held c.put_numbers-2.new.complaints) (first c.args.tally.now ++ second c.args.tally.now) (10 ∷ []) (tally_line c.args.tally.now)
+    front_of_longer (g.E.Sink.told c.args.complaints.now).held (g.E.Sink.told c.put_numbers-2.new.complaints).held (first c.args.tally.now ++ second c.args.tally.now) (10 ∷ []) (tally_line c.args.tally.now)
     (parts c.args.tally.now) (rw c.in-Err-put_numbers.is at two)
 
 pub returns-clause-written : goal.returns-clause-written
 returns-clause-written g c =
-    let two = puts_then c.put_numbers-2.result (g.E.Sink.held c.args.complaints.now) (g.E.Sink.held c.put_numbers.new.complaints) (g.E.Sink.held c.put_numbers-2.new.complaints)
+    let two = puts_then c.put_numbers-2.result (g.E.Sink.told c.args.complaints.now).held (g.E.Sink.told c.put_numbers.new.complaints).held (g.E.Sink.told c.put_numbers-2.new.complaints).held
     (first c.args.tally.now) (second c.args.tally.now) (first c.args.tally.now ++ second c.args.tally.now) refl c.in-Ok.ensures.written c.put_numbers-2.ensures.written in
-    puts_then c.put_all.result (g.E.Sink.held c.args.complaints.now) (g.E.Sink.held c.put_numbers-2.new.complaints) (g.E.Sink.held c.put_all.new.sink)
+    puts_then c.put_all.result (g.E.Sink.told c.args.complaints.now).held (g.E.Sink.told c.put_numbers-2.new.complaints).held (g.E.Sink.told c.put_all.new.sink).held
     (first c.args.tally.now ++ second c.args.tally.now) (10 ∷ []) (tally_line c.args.tally.now) (parts c.args.tally.now)
     (rw c.in-Ok-put_numbers.is at two) c.put_all.ensures.written

@@ -89,3 +89,24 @@ returns-in-Ok-false-clause-received g c = λ plan records has.
           (ap (λ (t : ReadRecord). records ++ t ∷ []) (sym same))
           (c.in-Ok-false.ensures.received records (few_records plan records r c.self.inside.stream seen.stream few) before);
     }
+
+pub returns-in-Err-clause-received : goal.returns-in-Err-clause-received
+returns-in-Err-clause-received g c = λ plan records has.
+    let seen : HasReceived plan records _ = (subst (λ (v : ReceiverState). HasReceived plan records v) (sym c.self.view_is) has) in
+    let r : ReadRecord = record_seen c.args.item.now in
+    let same : r ≡ packet_record c.in-Packet.moment c.args.item.now.bytes = ap (λ (m : Option ℕ). packet_with m c.args.item.now.bytes) c.in-Packet.ensures.0 in
+    let few : c.self.inside.stream.records < 2 ^ 32 = (subst (λ (v : ReceiverState). v.stream.records < 2 ^ 32) (sym c.self.view_is) c.requires.few) in
+    let before = all_along plan (plan_fields c.self.inside.plan.now) c.self.inside.services.items c.as_mut_slice-services.result.now c.self.inside.table records records
+    (sym seen.plan_is) (sym c.as_mut_slice-services.ensures.value) refl seen.all in
+    let known : is_pid_of plan (fields_of c.args.item.now.bytes).pid ≡ true =
+    ap₂ is_pid_of (sym seen.plan_is) (sym (ap (λ (f : PacketFields). f.pid) c.in-Packet.ensures.1.fields_are)) ∙ c.in-Err.ensures.of_plan records before in
+    record {
+      plan_is = seen.plan_is;
+      stream = records_more plan records r c.self.inside.stream seen.stream few
+          (packet_is plan r c.in-Packet.moment true c.in-Packet.ensures.0 c.in-Packet.ensures.1.readable known);
+      all = all_along (plan_fields c.self.inside.plan.now) plan c.take_packet.new.receivers (with_items c.self.inside.services c.take_packet.new.receivers).items c.take_packet.new.table
+          (records ++ packet_record c.in-Packet.moment c.args.item.now.bytes ∷ []) (records ++ r ∷ [])
+          seen.plan_is (sym (with_items_is c.self.inside.services c.take_packet.new.receivers (c.take_packet.ensures.count ∙ c.as_mut_slice-services.ensures.len)))
+          (ap (λ (t : ReadRecord). records ++ t ∷ []) (sym same))
+          (c.in-Err.ensures.received records (few_records plan records r c.self.inside.stream seen.stream few) before);
+    }

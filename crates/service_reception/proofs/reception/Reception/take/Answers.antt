@@ -24,9 +24,9 @@ returns-clause-received g c = λ it records receiving.
     on of_pid c.see-link.ensures.link receiving.few c.count_link.ensures.packets c.count_link.ensures.units
     (c.feed.ensures.fed (received_packets pid records) (packet_at records c.args.moment bytes) on.stands
     (inr (c.see-link.ensures.link ∙ ap (λ l. link_of l bytes) on.last_is)) (sym c.requires.read) refl) in
-    record_received c.take_events.result g.K.UnitForm.form pid it records c.args.moment bytes c.self.inside.continuity c.see-link.new.self c.self.inside.joiner c.take_events.new.joiner c.self.inside.counts c.take_events.new.counts
-    (g.T.Outlet.StandsFor c.args.outlet.now) (g.T.Outlet.StandsFor c.take_events.new.outlet) c.args.service form_is receiving.of_pid on of_pid c.see-link.ensures.last
-    (c.take_events.ensures.taken it (received_packets pid (records ++ r ∷ [])) (pid_numbers g.K.UnitForm.form pid (records ++ r ∷ [])) (events_of g.K.UnitForm.form (received_packets pid records)) receiving.served taking)
+    record_received g.K.UnitForm.form pid it records c.args.moment bytes c.self.inside.continuity c.see-link.new.self c.self.inside.joiner c.take_events.new.joiner c.self.inside.counts c.take_events.new.counts
+    form_is receiving.of_pid on of_pid c.see-link.ensures.last
+    (c.take_events.ensures.counted it (received_packets pid (records ++ r ∷ [])) (pid_numbers g.K.UnitForm.form pid (records ++ r ∷ [])) (events_of g.K.UnitForm.form (received_packets pid records)) receiving.served taking)
 
 pub returns-clause-delivered : goal.returns-clause-delivered
 returns-clause-delivered g c = λ it records receiving.
