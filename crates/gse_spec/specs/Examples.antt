@@ -1,0 +1,137 @@
+-- Small frames and packets, to try the definitions on.
+use Rattle.std.specs.Prelude.{ℕ, List, [], ◌∷◌, ◌++◌, take, length, map, replicate, Option, Some, None}
+use Rattle.std.specs.Int.{w16, to_be_bytes}
+use Rattle.wire_spec.specs.Crc.{crc8_remainder, crc32_remainder}
+use Rattle.wire_spec.specs.Examples.{small_ipv4}
+use Rattle.addr_rules.specs.declared.filter.Label.{Label}
+use Rattle.addr_rules.specs.declared.filter.Label.TheVariants.{Six, Broadcast}
+use Rattle.gse_spec.specs.Frame.{frame_bytes}
+use Rattle.gse_spec.specs.Packet.{GsePacket, start_packet}
+use Rattle.gse_spec.specs.Written.{complete_bytes, start_bytes, middle_bytes, end_bytes, Writing, field_of}
+use Rattle.gse_spec.specs.Reassembly.{PlacedPacket, Pdu}
+use Rattle.gse_spec.specs.Packing.{Rest, Turn, no_turn, begins, goes_on, Choice, packed_within}
+
+-- Frames.
+
+-- 300 bytes that begin with a MATYPE, UPL 0, a DFL, SYNC and SYNCD 0, and the right CRC-8
+abbrev pub head_with : ℕ → ℕ → ℕ → List ℕ
+head_with first second dfl = first ∷ second ∷ 0 ∷ 0 ∷ to_be_bytes w16 dfl ++ 0 ∷ 0 ∷ 0 ∷ []
+
+abbrev pub frame_with : ℕ → ℕ → ℕ → List ℕ
+frame_with first second dfl = head_with first second dfl ++ crc8_remainder (head_with first second dfl) ∷ replicate 290 0
+
+-- Data fields.
+
+-- an address, and a packet with a datagram of 20 bytes and that label
+abbrev pub small_label : Label
+small_label = Six (0x01 ∷ 0x00 ∷ 0x5E ∷ 0x01 ∷ 0x02 ∷ 0x03 ∷ [])
+
+abbrev pub labelled_packet : List ℕ
+labelled_packet = 0xC0 ∷ 0x1C ∷ 0x08 ∷ 0x00 ∷ 0x01 ∷ 0x00 ∷ 0x5E ∷ 0x01 ∷ 0x02 ∷ 0x03 ∷ small_ipv4
+
+-- one that re-uses a label, one with a label of three bytes, one for all receivers
+abbrev pub reusing_packet : List ℕ
+reusing_packet = 0xF0 ∷ 0x16 ∷ 0x08 ∷ 0x00 ∷ small_ipv4
+
+abbrev pub three_packet : List ℕ
+three_packet = 0xD0 ∷ 0x19 ∷ 0x08 ∷ 0x00 ∷ 0x0A ∷ 0x0B ∷ 0x0C ∷ small_ipv4
+
+abbrev pub broadcast_packet : List ℕ
+broadcast_packet = 0xE0 ∷ 0x16 ∷ 0x08 ∷ 0x00 ∷ small_ipv4
+
+-- Fragments.
+
+-- the packet of the received frame of this number
+abbrev pub in_frame : ℕ → GsePacket → PlacedPacket
+in_frame frame_number p = record { place = frame_number; frame_number = frame_number; index = 0; packet = p }
+
+-- a first fragment of 4 bytes, of a datagram of 20
+abbrev pub small_start : GsePacket
+small_start = start_packet 7 22 0x0800 Broadcast 0 (take 4 small_ipv4)
+
+abbrev pub small_rest : List ℕ
+small_rest = 0 ∷ 0 ∷ 0 ∷ 0 ∷ 0x40 ∷ 0x11 ∷ 0 ∷ 0 ∷ 10 ∷ 0 ∷ 0 ∷ 1 ∷ 239 ∷ 1 ∷ 2 ∷ 3 ∷ []
+
+abbrev pub small_crc : ℕ
+small_crc = crc32_remainder 0xFFFF_FFFF (to_be_bytes w16 22 ++ to_be_bytes w16 0x0800 ++ small_ipv4)
+
+-- Total Length 30, with a label of 6 bytes and 18 bytes
+abbrev pub long_start : GsePacket
+long_start = start_packet 7 30 0x0800 small_label 6 (replicate 18 0)
+
+-- the CRC-32 over Total Length, Protocol Type, label and 22 bytes
+abbrev pub long_crc : ℕ
+long_crc = crc32_remainder 0xFFFF_FFFF (0 ∷ 30 ∷ 0x08 ∷ 0x00 ∷ 0x01 ∷ 0x00 ∷ 0x5E ∷ 0x01 ∷ 0x02 ∷ 0x03 ∷ replicate 22 0)
+
+-- Frames of one input stream.
+
+-- a whole datagram in one packet
+abbrev pub whole_field : List ℕ
+whole_field = complete_bytes 0x0800 (Some Broadcast) small_ipv4
+
+-- the same in three fragments over two frames
+abbrev pub first_field : List ℕ
+first_field = start_bytes 7 22 0x0800 Broadcast (0x45 ∷ 0 ∷ 0 ∷ 20 ∷ []) ++ middle_bytes 7 (0 ∷ 0 ∷ 0 ∷ 0 ∷ 0x40 ∷ 0x11 ∷ 0 ∷ 0 ∷ [])
+
+abbrev pub last_field : List ℕ
+last_field = end_bytes 7 (10 ∷ 0 ∷ 0 ∷ 1 ∷ 239 ∷ 1 ∷ 2 ∷ 3 ∷ []) small_crc
+
+abbrev pub small_frames : List (List ℕ)
+small_frames = frame_bytes 3 first_field 40 ∷ frame_bytes 3 (last_field ++ whole_field) 60 ∷ []
+
+-- the first of them is damaged so that its header shows it, and a frame of another input stream is between the two
+abbrev pub damaged_frames : List (List ℕ)
+damaged_frames = (0x51 ∷ replicate 39 0) ∷ frame_bytes 4 whole_field 60 ∷ frame_bytes 3 (last_field ++ whole_field) 60 ∷ []
+
+-- Packing.
+
+-- a PDU of so many bytes with an address
+abbrev pub long_pdu : ℕ → Pdu
+long_pdu size = record { protocol = 0x0800; label = Six (1 ∷ 2 ∷ 3 ∷ 4 ∷ 5 ∷ 6 ∷ []); bytes = replicate size 0 }
+
+-- how many bytes each data field has, and the first ones of it
+abbrev pub field_sizes : List (List Writing) → List ℕ
+field_sizes frames = map (λ (writings : List Writing). length (field_of writings)) frames
+
+abbrev pub fronts : ℕ → List (List Writing) → List (List ℕ)
+fronts size frames = map (λ (writings : List Writing). take size (field_of writings)) frames
+
+-- A choice between two lists: an urgent PDU goes before the rest of another, where all others have begun.
+
+-- what is left of an urgent PDU and of another, and those that have not begun
+pub record TwoLists : Type 0 where
+  pub urgent_rest : Option Rest
+  pub other_rest : Option Rest
+  pub others : List Pdu
+  pub urgent : List Pdu
+
+abbrev pub next_of_two : Option Rest → Option Rest → List Pdu → List Pdu → Turn
+next_of_two (Some rest) other others urgent = goes_on rest
+next_of_two None (Some rest) others [] = goes_on rest
+next_of_two None (Some rest) [] (pdu ∷ urgent) = begins 128 pdu
+next_of_two None (Some rest) (other ∷ others) (pdu ∷ urgent) = goes_on rest
+next_of_two None None (pdu ∷ others) urgent = begins 0 pdu
+next_of_two None None [] (pdu ∷ urgent) = begins 128 pdu
+next_of_two None None [] [] = no_turn
+
+abbrev pub two_after : Option Rest → Option Rest → List Pdu → List Pdu → Option Rest → TwoLists
+two_after (Some rest) other others urgent left = record { urgent_rest = left; other_rest = other; others = others; urgent = urgent }
+two_after None (Some rest) others [] left = record { urgent_rest = None; other_rest = left; others = others; urgent = [] }
+two_after None (Some rest) [] (pdu ∷ urgent) left = record { urgent_rest = left; other_rest = Some rest; others = []; urgent = urgent }
+two_after None (Some rest) (other ∷ others) (pdu ∷ urgent) left = record { urgent_rest = None; other_rest = left; others = other ∷ others; urgent = pdu ∷ urgent }
+two_after None None (pdu ∷ others) urgent left = record { urgent_rest = None; other_rest = left; others = others; urgent = urgent }
+two_after None None [] (pdu ∷ urgent) left = record { urgent_rest = left; other_rest = None; others = []; urgent = urgent }
+two_after None None [] [] left = record { urgent_rest = None; other_rest = None; others = []; urgent = [] }
+
+abbrev pub urgent_first : Choice TwoLists
+urgent_first = record {
+  next = λ s. next_of_two s.urgent_rest s.other_rest s.others s.urgent;
+  after_packet = λ s left. two_after s.urgent_rest s.other_rest s.others s.urgent left;
+  after_frame = λ s. s;
+}
+
+-- 800 bytes, and then 40 that are urgent, in frames of 300 bytes
+abbrev pub urgent_frames : List (List Writing)
+urgent_frames =
+    packed_within urgent_first (λ _. 0) 290 20 290 None
+    (record { urgent_rest = None; other_rest = None; others = long_pdu 800 ∷ []; urgent = long_pdu 40 ∷ [] })

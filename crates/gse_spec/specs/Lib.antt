@@ -1,0 +1,14 @@
+pub mod Frame
+pub mod Packet
+pub mod Written
+pub mod Reassembly
+pub mod Received
+pub mod Channel
+pub mod Carried
+pub mod Words
+pub mod Slots
+pub mod Events
+pub mod Numbers
+pub mod Packing
+pub mod Sending
+pub mod Examples
