@@ -1,0 +1,8 @@
+use Rattle.gse_law.proofs.Rotation.{rotation_carries}
+use Rattle.gse_law.proofs.sending.the_frames_of_services_carry_their_datagrams.Goals as goal
+
+pub returns : goal.returns
+returns c = record {
+  carried = λ carried size services service least most able pairs there.
+      rotation_carries size least most carried services service able pairs there;
+}

@@ -1,0 +1,4 @@
+pub mod Streams
+pub mod Writable
+pub mod Packed
+pub mod Services

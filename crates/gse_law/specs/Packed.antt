@@ -1,0 +1,88 @@
+-- Packed frames as a receiver of all of them has them.
+use Rattle.std.specs.Prelude.{◌≡◌, ℕ, ◌+◌, ◌*◌, ◌^◌, ◌<◌, ◌≤◌, List, [], ◌∷◌, ◌++◌, length, map, flat_map, if◌then◌else◌, Option, Some, None}
+use Rattle.addr_rules.specs.declared.filter.Label.{Label}
+use Rattle.gse_spec.specs.Packet.{GsePacket}
+use Rattle.gse_spec.specs.Written.{label_bytes, Writing, field_of}
+use Rattle.gse_spec.specs.Reassembly.{PlacedPacket, Pdu, PlacedPdu}
+use Rattle.gse_spec.specs.Received.{placed, ends_pdu}
+use Rattle.gse_spec.specs.Packing.{Rest, begins, goes_on, Choice, packed_turn, packed_within, FragIds, InOrder, next_in_order, in_order, packed}
+use Rattle.gse_law.specs.Writable.{HasBytes, AreWritable}
+
+-- the packets of frames, the first of which is received as number h, from its packet i on
+abbrev pub placed_frames : ℕ → ℕ → List (List Writing) → List PlacedPacket
+placed_frames h i [] = []
+placed_frames h i (frame ∷ frames) = placed 0 h i (map (λ (w : Writing). w.packet) frame) ++ placed_frames (h + 1) 0 frames
+
+-- the packets that end a PDU, frame by frame
+abbrev pub last_one : GsePacket → List GsePacket
+last_one p = if ends_pdu p then p ∷ [] else []
+
+abbrev pub last_packets : List (List Writing) → List GsePacket
+last_packets [] = []
+last_packets (frame ∷ frames) = flat_map (λ (w : Writing). last_one w.packet) frame ++ last_packets frames
+
+abbrev pub pdu_in : PlacedPdu → Pdu
+pdu_in x = x.pdu
+
+-- a label of at most six bytes, and as many bytes as Total Length can count
+abbrev pub Fits : Pdu → Type 0
+Fits pdu = (length (label_bytes pdu.label) ≤ 6) × (length pdu.bytes ≤ 65527)
+
+abbrev pub AllFit : List Pdu → Type 0
+AllFit [] = Unit {0}
+AllFit (pdu ∷ pdus) = Fits pdu × AllFit pdus
+
+-- what can be sent: it fits, and its Protocol Type and label are written in full
+abbrev pub IsSendable : Pdu → Type 0
+IsSendable pdu = Fits pdu × (pdu.protocol < 2 ^ 16) × HasBytes pdu.label
+
+abbrev pub AreSendable : List Pdu → Type 0
+AreSendable [] = Unit {0}
+AreSendable (pdu ∷ pdus) = IsSendable pdu × AreSendable pdus
+
+-- Packing, packet by packet.
+
+-- what is left to be packed: more than the bytes of a rest and of the PDUs that have not begun
+abbrev pub work_of_pdus : List Pdu → ℕ
+work_of_pdus [] = 0
+work_of_pdus (pdu ∷ pdus) = 2 + length pdu.bytes + work_of_pdus pdus
+
+abbrev pub work_of_rest : Option Rest → ℕ
+work_of_rest None = 0
+work_of_rest (Some rest) = 1 + length rest.bytes
+
+abbrev pub work_of : InOrder → ℕ
+work_of s = work_of_rest s.rest + work_of_pdus s.pdus
+
+-- the packets of the frames from here on, in as many steps as it takes
+abbrev pub packed_from : FragIds → (List ℕ → ℕ) → ℕ → ℕ → Option Label → InOrder → List (List Writing)
+packed_from ids sum room left before s = packed_within (in_order ids) sum room (2 + 2 * work_of s) left before s
+
+-- each is the next packet, or the end of the frame, and what follows from there
+pub record PacksOneByOne (ids : FragIds) (sum : List ℕ → ℕ) (room : ℕ) : Type 0 where
+  pub step : (left : ℕ) (before : Option Label) (s : InOrder) → AllFit s.pdus
+      → packed_from ids sum room left before s ≡ packed_turn (in_order ids) sum room left before s (next_in_order s.id s.rest s.pdus) (packed_from ids sum room)
+  pub all : (pdu : Pdu) (pdus : List Pdu) → AllFit (pdu ∷ pdus)
+      → packed ids sum room (pdu ∷ pdus) ≡ packed_from ids sum room room None (record { id = ids.first; rest = None; pdus = pdu ∷ pdus })
+
+-- Packing by any choice.
+
+-- a frame can be written: each packet after the label of those before it, in so many bytes
+abbrev pub FrameFits : ℕ → List Writing → Type 0
+FrameFits room writings = AreWritable None writings × (length (field_of writings) ≤ room)
+
+abbrev pub AllFramesFit : ℕ → List (List Writing) → Type 0
+AllFramesFit room [] = Unit {0}
+AllFramesFit room (frame ∷ frames) = FrameFits room frame × AllFramesFit room frames
+
+-- what is left of a PDU has a CRC-32
+abbrev pub RestFits : Option Rest → Type 0
+RestFits None = Unit {0}
+RestFits (Some rest) = rest.crc < 2 ^ 32
+
+-- a choice that, from such states on, begins PDUs that can be sent and goes on with rests that have a CRC-32
+pub record ChoosesSendable {State : Type 0} (choice : Choice State) (Good : State → Type 0) : Type 0 where
+  pub begun : (s : State) (id : ℕ) (pdu : Pdu) → Good s → choice.next s ≡ begins id pdu → IsSendable pdu
+  pub gone_on : (s : State) (rest : Rest) → Good s → choice.next s ≡ goes_on rest → RestFits (Some rest)
+  pub after_packet : (s : State) (left : Option Rest) → Good s → RestFits left → Good (choice.after_packet s left)
+  pub after_frame : (s : State) → Good s → Good (choice.after_frame s)
