@@ -1,0 +1,14 @@
+//! Baseband frames of generic continuous streams (EN 302 307-1 clause 5.1.6): read and written.
+//!
+//! Sending: GSE packets -> gse_pack -> [bb_frame] -> Sink.
+//! Receiving: Source -> [bb_frame] -> gse_packet -> gse_reassembly.
+//! Begin with `FrameReader` and `parse`, or with `write`.
+#![tactic(auto)]
+
+mod frame;
+mod reader;
+#[cfg(test)]
+mod tests;
+
+pub use frame::{Frame, FrameFault, parse, write};
+pub use reader::FrameReader;
