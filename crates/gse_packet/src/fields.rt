@@ -1,0 +1,117 @@
+//! The fields of the packet at the front of some bytes, by their places.
+//!
+//! S, E, LT and GSE Length in bytes 0 and 1, then by S and E Frag ID, Total Length, Protocol Type and label.
+ghost use Rattle.std.specs.Prelude.{◌≡◌, ◌+◌, ◌≤◌, length};
+ghost use Rattle.gse_spec.specs.Packet.{has_start as is_start, has_end as is_end, label_type as type_of_label, label_size, label_at, label_of, fields_size, gse_length};
+
+use addr_rules::Label;
+
+/// The bytes of S, E, LT and GSE Length.
+pub(crate) const HEAD: usize = 2;
+
+/// The bytes of a CRC-32.
+pub(crate) const CRC: usize = 4;
+
+/// S, the highest bit of byte 0.
+const START: u8 = 0x80;
+
+/// E, in byte 0.
+const END: u8 = 0x40;
+
+/// LT of a packet that re-uses a label.
+pub(crate) const REUSED: u8 = 3;
+
+/// GSE Length, 12 bits, has so many values.
+const LENGTH_VALUES: usize = 4096;
+
+/// S: a PDU starts here.
+pub(crate) fn has_start(bytes: &[u8]) -> bool
+    requires { 1 ≤ length bytes.now }
+    ensures read { result ≡ is_start bytes.now }
+{
+    bytes[0] >= START
+}
+
+/// E: a PDU ends here.
+pub(crate) fn has_end(bytes: &[u8]) -> bool
+    requires { 1 ≤ length bytes.now }
+    ensures read { result ≡ is_end bytes.now }
+{
+    bytes[0] & END != 0
+}
+
+/// LT: 0 has a label of 6 bytes, 1 of 3 bytes, 2 none (broadcast), 3 re-uses one.
+pub(crate) fn label_type(bytes: &[u8]) -> u8
+    requires { 1 ≤ length bytes.now }
+    ensures read { result ≡ type_of_label bytes.now }
+{
+    bytes[0] / 16 % 4
+}
+
+/// GSE Length: the bytes after it.
+pub(crate) fn length_of(bytes: &[u8]) -> usize
+    requires { 2 ≤ length bytes.now }
+    ensures read { result ≡ gse_length bytes.now }
+{
+    (usize::from(bytes[0]) * 256 + usize::from(bytes[1])) % LENGTH_VALUES
+}
+
+/// The label bytes that stand in the packet: 6, 3 or 0.
+pub(crate) fn size_of_label(bytes: &[u8]) -> u8
+    requires { 1 ≤ length bytes.now }
+    ensures read { result ≡ label_size bytes.now }
+{
+    match label_type(bytes) {
+        0 => 6,
+        1 => 3,
+        _ => 0,
+    }
+}
+
+/// The bytes of the fields after GSE Length, without the PDU's.
+pub(crate) fn size_of_fields(bytes: &[u8]) -> usize
+    requires { 1 ≤ length bytes.now }
+    ensures read { result ≡ fields_size bytes.now }
+{
+    match (has_start(bytes), has_end(bytes)) {
+        (true, true) => 2 + usize::from(size_of_label(bytes)),
+        (true, false) => 5 + usize::from(size_of_label(bytes)),
+        (false, true) => 1 + CRC,
+        (false, false) => 1,
+    }
+}
+
+/// The label that stands at a place.
+fn written_label(bytes: &[u8], at: usize) -> Label
+    requires some { 1 ≤ length bytes.now }
+    requires room { at + label_size bytes.now ≤ length bytes.now }
+    ensures read { result ≡ label_at bytes.now at }
+{
+    match label_type(bytes) {
+        0 => Label::Six([
+            bytes[at],
+            bytes[at + 1],
+            bytes[at + 2],
+            bytes[at + 3],
+            bytes[at + 4],
+            bytes[at + 5],
+        ]),
+        1 => Label::Three([bytes[at], bytes[at + 1], bytes[at + 2]]),
+        _ => Label::Broadcast,
+    }
+}
+
+/// The label of a packet with S = 1, whose own would stand at a place; `before` is the one that it may re-use.
+pub(crate) fn read_label(before: Option<Label>, bytes: &[u8], at: usize) -> Label
+    requires some { 1 ≤ length bytes.now }
+    requires room { at + label_size bytes.now ≤ length bytes.now }
+    ensures read { result ≡ label_of before bytes.now at }
+{
+    if label_type(bytes) != REUSED {
+        return written_label(bytes, at);
+    }
+    match before {
+        Some(label) => label,
+        None => Label::Broadcast,
+    }
+}
