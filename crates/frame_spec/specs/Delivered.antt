@@ -1,0 +1,24 @@
+-- The datagrams that received frames give: rows are corrected, then datagrams found.
+use Rattle.std.specs.Prelude.{ℕ, Bool, List, flat_map}
+use Rattle.slice_spec.specs.Sections.{Timing}
+use Rattle.frame_spec.specs.Sections.{FrameSection, TimedSection, sections_of, data_of}
+use Rattle.frame_spec.specs.Groups.{received_frames, closed_frames}
+use Rattle.frame_spec.specs.Known.{known_byte}
+use Rattle.frame_spec.specs.Corrected.{corrected_byte}
+use Rattle.frame_spec.specs.Starts.{found_datagrams}
+
+-- the datagrams that a received frame with these sections gives
+abbrev pub frame_datagrams : ℕ → List FrameSection → List (List ℕ)
+frame_datagrams rows sections = found_datagrams rows (corrected_byte rows (known_byte rows sections)) (data_of sections)
+
+-- those of some received frames, in order
+abbrev pub datagrams_of_frames : ℕ → List (List TimedSection) → List (List ℕ)
+datagrams_of_frames rows frames = flat_map (λ (group : List TimedSection). frame_datagrams rows (sections_of group)) frames
+
+-- delivered of all sections of a service in one plan, when all frames are closed
+abbrev pub delivered_by_frames : Timing → ℕ → List TimedSection → List (List ℕ)
+delivered_by_frames timing rows sections = datagrams_of_frames rows (received_frames timing rows sections)
+
+-- and delivered so far, where more sections may come or no more can
+abbrev pub delivered_so_far : Timing → ℕ → Bool → List TimedSection → List (List ℕ)
+delivered_so_far timing rows ended sections = datagrams_of_frames rows (closed_frames ended (received_frames timing rows sections))

@@ -1,0 +1,10 @@
+pub mod Sections
+pub mod Groups
+pub mod Known
+pub mod Corrected
+pub mod Starts
+pub mod Delivered
+pub mod Frame
+pub mod Sender
+pub mod Carried
+pub mod Examples
