@@ -52,7 +52,7 @@ impl RuleList {
         }
     }
 
-    /// Puts `rule` behind the others. Where memory is wanting the list stays as it was.
+    /// Puts `rule` after the others. When out of memory the list stays as it was.
     pub fn push(&mut self, rule: Rule) -> Result<(), OutOfMemory>
         ensures written { OnOk result (self.new ≡ self.old ++ rule ∷ []) }
         ensures unchanged { OnErr result (self.new ≡ self.old) }

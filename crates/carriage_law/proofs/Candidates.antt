@@ -1,4 +1,4 @@
--- A unit whose packets are received one behind another is the candidate of its start.
+-- A unit whose packets are received one after another is the candidate of its start.
 use Rattle.std.proofs.Common.{◌≡◌, ◌⊎◌, inl, inr, ℕ, zero, suc, ◌+◌, ◌-◌, ◌<◌, ◌≤◌, Bool, true, false, cond, eqb, leb, ◌||◌, List, [], ◌∷◌, ◌++◌, length, take, drop, refl, ap, sym, ◌∙◌, subst, arith, length-append, length-drop, append_assoc}
 use Rattle.std.proofs.lemmas.List.{drop-drop, drop_at, drop-take, take-append-le, take-append-drop, take_at, take_all, drop_all, append-nil}
 use Rattle.std.proofs.Math.Seq.{take-append-add}
@@ -14,12 +14,12 @@ use Rattle.carriage_law.proofs.Starts.{leb_true, span-front}
 -- Bytes that come.
 
 -- what one continuous packet gives of bytes that are to come: with the start indicator all that are left, by its pointer;
--- without it all that are left, or its whole payload, and the rest comes behind it
+-- without it all that are left, or its whole payload, and the rest comes after it
 abbrev pub ComesBy : Bool → PacketFields → (List ℕ → Type 0) → List ℕ → Type 0
 ComesBy true packet Behind bytes = (pointer_fits packet ≡ true) × (take (pointer packet) (drop 1 packet.payload) ≡ bytes)
 ComesBy false packet Behind bytes = ((k : ℕ) × (take k packet.payload ≡ bytes)) ⊎ ((rest : List ℕ) × (packet.payload ++ rest ≡ bytes) × Behind rest)
 
--- the bytes come behind a packet, and end where the next unit starts
+-- the bytes come after a packet, and end where the next unit starts
 abbrev pub Comes : PacketFields → List Arrival → List ℕ → Type 0
 Comes before [] bytes = bytes ≡ []
 Comes before (a ∷ behind) bytes =
@@ -43,7 +43,7 @@ fits_more payload bytes given (inr all) = inr (ap (λ (t : List ℕ). payload ++
 abbrev pub pointed_given : PacketFields → Given
 pointed_given packet = record { payloads = []; rest = take (pointer packet) (drop 1 packet.payload); is_ended = true }
 
--- a packet without the start indicator gives its payload and what is behind it
+-- a packet without the start indicator gives its payload and what is after it
 pub given_whole : (packet : PacketFields) (behind : Given) → packet.starts ≡ false → given_by packet behind ≡ with_payload packet.payload behind
 given_whole packet behind starts =
     ap (λ (b : Bool). cond b (cond (pointer_fits packet) (pointed_given packet) (ended_by packet)) (with_payload packet.payload behind)) starts
@@ -107,13 +107,13 @@ given_candidate form lawful unit given told (inr all) =
     complete_candidate (length unit) given (form.span (all_of given)) (ap form.span (sym all) ∙ told) (complete_all (length unit) given (ap length all))
     ∙ ap candidate (ap (take (length unit)) (sym all) ∙ take_all (length unit) unit (omega arith))
 
--- Packets received one behind another.
+-- Packets received one after another.
 
--- behind the first come the bytes of the second
+-- after the first come the bytes of the second
 pub drop_front : (front behind : List ℕ) → drop (length front) (front ++ behind) ≡ behind
 drop_front front behind = drop_at front behind (length front) refl
 
--- the arrivals begin with the packets behind packet m, so many
+-- the arrivals begin with the packets after packet m, so many
 abbrev pub Agrees : List PacketFields → ℕ → ℕ → List Arrival → Type 0
 Agrees packets zero m arrivals = Unit {0}
 Agrees packets (suc d) m [] = ⊥
@@ -133,7 +133,7 @@ module _ (form : UnitForm) (units : List (List ℕ)) (packets : List PacketField
       ∙ ap (λ (t : ℕ). drop k (take t (drop (begin n) (joined packets)))) all
       ∙ ap (drop k) (packetized.bytes n at.0)
 
-  -- the pointer of a packet counts the bytes that are left, and the next unit starts behind them
+  -- the pointer of a packet counts the bytes that are left, and the next unit starts after them
   pointed_left : (n m k : ℕ) → IsLeftAt n m k → 1 ≤ k → k < size units n → (packet_at packets m).starts ≡ true
       → (pointer (packet_at packets m) + k ≡ size units n) × (edge packets m + pointer (packet_at packets m) < edge packets (m + 1))
   pointed_left n m k at some left starts = by_first (packetized.pointed m at.1 starts)
@@ -199,7 +199,7 @@ module _ (form : UnitForm) (units : List (List ℕ)) (packets : List PacketField
           ∙ drop_front (packet_at packets m).payload (take (size units n - k - length (packet_at packets m).payload) (joined_behind packets m)) in
           inr (drop (k + length (packet_at packets m).payload) (unit_at units n), ap (λ (t : List ℕ). (packet_at packets m).payload ++ t) behind ∙ parts, later long)
 
-  -- what is left of a unit comes, where the packets that hold it are received one behind another
+  -- what is left of a unit comes, where the packets that hold it are received one after another
   pub comes : (n : ℕ) → n < length units → (d m k : ℕ) (arrivals : List Arrival) → m < length packets → begin n + k ≡ edge packets (m + 1) → 1 ≤ k
       → Agrees packets d m arrivals → begin n + size units n ≤ edge packets (m + 1 + d) → Comes (packet_at packets m) arrivals (drop k (unit_at units n))
   comes n known d m k [] within at some agrees enough = drop_all k (unit_at units n) (by_length d agrees enough)

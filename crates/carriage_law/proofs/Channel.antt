@@ -72,7 +72,7 @@ module _ (recording : RecordingForm) (sent recorded : List Record) (channel : Ch
       first_moment : (record_at sent (channel.place (channel.first x.place))).moment ≡ Some time
       first_moment = ap (λ (t : ℕ). (record_at sent t).moment) (sym (channel.same_place x.place x_is.within)) ∙ moment
 
-      -- a copy stands behind the record that it is a copy of, which arrived
+      -- a copy stands after the record that it is a copy of, which arrived
       no_copy : channel.first x.place < x.place → ((moment : ℕ) × ((record_at recorded (channel.first x.place)).moment ≡ Some moment)) → ⊥
       no_copy less kept =
           let there : Member (arrivals pid recorded) (record { place = channel.first x.place; moment = kept.0; bytes = x.bytes }) =

@@ -195,7 +195,7 @@ module _ (recording : RecordingForm) (sent recorded : List Record) (channel : Ch
         let within : (first ≤ part.0) × (part.0 ≤ last) = only_holds part.0 part.1 in
         (part.0, within.0, within.1, part.2)
 
-    -- so all of them are received one behind another
+    -- so all of them are received one after another
     agrees : Agrees packets (last - first) first (received_after (Some (arrived first).bytes) found.rest)
     agrees = row packets arrived first last rise packet_is ends.within differs_next found.rest (last - first) first (omega arith) (omega (arith, in_order)) found.above found.here only
 

@@ -75,7 +75,7 @@ module _ (recording : RecordingForm) (sent recorded : List Record) (channel : Ch
       by_order (inr (inl less)) = absurd (omega (arith, packets_rise i k less within_k, same))
       by_order (inr (inr more)) = absurd (omega (arith, packets_rise k i more within_i, same))
 
-  -- of units accepted one behind the other the second has the higher number
+  -- of units accepted one after the other the second has the higher number
   pub later_number : (x y : PlacedUnit) (m n : ℕ) → Before channel.place x y → IsSentUnit channel pid units begin m x → IsSentUnit channel pid units begin n y → m < n
   later_number x y m n before x_is y_is = by_order (cases_lt m n)
     where

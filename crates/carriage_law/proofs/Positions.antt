@@ -11,7 +11,7 @@ use Rattle.ts_spec.specs.Packetized.{no_packet, packet_at, unit_at, joined, edge
 abbrev pub body : List PacketFields → ℕ → List ℕ
 body packets m = unit_bytes (packet_at packets m)
 
--- the joined payloads behind packet m
+-- the joined payloads after packet m
 abbrev pub joined_behind : List PacketFields → ℕ → List ℕ
 joined_behind packets m = joined (drop (m + 1) packets)
 
@@ -35,7 +35,7 @@ edge-next packets m within =
     ∙ length-append (joined (take m packets)) (body packets m ++ [])
     ∙ ap (λ (t : List ℕ). length (joined (take m packets)) + length t) (append-nil (body packets m))
 
--- behind the last packet nothing is added
+-- after the last packet nothing is added
 edge-past : (packets : List PacketFields) (m : ℕ) → length packets ≤ m → edge packets (m + 1) ≡ edge packets m
 unfolding edge
 edge-past packets m past =
@@ -123,7 +123,7 @@ module _ (form : UnitForm) (units : List (List ℕ)) (packets : List PacketField
           let next : n + suc d ≡ n + d + 1 = omega arith in
           rw next (omega (arith, by_steps d (omega arith), ends_before_next (n + d) (omega arith)))
 
-  -- a later unit begins behind it
+  -- a later unit begins after it
   pub begins_later : (n k : ℕ) → n < k → k ≤ length units → begin n < begin k
   begins_later n k less known =
       omega (arith, ends_before_next n (omega arith), unit_long n (omega arith), lawful.start_least, begin_rises (n + 1) k (omega arith) known)

@@ -19,7 +19,7 @@ arrival_places : (m : ℕ) → m < 4 → (arrival_at (arrivals 256 small_sent) m
 unfolding is_packet fields_of
 arrival_places = four (λ m. (arrival_at (arrivals 256 small_sent) m).place ≡ slice_index (0 ∷ 1 ∷ 3 ∷ 4 ∷ []) m) refl refl refl refl
 
--- unit n starts in packet n, behind its pointer
+-- unit n starts in packet n, after its pointer
 start_of : (n : ℕ) → n < 4 → IsStartOf small_units (packets_sent 256 small_sent) small_begin n n 1
 start_of n known =
     subst (λ (packets : List PacketFields). IsStartOf small_units packets small_begin n n 1) (sym packets_are)

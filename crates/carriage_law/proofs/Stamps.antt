@@ -9,7 +9,7 @@ use Rattle.carriage_spec.specs.Channel.{stamp_of, KeepsStamps}
 abbrev pub piece_at : List (List ℕ) → ℕ → List ℕ
 piece_at pieces j = get_or pieces j []
 
--- the moment of record j behind one of this moment
+-- the moment of record j after one of this moment
 abbrev pub moment_at : Option ℕ → List (List ℕ) → ℕ → ℕ
 moment_at before [] j = 0
 moment_at before (piece ∷ pieces) zero = moment_behind before (m2ts_stamp piece)
@@ -83,7 +83,7 @@ near_later : (first : ℕ) (time : ℕ → ℕ) (count : ℕ) → AreNear first 
 near_later first time count near zero within = near 1 (omega arith)
 near_later first time count near (suc j) within = near (suc (suc j)) (omega arith)
 
--- the records behind one whose moment stands apart by a whole number of rounds
+-- the records after one whose moment stands apart by a whole number of rounds
 shift_behind : (before first shift : ℕ) (pieces : List (List ℕ)) (time : ℕ → ℕ) → shift % 2 ^ 30 ≡ 0 → before + shift ≡ first → AreNear first time (length pieces)
     → ((j : ℕ) → j < length pieces → moment_at (Some before) pieces j % 2 ^ 30 ≡ time j % 2 ^ 30)
     → (j : ℕ) → j < length pieces → moment_at (Some before) pieces j + shift ≡ time j

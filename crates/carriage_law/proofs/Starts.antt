@@ -45,7 +45,7 @@ is_start form most place bytes stuffing unlike = absurd (unlike refl)
 is_start form most place bytes (whole n) unlike = inl refl
 is_start form most place bytes bad unlike = inl refl
 
--- behind a unit that ends in the packet the next place is looked at
+-- after a unit that ends in the packet the next place is looked at
 goes_on : (form : UnitForm) (most place n start : ℕ) (bytes : List ℕ) (span : Span) → span ≡ whole n → leb n (length bytes) ≡ true
     → Member (starts_within form most (place + n) (drop n bytes)) start → Member (from_span form most place bytes span) start
 goes_on form most place n start bytes span told fits there =
@@ -66,7 +66,7 @@ module _ (form : UnitForm) (units : List (List ℕ)) (packets : List PacketField
 
   -- A unit against the bytes of its first packet.
 
-  -- it comes from them and those behind
+  -- it comes from them and those after
   unit_from : (m n k : ℕ) → BeginsAt m n k → take (size units n) (drop k (body packets m) ++ joined_behind packets m) ≡ unit_at units n
   unit_from m n k at =
       ap (take (size units n)) (sym (drop-inside packets m k at.0 at.3) ∙ ap (λ (t : ℕ). drop t (joined packets)) at.2)

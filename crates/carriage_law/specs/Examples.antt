@@ -26,15 +26,15 @@ small_units =
     ∷ small_sndu 4 (0x1D ∷ 0xD2 ∷ 0x4B ∷ 0x5B ∷ [])
     ∷ []
 
--- a unit fills its packet, so unit n begins behind n units of 28 bytes
+-- a unit fills its packet, so unit n begins after n units of 28 bytes
 abbrev pub small_begin : ℕ → ℕ
 small_begin n = 28 * n
 
--- a packet of PID 256 that such an SNDU fills behind an adaptation field of stuffing
+-- a packet of PID 256 that such an SNDU fills after an adaptation field of stuffing
 abbrev pub small_packet : ℕ → List ℕ → List ℕ
 small_packet counter unit = 0x47 ∷ 0x41 ∷ 0 ∷ (0x30 + counter) ∷ 154 ∷ 0 ∷ replicate 153 0xFF ++ 0 ∷ unit
 
--- a null packet stands among them; stamps begin anew behind the first record
+-- a null packet stands among them; stamps begin anew after the first record
 abbrev pub small_sent : List Record
 small_sent = records_of m2ts (
     (0x3F ∷ 0xFF ∷ 0xFF ∷ 0xF0 ∷ small_packet 5 (unit_at small_units 0))
@@ -44,7 +44,7 @@ small_sent = records_of m2ts (
     ∷ (0 ∷ 0 ∷ 0 ∷ 16 ∷ small_packet 8 (unit_at small_units 3))
     ∷ [])
 
--- the first record is dropped, the second repeated behind the null packet with a stamp of its own,
+-- the first record is dropped, the second repeated after the null packet with a stamp of its own,
 -- and the fourth damaged: its Identification is 9
 abbrev pub small_recorded : List Record
 small_recorded = records_of m2ts (

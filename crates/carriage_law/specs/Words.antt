@@ -44,7 +44,7 @@ pub record TellsByFronts (form : UnitForm) (given : Given) : Type 0 where
 
 -- The packet that ends the bytes of a start.
 
--- a packet and those received behind it
+-- a packet and those received after it
 abbrev pub packets_from : PacketFields → List Arrival → List PacketFields
 packets_from packet behind = packet ∷ map packet_of behind
 

@@ -31,7 +31,7 @@ HasStamps plain sent recorded place first = KeepsMoments sent recorded place fir
 HasStamps stamped sent recorded place first = KeepsMoments sent recorded place first
 HasStamps m2ts sent recorded place first = KeepsStamps sent recorded place first
 
--- each sent record is dropped, kept, or replaced by any record with its stamp; behind a kept one copies of it may stand
+-- each sent record is dropped, kept, or replaced by any record with its stamp; after a kept one copies of it may stand
 pub record Channel (recording : RecordingForm) (sent recorded : List Record) : Type 0 where
   pub place : ℕ → ℕ
   pub first : ℕ → ℕ
@@ -39,7 +39,7 @@ pub record Channel (recording : RecordingForm) (sent recorded : List Record) : T
   -- the records that are no copies are in order, and at most one comes from each place
   pub in_order : (j k : ℕ) → j < k → k < length recorded → first j ≡ j → first k ≡ k → place j < place k
   pub stamps : HasStamps recording sent recorded place first
-  -- a copy stands behind a record that is none and was kept, and has its bytes
+  -- a copy stands after a record that is none and was kept, and has its bytes
   pub behind : (j : ℕ) → j < length recorded → first j ≤ j
   pub no_copy : (j : ℕ) → j < length recorded → first (first j) ≡ first j
   pub same_place : (j : ℕ) → j < length recorded → place j ≡ place (first j)

@@ -1,4 +1,4 @@
--- The words behind the program's name, and which of them form a command. Profile: all of it.
+-- The words after the program's name, and which of them form a command. Profile: all of it.
 use Rattle.std.specs.Prelude.{◌≡◌, ◌≢◌, ℕ, ◌≤◌, List, [], ◌∷◌, length, codes}
 use Rattle.std.specs.Str.Parse.{IsNumeral, digits_value}
 

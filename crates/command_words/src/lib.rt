@@ -1,4 +1,4 @@
-//! The words behind the program's name -> the command that they form.
+//! The words after the program's name -> the command that they form.
 //!
 //! Words -> [command_words] -> ipencap_engine.
 //! Begin with `parse_words`.

@@ -27,7 +27,7 @@ pub enum Command<'w> {
 pub enum WordsFault {
     /// They form none.
     Usage,
-    /// Memory was wanting.
+    /// Out of memory.
     OutOfMemory,
 }
 
@@ -66,7 +66,7 @@ fn command_of<'w>(name: &str, value: &'w str) -> Option<Command<'w>>
     }
 }
 
-/// Reads the words behind the program's name.
+/// Reads the words after the program's name.
 ///
 /// There are two, the second is not empty, and none begins with `-`. PID is one to four decimal digits, 0 to 8190.
 /// NUMBER is one to ten, 0 to 4,294,967,295. Memory is taken last, so words that form no command are found so without.

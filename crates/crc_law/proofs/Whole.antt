@@ -1,4 +1,4 @@
--- The register of CRC_32 over pieces, and over bytes with a check sum behind them.
+-- The register of CRC_32 over pieces, and over bytes with a check sum after them.
 use Rattle.std.proofs.Common.{ℕ, zero, suc, List, [], ◌∷◌, ◌++◌, ◌≡◌, ◌+◌, ◌*◌, ◌/◌, ◌%◌, ◌^◌, ◌<◌, ◌==◌, inl, inr, refl, ap, ap₂, sym, subst, ◌∙◌, arith, lit<, Bool, bit_xor}
 use Rattle.std.specs.Int.{bit_at}
 use Rattle.std.specs.Int.Bits.{xor_lt, xor_self, xor_zero_r}
@@ -71,7 +71,7 @@ run_over_four q last small fits =
     ∙ run_byte 31 32 0 0x04C1_1DB7 q last refl small fits (lit< tt)
     ∙ ap (λ t. bits 32 (register_steps 31 0x04C1_1DB7 32 (bit_xor q t))) alone)
 
--- the register over bytes with a number behind them, where q is the register after the bytes
+-- the register over bytes with a number after them, where q is the register after the bytes
 over_unit : (r last : ℕ) (bytes : List ℕ) → r < 2 ^ 32 → last < 2 ^ 32 → AreBytes bytes
     → crc32_remainder r (bytes ++ four_bytes last) ≡ register_steps 31 0x04C1_1DB7 32 (bit_xor (crc32_remainder r bytes) last)
 over_unit r last bytes small fits all =

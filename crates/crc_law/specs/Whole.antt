@@ -1,4 +1,4 @@
--- A check sum behind its bytes (ISO/IEC 13818-1 annex A).
+-- A check sum after its bytes (ISO/IEC 13818-1 annex A).
 use Rattle.std.specs.Prelude.{ℕ, List, [], ◌∷◌, ◌/◌, ◌%◌, ◌^◌}
 
 -- the four bytes of a number below 2 ^ 32, the most significant first

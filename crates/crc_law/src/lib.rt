@@ -1,4 +1,4 @@
-//! Laws of CRC-32: over bytes in pieces, and over a unit with its CRC-32 behind it.
+//! Laws of CRC-32: over bytes in pieces, and over a unit with its CRC-32 after it.
 //!
 //! Statements over the definitions of wire_spec, and no code. Above: what reads units or assembles them from pieces.
 //! Begin with `whole_unit`.

@@ -40,7 +40,7 @@ entry-xor n x y x_fits y_fits =
     ap₂ (λ a b. bit_xor a b) x_alone y_alone ∙ xor_block 24 x y 0 0 (lit< tt) (lit< tt) ∙ none in
     ap (λ t. shifts n t) (sym moved) ∙ steps_xor 31 0x04C1_1DB7 n (x * 2 ^ 24) (y * 2 ^ 24) x_small y_small (lit< tt)
 
--- one byte, and the shifts for the bytes behind it
+-- one byte, and the shifts for the bytes after it
 byte_behind : (r b m : ℕ) → r < 2 ^ 32 → b < 2 ^ 8
     → shifts m (crc32_byte r b) ≡ bit_xor (shifts (8 + m) r) (crc32_entry (8 + m) b)
 unfolding crc32_byte crc32_entry

@@ -1,11 +1,11 @@
--- Bytes cut into pieces of one size, and the rest behind them.
+-- Bytes cut into pieces of one size, and the rest after them.
 use Rattle.std.proofs.Common.{ℕ, zero, suc, List, [], ◌∷◌, ◌++◌, ◌≡◌, ◌+◌, ◌*◌, ◌≤◌, length, take, drop, get_or, ap, sym, ◌∙◌, arith, append_assoc, length-drop}
 use Rattle.std.specs.Simd.{first_chunks}
 use Rattle.std.proofs.Math.Seq.{drop-cons}
 use Rattle.std.proofs.lemmas.List.{drop-drop, drop_all, take-append-drop}
 use Rattle.wire_spec.specs.Lists.{joined}
 
--- the pieces one after another, and what stands behind them, are the bytes
+-- the pieces one after another, and what stands after them, are the bytes
 pub joined_chunks : (n k : ℕ) (bytes : List ℕ) → k * n ≤ length bytes → joined (first_chunks n k bytes) ++ drop (k * n) bytes ≡ bytes
 joined_chunks n zero bytes fits =
     let none : zero * n ≡ zero = omega arith in
@@ -32,7 +32,7 @@ eight_is xs long =
     ∙ ap (λ l. get_or xs 6 0 ∷ l) (drop-cons xs 7 0 (omega arith)
     ∙ ap (λ l. get_or xs 7 0 ∷ l) (drop_all 8 xs (omega arith)))))))))
 
--- the first four bytes, and what stands behind them
+-- the first four bytes, and what stands after them
 pub four_ahead : (xs : List ℕ) → 4 ≤ length xs → xs ≡ get_or xs 0 0 ∷ get_or xs 1 0 ∷ get_or xs 2 0 ∷ get_or xs 3 0 ∷ drop 4 xs
 four_ahead xs long =
     drop-cons xs 0 0 (omega arith)

@@ -96,7 +96,7 @@ run_over-add f m (suc n) bytes =
     ∙ shifts-xor 8 first (bit_xor others moved) first_small (xor_lt 32 others moved others_small moved_small)
     ∙ ap (λ t. bit_xor t (shifts 8 (bit_xor others moved))) (sym (steps-add (8 * n) 8 (run_over f m)) ∙ ap (λ t. shifts t (run_over f m)) more)
 
--- zeros behind the bytes are shifts
+-- zeros after the bytes are shifts
 pub run_over_then_zeros : (f : ℕ → ℕ) (m n : ℕ) → ((i : ℕ) → f i < 2 ^ 8) → ((i : ℕ) → i < n → f (i + m) ≡ 0)
     → run_over f (m + n) ≡ shifts (8 * n) (run_over f m)
 run_over_then_zeros f m n bytes none =

@@ -8,13 +8,13 @@ use Rattle.std.specs.Int.Bits.{xor_lt}
 use Rattle.std.proofs.lemmas.List.{get_or-drop, get_or-append_right, get_or-set_other, get_or-set_same}
 use Rattle.std.proofs.Math.ListN.{set}
 
--- zeros, and behind them what is read of none
+-- zeros, and after them what is read of none
 pub get_or-zeros : (n i : ℕ) → get_or {A = ℕ} (replicate n 0) i 0 ≡ 0
 get_or-zeros zero i = refl
 get_or-zeros (suc n) zero = refl
 get_or-zeros (suc n) (suc i) = get_or-zeros n i
 
--- behind four bytes that are written over the first of zeros, zeros are left
+-- after four bytes that are written over the first of zeros, zeros are left
 pub zeros_behind : (window own : List ℕ) (i : ℕ) → ((i : ℕ) → get_or window i 0 ≡ 0) → length own ≡ 4 → 4 ≤ i → get_or (own ++ drop 4 window) i 0 ≡ 0
 zeros_behind window own i zeros long least =
     get_or-append_right own (drop 4 window) 4 i 0 long least ∙ get_or-drop 4 window (i - 4) 0 ∙ zeros (4 + (i - 4))
@@ -27,7 +27,7 @@ four_bytes r =
     (All-cons (λ x. x < 256) (r / 2 ^ 8 % 2 ^ 8) (r % 2 ^ 8 ∷ []) (omega arith)
     (All-cons (λ x. x < 256) (r % 2 ^ 8) [] (omega arith) (All-nil (λ x. x < 256)))))
 
--- what is read of a list of bytes is a byte, behind its end too
+-- what is read of a list of bytes is a byte, after its end too
 pub reads_fit : (bytes : List ℕ) → AreBytes bytes → (i : ℕ) → get_or bytes i 0 < 2 ^ 8
 reads_fit [] all i = lit< tt
 reads_fit (byte ∷ rest) all zero = All-head (λ x. x < 256) byte rest all
@@ -43,7 +43,7 @@ left_fits window place byte reads fits =
     (xor_lt 8 (bit_xor (bit_xor byte a) b) c (xor_lt 8 (bit_xor byte a) b (xor_lt 8 byte a fits (reads (place + 155))) (reads (place + 117))) (reads (place + 89)))
     (reads place)
 
--- a byte written behind all that is subtracted at a place changes nothing of what is left there
+-- a byte written after all that is subtracted at a place changes nothing of what is left there
 left_at-set : (window : List ℕ) (at value place byte : ℕ) → place + 155 < at → left_at (set window at value) place byte ≡ left_at window place byte
 left_at-set window at value place byte beyond =
     let same : (i : ℕ) → i < at → get_or (set window at value) i 0 ≡ get_or window i 0 = λ i below. get_or-set_other window at i value 0 (λ equal. omega arith) in

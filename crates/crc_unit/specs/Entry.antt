@@ -6,7 +6,7 @@ use Rattle.division_law.specs.Registers.{register_steps}
 unfoldable pub crc32_entry : ℕ → ℕ → ℕ
 crc32_entry n byte = register_steps 31 0x04C1_1DB7 n (byte * 2 ^ 24)
 
--- the entries of bytes added, each after its own 8 shifts and those of the bytes behind it
+-- the entries of bytes added, each after its own 8 shifts and those of the bytes after it
 abbrev pub entries : List ℕ → ℕ
 entries [] = 0
 entries (byte ∷ rest) = bit_xor (crc32_entry (8 + 8 * length rest) byte) (entries rest)

@@ -24,7 +24,7 @@ const WINDOW: usize = DEGREE + LONGEST;
 
 /// What is left of a message's byte when the terms of the quotient are subtracted that fall on it.
 ///
-/// They are of its bytes 145, 183, 211 and 300 places earlier: x^1240 stands 145 bytes behind x^2400.
+/// They are of its bytes 145, 183, 211 and 300 places earlier: x^1240 stands 145 bytes after x^2400.
 fn byte_left(window: &[u8; WINDOW], place: usize, byte: u8) -> u8
     requires { place + 155 < WINDOW }
     ensures { result ≡ left_at window.now place byte }
@@ -32,7 +32,7 @@ fn byte_left(window: &[u8; WINDOW], place: usize, byte: u8) -> u8
     byte ^ window[place + 155] ^ window[place + 117] ^ window[place + 89] ^ window[place]
 }
 
-/// Makes a window of zeros that of bytes: their quotient, behind the register before them.
+/// Makes a window of zeros that of bytes: their quotient, after the register before them.
 fn divide(register: u32, bytes: &[u8], window: &mut [u8; WINDOW])
     requires room { length bytes.now + REST ≤ LONGEST }
     requires zeros { (i : ℕ) → slice_index window.old i ≡ 0 }
@@ -45,7 +45,7 @@ fn divide(register: u32, bytes: &[u8], window: &mut [u8; WINDOW])
     }
 }
 
-/// Writes what the quotient leaves of the bytes behind those that were divided.
+/// Writes what the quotient leaves of the bytes after those that were divided.
 fn subtract(window: &[u8; WINDOW], count: usize, behind: &[u8; REST], rest: &mut [u8; REST])
     requires { count + REST ≤ LONGEST }
     ensures { (i : ℕ) → i < REST → slice_index rest.new i ≡ left_at window.now (count + i) (slice_index behind.now i) }

@@ -1,6 +1,6 @@
 //! Check sums of units: CRC-32 of sections, SNDUs and fragmented PDUs, CRC-8 of baseband headers.
 //!
-//! A unit's bytes come in, the number that stands behind them goes out; nothing is allocated.
+//! A unit's bytes come in, the number that stands after them goes out; nothing is allocated.
 //! Used wherever a unit is read or written: sections, SNDUs, baseband frames, GSE packets.
 //! Begin with `crc32` and `crc8`; `crc32_step` goes on from a register, for a unit in pieces.
 #![tactic(auto)]

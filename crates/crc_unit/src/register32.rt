@@ -32,7 +32,7 @@ pub fn crc32_step(register: u32, bytes: &[u8]) -> u32
     five_terms::crc32_step(running, rest)
 }
 
-/// The CRC-32 of `bytes`, as it stands in the four bytes behind them, the most significant first.
+/// The CRC-32 of `bytes`, as it stands in the four bytes after them, the most significant first.
 ///
 /// The register starts at 0xFFFFFFFF, and its last value is not inverted.
 pub fn crc32(bytes: &[u8]) -> u32

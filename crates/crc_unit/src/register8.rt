@@ -34,7 +34,7 @@ fn byte_step(register: u8, byte: u8) -> u8
     running
 }
 
-/// The CRC-8 of `bytes`, as it stands in the byte behind them: from 0, most significant bit first.
+/// The CRC-8 of `bytes`, as it stands in the byte after them: from 0, most significant bit first.
 pub fn crc8(bytes: &[u8]) -> u8
     ensures { result ≡ crc8_remainder bytes.now }
 {

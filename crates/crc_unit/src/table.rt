@@ -15,7 +15,7 @@ macro_rules! entries {
     };
 }
 
-/// 8, 16, 24 and 32 shifts: 0 to 3 zero bytes behind the byte.
+/// 8, 16, 24 and 32 shifts: 0 to 3 zero bytes after the byte.
 pub(crate) const AFTER_8_TO_32: [[u32; 256]; 4] = [
     entries!(
         [0]
@@ -39,7 +39,7 @@ pub(crate) const AFTER_8_TO_32: [[u32; 256]; 4] = [
     ),
 ];
 
-/// 40, 48, 56 and 64 shifts: 4 to 7 zero bytes behind the byte.
+/// 40, 48, 56 and 64 shifts: 4 to 7 zero bytes after the byte.
 pub(crate) const AFTER_40_TO_64: [[u32; 256]; 4] = [
     entries!(
         [0]
@@ -63,7 +63,7 @@ pub(crate) const AFTER_40_TO_64: [[u32; 256]; 4] = [
     ),
 ];
 
-/// 72, 80, 88 and 96 shifts: 8 to 11 zero bytes behind the byte.
+/// 72, 80, 88 and 96 shifts: 8 to 11 zero bytes after the byte.
 pub(crate) const AFTER_72_TO_96: [[u32; 256]; 4] = [
     entries!(
         [0]
@@ -87,7 +87,7 @@ pub(crate) const AFTER_72_TO_96: [[u32; 256]; 4] = [
     ),
 ];
 
-/// 104, 112, 120 and 128 shifts: 12 to 15 zero bytes behind the byte.
+/// 104, 112, 120 and 128 shifts: 12 to 15 zero bytes after the byte.
 pub(crate) const AFTER_104_TO_128: [[u32; 256]; 4] = [
     entries!(
         [0]

@@ -1,7 +1,7 @@
 -- What the receiver hands to an outlet: pairs of service and datagram, told by the lists that the outlet stands for.
 use Rattle.std.specs.Prelude.{◌≡◌, ℕ, List, ◌∷◌, ◌++◌}
 
--- these pairs were delivered: behind each list that the outlet stood for, it stands for them
+-- these pairs were delivered: after each list that the outlet stood for, it stands for them
 abbrev pub Delivers : (List (ℕ × List ℕ) → Type 0) → (List (ℕ × List ℕ) → Type 0) → List (ℕ × List ℕ) → Type 0
 Delivers old now pairs = (before : List (ℕ × List ℕ)) → old before → now (before ++ pairs)
 

@@ -74,7 +74,7 @@ fn packet(pid: u16, starts: bool, counter: u8, front: &[u8]) -> Record {
     }
 }
 
-/// The packet in which one unit starts, behind a pointer.
+/// The packet in which one unit starts, after a pointer.
 fn one_unit(pid: u16, counter: u8, pointer: u8, unit: &[u8]) -> Record {
     let mut front = [0xFF; 184];
     front[0] = pointer;

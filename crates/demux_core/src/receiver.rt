@@ -80,7 +80,7 @@ impl<'a> Receiver<'a> {
 
     /// Takes the next record, and delivers the datagrams that it gives.
     ///
-    /// Failed: the outlet refused one, and those behind it are not offered; the record is counted as with Ok.
+    /// Failed: the outlet refused one, and those after it are not offered; the record is counted as with Ok.
     /// No memory is taken.
     pub fn step<T: Outlet>(&mut self, item: &Record, outlet: &mut T) -> Result<(), Failed>
         requires is_open { self.old.is_open ≡ true }
@@ -156,7 +156,7 @@ impl<'a> Receiver<'a> {
         self.is_open
     }
 
-    /// What was counted of the stream. The bytes behind the last record are not the receiver's: `tail_bytes` is 0.
+    /// What was counted of the stream. The bytes after the last record are not the receiver's: `tail_bytes` is 0.
     pub fn stream_counts(&self) -> StreamCounts
         ensures seen { result ≡ self.now.stream }
         ensures read { (plan : PlanFields) (records : List ReadRecord) → HasReceived plan records self.now

@@ -18,7 +18,7 @@ const SETTINGS: &str =
 const FRAMES: &str =
     "[[service]]\nname = \"lecture\"\nkind = \"fec\"\npid = 512\nmode = \"indexed\"\nrows = 1024\nrules = [\"239.1.0.0/16\"]\n";
 
-/// What a reception has left behind.
+/// What a reception has left after.
 #[derive(Drop)]
 struct Ended {
     seen: Seen,
@@ -133,7 +133,7 @@ fn services_do_not_disturb_each_other(rt: HostRuntime) -> Result<(), Fail> {
             stream: [0; 4],
             services: [NONE; 3],
         },
-        // by turns
+        // in rotation
         Case {
             parts: &[
                 Part::Sndu(0, 0),
@@ -152,7 +152,7 @@ fn services_do_not_disturb_each_other(rt: HostRuntime) -> Result<(), Fail> {
             stream: [2, 0, 0, 0],
             services: [two, NONE, NONE],
         },
-        // a duplicate behind the other service's packet, and a discontinuity
+        // a duplicate after the other service's packet, and a discontinuity
         Case {
             parts: &[
                 Part::Sndu(0, 0),
@@ -164,7 +164,7 @@ fn services_do_not_disturb_each_other(rt: HostRuntime) -> Result<(), Fail> {
             stream: [4, 0, 0, 0],
             services: [[1, 1, 0, 1, 0, 1], [2, 0, 1, 2, 0, 2], NONE],
         },
-        // units over two packets each, by turns: the order is that of their last bytes
+        // units over two packets each, in rotation: the order is that of their last bytes
         Case {
             parts: &[
                 Part::Head(0, 0),

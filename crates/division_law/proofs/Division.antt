@@ -4,7 +4,7 @@ use Rattle.std.specs.Prelude.{replicate, if◌then◌else◌}
 use Rattle.wire_spec.specs.BitPolynomials.{bit_sum, added_front, divided, remainder}
 use Rattle.division_law.proofs.Fronts.{added-added, added_end, length-added, added_moved, onto_zeros}
 
--- the register after one more bit, where d is the divisor behind its first bit
+-- the register after one more bit, where d is the divisor after its first bit
 abbrev pub fed : List Bool → List Bool → Bool → List Bool
 fed d [] b = []
 fed d (x ∷ s) b = if bit_sum x b then added_front d (s ++ false ∷ []) else s ++ false ∷ []

@@ -42,7 +42,7 @@ added_comm [] (y ∷ b) long = absurd (omega arith)
 added_comm (x ∷ a) [] long = absurd (omega arith)
 added_comm (x ∷ a) (y ∷ b) long = ap₂ (λ (a : Bool) (t : List Bool). a ∷ t) (sum_comm x y) (added_comm a b (omega arith))
 
--- a 0 behind the front changes nothing
+-- a 0 after the front changes nothing
 pub added_end : (s l : List Bool) → added_front (s ++ false ∷ []) l ≡ added_front s l
 added_end [] [] = refl
 added_end [] (y ∷ l) = refl
@@ -55,7 +55,7 @@ added_zeros zero l = refl
 added_zeros (suc n) [] = refl
 added_zeros (suc n) (y ∷ l) = ap (λ t. y ∷ t) (added_zeros n l)
 
--- zeros behind what is added change nothing
+-- zeros after what is added change nothing
 pub added_behind : (n : ℕ) (s l : List Bool) → added_front (s ++ replicate n false) l ≡ added_front s l
 added_behind n [] l = added_zeros n l
 added_behind n (x ∷ s) [] = refl

@@ -90,7 +90,7 @@ shifted_line k poly n r small fits =
     ∙ onto_zeros (suc k) (run d s z) (length-run d s z ∙ start_long)
     ∙ run_zeros k poly n r small fits
 
--- a sum of two lines of one length, and a rest behind it
+-- a sum of two lines of one length, and a rest after it
 pub added-append : (a b c : List Bool) → length a ≡ length b → added_front a b ++ c ≡ added_front a (b ++ c)
 added-append [] [] c as_long = refl
 added-append [] (y ∷ b) c as_long = absurd (omega arith)

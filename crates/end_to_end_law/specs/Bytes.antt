@@ -7,7 +7,7 @@ use Rattle.stream_spec.specs.Services.{Carries}
 use Rattle.reception_spec.specs.Delivered.{delivered_datagrams}
 use Rattle.loss_law.specs.Loss.{service_at, IsRecorded}
 
--- the bytes are cut into records, with fewer bytes than one has behind them, and these are a recording of what was sent
+-- the bytes are cut into records, with fewer bytes than one has after them, and these are a recording of what was sent
 pub record IsRecordingOf (plan : PlanFields) (sent : List Record) (datagrams : ℕ → List (List ℕ)) (carries : Carries plan sent datagrams)
     (bytes : List ℕ) : Type 0 where
   pub pieces : List (List ℕ)

@@ -13,7 +13,7 @@ use pcap_file::a_capture_tells_one_thing;
 use settings_law::{accepted_settings_give_a_plan, accepted_settings_give_bytes};
 use stream_law::there_is_one_stream;
 
-/// All bytes tell records as a capture, as far as they are one, and the fault behind them or none.
+/// All bytes tell records as a capture, as far as they are one, and the fault after them or none.
 pub fn each_capture_tells_records()
     ensures tells { (capture : List ℕ) → (told : List (List ℕ)) × (fault : Option CaptureFault) × Tells capture told fault }
 {}

@@ -3,7 +3,7 @@ use Rattle.std.specs.Prelude.{ℕ, List, [], ◌∷◌, ◌≡◌, ◌<◌, leng
 use Rattle.wire_spec.specs.Bytes.{AreBytes}
 use Rattle.fec_spec.specs.Field.{field_sum, field_product, field_power}
 
--- the value of a row at z: the sum of its bytes, each times z to the power of the number of bytes behind it
+-- the value of a row at z: the sum of its bytes, each times z to the power of the number of bytes after it
 unfoldable pub row_value : ℕ → List ℕ → ℕ
 row_value z [] = 0
 row_value z (c ∷ row) = field_sum (field_product c (field_power z (length row))) (row_value z row)

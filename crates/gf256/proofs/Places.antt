@@ -85,7 +85,7 @@ length-behind n xs = length-take-le (length xs - n) (drop n xs) (omega (arith, l
 get_or-behind : (n : ℕ) (xs : List ℕ) (j : ℕ) → n + j < length xs → get_or (behind n xs) j 0 ≡ get_or xs (n + j) 0
 get_or-behind n xs j within = get_or-take (length xs - n) (drop n xs) j 0 (omega arith) ∙ get_or-drop n xs j 0
 
--- after the places from n on, with anything behind them
+-- after the places from n on, with anything after them
 pub behind_done : (f : ℕ → ℕ → ℕ) (n : ℕ) (source first now new rest : List ℕ) → n ≤ length source → length source ≡ length first
     → length new ≡ length (behind n now)
     → ((j : ℕ) → j < length (behind n source) → get_or new j 0 ≡ f (get_or (behind n now) j 0) (get_or (behind n source) j 0))

@@ -37,7 +37,7 @@ fn column(alloc: Global, length: usize, factor: usize) -> Result<Vec<u8>, AllocE
     Ok(bytes)
 }
 
-/// Sixteen bytes a step and one by one: both bodies, with nothing, 1 and 15 bytes behind the last whole step.
+/// Sixteen bytes a step and one by one: both bodies, with nothing, 1 and 15 bytes after the last whole step.
 #[test]
 fn kernels_give_what_the_plain_bodies_give(rt: HostRuntime) -> Result<(), Fail> {
     for length in [0usize, 1, 31, 32, 33, 1024] {
@@ -60,7 +60,7 @@ fn kernels_give_what_the_plain_bodies_give(rt: HostRuntime) -> Result<(), Fail> 
     Ok(())
 }
 
-/// By hand: 2 times 0x80 is 0x1D, and 1 more is 0x1C, at each place of a whole step and behind it.
+/// By hand: 2 times 0x80 is 0x1D, and 1 more is 0x1C, at each place of a whole step and after it.
 #[test]
 fn each_place_is_reached(rt: HostRuntime) {
     let mut target = [1u8; 18];

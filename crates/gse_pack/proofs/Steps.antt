@@ -66,7 +66,7 @@ frames_begun isi size frames has = ap (frames_after isi size []) has.are ∙ sym
 
 -- The steps.
 
--- a packet in front, where so many bytes are left behind it
+-- a packet in front, where so many bytes are left after it
 front_step : (most : ℕ) (p : PackState) (w : Writing) (bytes : List ℕ) (less : ℕ) (before : Option Label) (state : InOrder)
     → bytes_of_packet w.reuses w.packet ≡ bytes → less ≡ length bytes
     → p.frames ++ frames_after p.isi p.size p.field (in_front w (from_here (p.size - 10) most (left_in p - less) before state))

@@ -1,4 +1,4 @@
--- The parts of a buffer behind a write.
+-- The parts of a buffer after a write.
 use Rattle.std.proofs.Common.{◌≡◌, ◌⊎◌, inl, inr, ℕ, ◌+◌, ◌*◌, ◌-◌, ◌<◌, ◌≤◌, Bool, true, false, cond, Option, Some, None, List, ◌++◌, length, take, drop, refl, ap, sym, ◌∙◌, subst, arith, append_assoc, length-drop, length-append}
 use Rattle.std.specs.Prelude.{slice_index_or, All, ◌==◌}
 use Rattle.std.proofs.Math.ListN.{set}
@@ -12,7 +12,7 @@ use Rattle.gse_reassembly.specs.Slots.{open_in, closed, slot_open, FitsOpen, Fit
 use Rattle.gse_reassembly.specs.declared.slots.Open.{Open}
 use Rattle.gse_reassembly.specs.declared.slots.Slot.{Slot}
 
--- bytes put behind those that stand from a place on
+-- bytes put after those that stand from a place on
 pub put_behind : (old piece : List ℕ) (base fill : ℕ) → base + fill + length piece ≤ length old
     → take (fill + length piece) (drop base (written_at old (base + fill) piece)) ≡ take fill (drop base old) ++ piece
 put_behind old piece base fill within =
@@ -29,7 +29,7 @@ put_at_base old piece base within =
     let front : length (take base old) ≡ base = length-take-le base old (omega (arith, within)) in
     ap (take (length piece)) (drop_at (take base old) (piece ++ drop (base + length piece) old) base front) ∙ take_at piece (drop (base + length piece) old) (length piece) refl
 
--- bytes before and behind the place stay
+-- bytes before and after the place stay
 pub put_before : (old piece : List ℕ) (at base fill : ℕ) → at ≤ length old → base + fill ≤ at → take fill (drop base (written_at old at piece)) ≡ take fill (drop base old)
 put_before old piece at base fill within below =
     let front : length (take at old) ≡ at = length-take-le at old within in

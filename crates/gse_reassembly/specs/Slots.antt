@@ -47,12 +47,12 @@ pub record SlotsState : Type 0 where
 abbrev pub open_on : SlotsState → ℕ → Option Fragments
 open_on state id = slot_open state.slots state.buffer id
 
--- what a start is answered, by what is open behind it
+-- what a start is answered, by what is open after it
 abbrev pub start_answer : Option Fragments → Part
 start_answer None = part.TooLong
 start_answer (Some f) = part.Kept
 
--- what a middle is answered, by what is open before and behind it
+-- what a middle is answered, by what is open before and after it
 abbrev pub middle_answer : Option Fragments → Option Fragments → Part
 middle_answer None behind = part.NoStart
 middle_answer (Some f) behind = start_answer behind

@@ -8,11 +8,11 @@ use Rattle.ip_datagram.specs.declared.address.IpAddress.TheVariants.{V4, V6}
 use Rattle.addr_rules.specs.Texts.{bit_count}
 use Rattle.addr_rules.specs.declared.rules.Rule.{Rule}
 
--- a loop: 4 reserved bits, a length of 12 bits, and as many bytes behind
+-- a loop: 4 reserved bits, a length of 12 bits, and as many bytes after
 abbrev pub is_loop : List ℕ → Bool
 is_loop b = length b == 2 + u16_at b 0 % 2 ^ 12
 
--- a descriptor: a tag, a length, and as many bytes behind
+-- a descriptor: a tag, a length, and as many bytes after
 abbrev pub is_descriptor : List ℕ → Bool
 is_descriptor b = length b == 2 + slice_index b 1
 

@@ -36,7 +36,7 @@ pub record Loops : Type 0 where
 abbrev pub all_loops : Loops → List (List ℕ)
 all_loops loops = loops.platform ∷ flat_map (λ pair. pair.target ∷ pair.operational ∷ []) loops.pairs
 
--- the body holds these loops behind its head of 9 bytes
+-- the body holds these loops after its head of 9 bytes
 abbrev pub HasLoops : List ℕ → Loops → Type 0
 HasLoops body loops = AreBytesOf is_loop (drop 9 body) (all_loops loops)
 

@@ -51,12 +51,12 @@ abbrev pub most_rules : IpAddress → ℕ
 most_rules (V4 address) = 51
 most_rules (V6 address) = 15
 
--- a rule behind those of a descriptor goes into it: they are of its version, and there is room
+-- a rule after those of a descriptor goes into it: they are of its version, and there is room
 abbrev pub goes_into : List Rule → Rule → Bool
 goes_into [] rule = true
 goes_into (first ∷ others) rule = (tag_of first.address == tag_of rule.address) && nat_lt (1 + length others) (most_rules rule.address)
 
--- a rule behind those of some descriptors goes into the last, or begins a new one
+-- a rule after those of some descriptors goes into the last, or begins a new one
 abbrev pub with_rule : List (List Rule) → Rule → List (List Rule)
 with_rule [] rule = (rule ∷ []) ∷ []
 with_rule (last ∷ []) rule = if goes_into last rule then (last ++ rule ∷ []) ∷ [] else last ∷ (rule ∷ []) ∷ []

@@ -19,7 +19,7 @@ length-entry_bytes : (table : TableFields) (entry : EntryFields)
 length-entry_bytes table entry =
     omega (arith, length-append (loop_bytes (target_bytes entry.rules)) (loop_bytes (operational_bytes table entry)))
 
--- an entry, and those behind it
+-- an entry, and those after it
 pub entries_from : (table : TableFields) (entries : List EntryFields) (at : ℕ) (entry : EntryFields) → slice_get entries at ≡ Some entry
     → flat_map (entry_bytes table) (drop at entries) ≡ entry_bytes table entry ++ flat_map (entry_bytes table) (drop (at + 1) entries)
 entries_from table entries at entry found = ap (flat_map (entry_bytes table)) (drop_from entries at entry found)

@@ -14,7 +14,7 @@ use Rattle.int_spec.specs.Table.{goes_into, with_rule, rule_groups, rule_bytes, 
 use Rattle.int_table.specs.Groups.{taken, HasShape, IsGroup}
 use Rattle.int_table.proofs.Parts.{take_one_more, drop_one_less, drop_from}
 
--- rules behind the last but one descriptor leave those before it as they are
+-- rules after the last but one descriptor leave those before it as they are
 fold-with_rule : (group next : List Rule) (others : List (List Rule)) (rules : List Rule)
     → fold with_rule (group ∷ next ∷ others) rules ≡ group ∷ fold with_rule (next ∷ others) rules
 fold-with_rule group next others [] = refl
@@ -227,7 +227,7 @@ taking_meets_another rules first rule count size taking found other =
     taking_ends rules first count size taking
     (taken_no_more group (drop count rules) rule (drop (suc count) rules) (drop_one_less rules count rule found) stays)
 
--- a rule behind a place is one of the rest there
+-- a rule after a place is one of the rest there
 pub slice_get-drop : (rules : List Rule) (place i : ℕ) (rule : Rule) → slice_get rules (place + i) ≡ Some rule → slice_get (drop place rules) i ≡ Some rule
 slice_get-drop rules place i rule found =
     let within : place + i < length rules = slice_get_within rules (place + i) rule found in
@@ -238,7 +238,7 @@ pub slice_get-drop_0 : (rules : List Rule) (place : ℕ) (rule : Rule) → slice
 slice_get-drop_0 rules place rule found =
     slice_get-drop rules place 0 rule (ap (slice_get rules) (add-zero place) ∙ found)
 
--- the descriptors from a place on: that of the group there, then those behind it
+-- the descriptors from a place on: that of the group there, then those after it
 pub target_bytes_from : (rules : List Rule) (place count size : ℕ) → place < length rules → IsGroup (drop place rules) count size
     → target_bytes (drop place rules) ≡ group_bytes (take count (drop place rules)) ++ target_bytes (drop (place + count) rules)
 target_bytes_from rules place count size within group =
@@ -268,7 +268,7 @@ counted_more rules place count size so_far whole within group counted =
 pub group_within : (rules : List Rule) (place count size : ℕ) → place < length rules → IsGroup (drop place rules) count size → place + count ≤ length rules
 group_within rules place count size within group = omega (arith, group.within, length-drop place rules)
 
--- the rules from a place up to another: the one there, then those behind it
+-- the rules from a place up to another: the one there, then those after it
 pub rules_from : (rules : List Rule) (i end : ℕ) (rule : Rule) → slice_get rules i ≡ Some rule → i < end
     → flat_map rule_bytes (take (end - i) (drop i rules)) ≡ rule_bytes rule ++ flat_map rule_bytes (take (end - (i + 1)) (drop (i + 1) rules))
 rules_from rules i end rule found within =

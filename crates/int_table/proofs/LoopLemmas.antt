@@ -8,7 +8,7 @@ use Rattle.int_table.specs.Loops.{is_right_loop, operational_in, agrees, pairs_n
 use Rattle.int_table.specs.declared.network.Network.{Network}
 use Rattle.int_table.specs.declared.network.Operational.{Operational}
 
--- a right pair of the known network, and those behind it
+-- a right pair of the known network, and those after it
 pub pair_read : (known : Option Network) (target operational : List ℕ) (rest : List (List ℕ)) (told : Operational)
     → is_right_loop target ≡ true → operational_in operational ≡ Some told → agrees known told.location.network ≡ true
     → pairs_network known (target ∷ operational ∷ rest) ≡ pairs_network (Some told.location.network) rest
@@ -66,7 +66,7 @@ pub after_first : (r : Option (Bor (List ℕ))) (a b : List (List ℕ)) → Matc
 after_first None a b h = h.1 ∙ sym (ap (drop 1) h.0)
 after_first (Some x) a b h = sym (ap (drop 1) h)
 
--- an entry was pushed, and those behind it are left
+-- an entry was pushed, and those after it are left
 pub entry_pushed : (table new whole : TableFields) (entry : EntryFields) (before between rest : List (List ℕ)) (target behind : List ℕ) (told : Operational)
     → new ≡ record table { entries = table.entries ++ entry ∷ [] } → before ≡ target ∷ between → between ≡ behind ∷ rest
     → operational_in behind ≡ Some told → entry ≡ entry_of target told

@@ -41,7 +41,7 @@ some_differs network other none some = cc
 false_differs : (t : Bool) → t ≡ false → t ≡ true → ⊥
 false_differs t differs same = cc
 
--- the tests behind that of the table
+-- the tests after that of the table
 behind_table : (b : List ℕ) (pairs hash only : Bool) (network : Option Network) → Passed b pairs network
     → has_right_hash (section_fields b).body ≡ hash → is_only_section (section_fields b).body ≡ only → (f : IntFault)
     → (if pairs then (if is_some network then (if hash then (if only then None else Some fault.Numbers) else Some fault.Hash) else Some fault.Descriptor) else Some fault.Loop) ≡ Some f
@@ -79,7 +79,7 @@ same_some m n same = cc
 pub none_differs : (f : IntFault) → Some f ≡ None → ⊥
 none_differs f same = cc
 
--- the tests behind that of the section
+-- the tests after that of the section
 abbrev inner : List ℕ → Option IntFault
 inner b = if is_table (section_fields b) then body_refusal (section_fields b).body else Some fault.Table
 

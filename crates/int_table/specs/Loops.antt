@@ -18,7 +18,7 @@ loops_in body = pieces_of Loop (drop 9 body)
 abbrev pub descriptors_in : List ℕ → List (List ℕ)
 descriptors_in loop = pieces_of Descriptor (drop 2 loop)
 
--- all are whole, and behind an even number or an odd one there are so many that it is odd
+-- all are whole, and after an even number or an odd one there are so many that it is odd
 abbrev pub has_pairs : Bool → List (List ℕ) → Bool
 has_pairs odd [] = odd
 has_pairs odd (loop ∷ loops) = is_loop loop && has_pairs (not odd) loops
@@ -34,7 +34,7 @@ location_of b = record {
   component_tag = slice_index b 10;
 }
 
--- behind a location and an identifier, where there were some, what the descriptors tell with them
+-- after a location and an identifier, where there were some, what the descriptors tell with them
 abbrev pub with_location : Option Location → List ℕ → Option Location
 with_location known b = if is_location b then Some (location_of b) else known
 

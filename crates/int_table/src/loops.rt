@@ -44,7 +44,7 @@ fn is_whole_loop(bytes: &[u8]) -> bool
         && bytes.len() == 2 + (usize::from(bytes[0]) * 256 + usize::from(bytes[1])) % 4096
 }
 
-/// Whether the loops of a body are whole, and a platform loop with pairs behind it.
+/// Whether the loops of a body are whole, and a platform loop with pairs after it.
 pub(crate) fn has_loops(body: &[u8]) -> bool
     ensures read { result ≡ has_pairs false (loops_in body.now) }
     ensures long { result ≡ true → 9 < length body.now }

@@ -92,7 +92,7 @@ pub(crate) fn check(section: &[u8]) -> Result<Checked<'_>, IntFault>
 pub enum IntReadFault {
     /// The bytes are no table.
     Fault(IntFault),
-    /// Memory was wanting.
+    /// Out of memory.
     OutOfMemory,
 }
 

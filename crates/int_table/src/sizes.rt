@@ -12,7 +12,7 @@ use addr_rules::RuleList;
 /// One byte more than the longest section has (ISO/IEC 13818-1 clause 2.4.4.11): here counting ends.
 pub(crate) const ABOVE_SECTION: usize = 4097;
 
-/// Bytes of a section before the entries and behind them: 3 before the body, the head of 9 bytes, the platform loop of 2, and the CRC_32.
+/// Bytes of a section before the entries and after them: 3 before the body, the head of 9 bytes, the platform loop of 2, and the CRC_32.
 const FRAME: usize = 18;
 
 /// Bytes of a location: its head and five numbers.

@@ -28,7 +28,7 @@ pub enum IntFault {
     Section = 1,
     /// table_id is not 0x4C, action_type not 0x01, or current_next_indicator 0.
     Table = 2,
-    /// The body has no room for its head, a loop passes it, or a target loop has no operational loop behind it.
+    /// The body has no room for its head, a loop passes it, or a target loop has no operational loop after it.
     Loop = 3,
     /// A descriptor passes its loop, its length does not fit its tag, or a slash is above the bits of its address; an
     /// operational loop has not one location; or the networks of two locations differ.
@@ -107,7 +107,7 @@ impl IntTable {
         }
     }
 
-    /// Puts `entry` behind the others. Where memory is wanting it comes back, and the table stays as it was.
+    /// Puts `entry` after the others. When out of memory it comes back, and the table stays as it was.
     pub fn push(&mut self, entry: IntEntry) -> Result<(), IntEntry>
         requires slashes { list_all has_right_slash entry.rules ≡ true }
         ensures written { OnOk result (self.new ≡ record self.old { entries = self.old.entries ++ entry_in entry ∷ [] }) }

@@ -1,4 +1,4 @@
-//! A table -> the bytes of its section, each piece behind those before it.
+//! A table -> the bytes of its section, each piece after those before it.
 
 ghost use Rattle.std.specs.Prelude.{◌≡◌, ℕ, ◌+◌, ◌-◌, ◌<◌, ◌≤◌, ◌^◌, ◌↔◌, [], ◌∷◌, ◌++◌, length, take, drop, flat_map, All, IfOk, IfSome, IsOk, OnOk, OnErr, IsErrOf};
 ghost use Rattle.std.specs.Int.{w16, to_be_bytes};
@@ -32,7 +32,7 @@ pub(crate) const TIME_SLICE_FEC_IDENTIFIER: u8 = 0x77;
 /// The reserved bits before the length of 12 bits of a loop or a section.
 const RESERVED: u16 = 0xF000;
 
-/// Puts `piece` behind the first `at` bytes; answers where it ends.
+/// Puts `piece` after the first `at` bytes; answers where it ends.
 pub(crate) fn put(into: &mut [u8], at: usize, piece: &[u8]) -> usize
     requires room { at + length piece.now ≤ length into.old }
     ensures put { Puts into.old into.new at result piece.now }

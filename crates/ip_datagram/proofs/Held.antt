@@ -13,7 +13,7 @@ ends_within : (from size : ℕ) (ends : List ℕ) → AreEnds from size ends →
 ends_within from size [] are = omega (arith, are)
 ends_within from size (end ∷ ends) are = omega (arith, are.0, ends_within end size ends are.1)
 
--- one piece more behind the last
+-- one piece more after the last
 pub ends_more : (from size count : ℕ) (ends : List ℕ) → AreEnds from size ends → AreEnds from (size + count) (ends ++ (size + count) ∷ [])
 ends_more from size count [] are = (omega (arith, are), refl)
 ends_more from size count (end ∷ ends) are = (are.0, ends_more end size count ends are.1)

@@ -19,7 +19,7 @@ enough : (n least : ℕ) (h : Hint) → cond (ltb n least) More h ≢ More → l
 enough n least h told =
     ⊎_elim (λ (few : n < least). absurd (told (cond-true (ltb n least) More h (lt-ltb n least few)))) (λ (le : least ≤ n). le) (cases_lt n least)
 
--- it is then what stands behind the test
+-- it is then what stands after the test
 past : (n least : ℕ) (h : Hint) → least ≤ n → cond (ltb n least) More h ≡ h
 past n least h le = cond-false (ltb n least) More h (le-ltb n least le)
 
@@ -55,7 +55,7 @@ choice false true x a a' b b' same4 same6 told = same4 told
 choice false false true a a' b b' same4 same6 told = same6 told
 choice false false false a a' b b' same4 same6 told = refl
 
--- the answer behind the test for no byte
+-- the answer after the test for no byte
 behind : List ℕ → ℕ → Hint
 behind b v = cond (eqb v 0) Padding (cond (eqb v 4) (ipv4_hint b) (cond (eqb v 6) (ipv6_hint b) Bad))
 

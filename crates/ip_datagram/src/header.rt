@@ -27,7 +27,7 @@ pub(crate) const IPV6_HEADER: usize = 40;
 
 /// Answers the whole length in bytes of the datagram that `bytes` begin with.
 ///
-/// Bytes behind the datagram are free, and no header checksum is tested.
+/// Bytes after the datagram are free, and no header checksum is tested.
 pub fn front(bytes: &[u8]) -> Result<usize, IpFault>
     ensures read { front_length bytes.now ≡ result_ok result }
     ensures refused { refusal bytes.now ≡ result_err result }

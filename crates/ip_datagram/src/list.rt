@@ -7,7 +7,7 @@ use std::marker::Model;
 
 /// Byte lists in the order in which they were pushed; contracts see them as a list of lists.
 ///
-/// They stand one behind another in one buffer, so that a list takes memory for few calls and no room beside its bytes.
+/// They stand one after another in one buffer, so that a list takes memory for few calls and no room beside its bytes.
 #[derive(Drop)]
 pub struct DatagramList {
     bytes: Vec<u8>,
@@ -55,7 +55,7 @@ impl DatagramList {
         }
     }
 
-    /// Copies `datagram` behind the others. Where memory is wanting the list stays as it was.
+    /// Copies `datagram` after the others. When out of memory the list stays as it was.
     pub fn push(&mut self, datagram: &[u8]) -> Result<(), OutOfMemory>
         ensures written { OnOk result (self.new ≡ self.old ++ datagram.now ∷ []) }
         ensures unchanged { OnErr result (self.new ≡ self.old) }

@@ -11,7 +11,7 @@ use std::marker::Model;
 use std::rt::Files;
 
 /// Files of the current folder, each through a buffer of 64 KiB. It tells no bytes. Each refusal of the system is a
-/// fault, but want of memory in opening a file, and so is each write that takes nothing of a piece that is not empty.
+/// fault, but running out of memory in opening a file, and so is each write that takes nothing of a piece that is not empty.
 #[derive(Drop)]
 pub struct FileRack<R: Files + Drop> {
     system: R,
@@ -40,7 +40,7 @@ impl<R: Files + Drop> FileRack<R> {
         }
     }
 
-    /// Writes out what all files hold back, also behind one that fails.
+    /// Writes out what all files hold back, also after one that fails.
     pub fn flush_all(&mut self) -> Result<(), Failed>
         ensures count { self.new.count ≡ self.old.count }
         ensures cause { HasCause self.old.faults self.new.faults result }

@@ -10,7 +10,7 @@ use std::io::ErrorKind;
 use std::marker::Model;
 use std::rt::Files;
 
-/// The files of the current folder. It tells no bytes. Each refusal of the system is a fault, but want of memory in
+/// The files of the current folder. It tells no bytes. Each refusal of the system is a fault, but running out of memory in
 /// opening a file. One count serves all names.
 #[derive(Drop)]
 pub struct FileShelf<R: Files + Drop> {

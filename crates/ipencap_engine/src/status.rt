@@ -27,7 +27,7 @@ pub enum Status {
     SinkFault,
     /// A file could not be added or written.
     RackFault,
-    /// Memory was wanting.
+    /// Out of memory.
     OutOfMemory,
     /// The recording has 2^32 records or more.
     TooLong,

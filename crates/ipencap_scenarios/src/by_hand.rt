@@ -82,7 +82,7 @@ fn put_datagram(into: &mut Vec<u8>, size: u16, mark: u8) -> Result<(), Fail> {
     Ok(())
 }
 
-/// The SNDUs, one behind the other.
+/// The SNDUs, one after the other.
 fn stream_of(alloc: Global, sndus: &[Sndu]) -> Result<Vec<u8>, Fail> {
     let mut stream = Vec::new(alloc);
     for sndu in sndus {
@@ -93,7 +93,7 @@ fn stream_of(alloc: Global, sndus: &[Sndu]) -> Result<Vec<u8>, Fail> {
     Ok(stream)
 }
 
-/// The packets, one behind the other.
+/// The packets, one after the other.
 fn recording_of(alloc: Global, stream: &[u8], packets: &[Packet]) -> Result<Vec<u8>, Fail> {
     let mut recording = Vec::new(alloc);
     for packet in packets {

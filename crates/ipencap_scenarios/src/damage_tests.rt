@@ -17,7 +17,7 @@ const WRONG_LENGTH: Sndu = Sndu {
     crc: [0x8C, 0xCE, 0xB2, 0xA5],
 };
 
-/// A unit of three packets, with one unit before it and two behind, and each way to hurt it.
+/// A unit of three packets, with one unit before it and two after, and each way to hurt it.
 #[test]
 fn a_hurt_unit_is_not_delivered_and_its_neighbours_are(rt: HostRuntime) -> Result<(), Fail> {
     let cases = [

@@ -1,4 +1,4 @@
-//! Extension headers, and the datagram behind them.
+//! Extension headers, and the datagram after them.
 use crate::by_hand::{LAST, SHORT, Sndu, capture_of, written};
 use std::test::Fail;
 
@@ -84,7 +84,7 @@ const HEADED: [Headed; 12] = [
     ),
 ];
 
-/// RFC 4326 sections 4.4, 4.7 and 5: a datagram is delivered if its EtherType stands behind optional headers alone.
+/// RFC 4326 sections 4.4, 4.7 and 5: a datagram is delivered if its EtherType stands after optional headers alone.
 ///
 /// Profile: a bridged frame gives no datagram, and an NPA address is not compared.
 #[test]

@@ -198,7 +198,7 @@ pub const LOSSES: [Loss; 27] = [
         WHOLE_LECTURE,
         WHOLE_FILES,
     ),
-    // a gap before it and one behind it, and SNDU 2 is under way at the second
+    // a gap before it and one after it, and SNDU 2 is under way at the second
     (
         "continuity_counter",
         PLAIN,
@@ -207,7 +207,7 @@ pub const LOSSES: [Loss; 27] = [
         WHOLE_LECTURE,
         (&NO_FILE_2, [24, 0, 2, 13, 0, 1, 0]),
     ),
-    // the packet of the files with counter 1 comes behind the one of the lecture with counter 1: a gap, at which section 1 is under
+    // the packet of the files with counter 1 comes after the one of the lecture with counter 1: a gap, at which section 1 is under
     // way. There 0x00 0x6E 0x08 begin a section of 3,595 bytes, which the next packet ends at its pointer
     (
         "the PID: 512 for 513",

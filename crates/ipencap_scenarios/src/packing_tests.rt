@@ -16,7 +16,7 @@ const CASES: [(usize, [Packet; 3]); 3] = [
             (&[0x47, 0x01, 0, 0x12], 366, 472),
         ],
     ),
-    // Behind a pointer one byte would be left, which cannot hold Length: there is none, and two bytes are stuffing.
+    // After a pointer one byte would be left, which cannot hold Length: there is none, and two bytes are stuffing.
     (
         357,
         [
@@ -25,7 +25,7 @@ const CASES: [(usize, [Packet; 3]); 3] = [
             (&[0x47, 0x41, 0, 0x12, 0], 365, 473),
         ],
     ),
-    // Behind a pointer no byte would be left.
+    // After a pointer no byte would be left.
     (
         358,
         [
@@ -47,7 +47,7 @@ fn counted_bytes() -> [u8; 358] {
     bytes
 }
 
-/// Writes SNDUs with datagrams of `size` and of 100 bytes, one behind the other; answers their lengths.
+/// Writes SNDUs with datagrams of `size` and of 100 bytes, one after the other; answers their lengths.
 fn write_two(size: usize, into: &mut [u8; 500]) -> (usize, usize)
     requires { size ≤ 358 }
 {
@@ -67,7 +67,7 @@ fn packet_of(head: &[u8], bytes: &[u8]) -> [u8; 188]
     packet
 }
 
-/// RFC 4326 section 6: an SNDU begins behind another one in a packet if D and Length, two bytes, have room there.
+/// RFC 4326 section 6: an SNDU begins after another one in a packet if D and Length, two bytes, have room there.
 #[test]
 fn an_sndu_begins_behind_another_where_two_bytes_have_room(rt: HostRuntime) {
     for (size, wants) in CASES {

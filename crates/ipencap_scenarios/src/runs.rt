@@ -10,7 +10,7 @@ use std::test::Fail;
 /// What a run is given. Of each object the calls fail whose numbers, from 0, are listed.
 #[derive(Clone, Copy)]
 pub struct Given<'a> {
-    /// The words behind the program's name.
+    /// The words after the program's name.
     pub words: &'a [&'a str],
     /// The name of the one file on the shelf, and its bytes.
     pub name: &'a str,

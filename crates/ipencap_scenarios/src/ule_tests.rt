@@ -59,7 +59,7 @@ fn recordings_give_their_datagrams(rt: HostRuntime) -> Result<(), Fail> {
         (&[(0, 0)], 0, 1),
         (&[(0, 0)], 100, 1),
         (&[(1, 0)], 0, 0),
-        // a duplicate, at once or behind another PID's packet: 15 packets may be lost between, and nothing tells
+        // a duplicate, at once or after another PID's packet: 15 packets may be lost between, and nothing tells
         (&[(0, 0), (0, 0)], 0, 1),
         (&[(0, 0), (0, 0), (0, 0)], 0, 1),
         (&[(0, 0), (1, 0), (0, 0)], 0, 1),

@@ -46,7 +46,7 @@ module _ (form : UnitForm) (units : List (List ℕ)) (packets : List PacketField
           by_told (inl open_span) = absurd (cc)
           by_told (inr stays) = same_whole size_told (size units n) (sym told ∙ sym stays ∙ unit_is)
 
-  -- behind the last unit that begins in a packet the packet has stuffing alone
+  -- after the last unit that begins in a packet the packet has stuffing alone
   ones_behind : (m n k : ℕ) → BeginsAt form units packets begin lawful packetized m n k → k + size units n ≤ length (body packets m)
       → (n + 1 < length units → edge packets (m + 1) ≤ begin (n + 1)) → AreOnes (drop (k + size units n) (body packets m))
   ones_behind m n k at inside last i within = by_next (packetized.next n at.1)
@@ -104,7 +104,7 @@ module _ (form : UnitForm) (units : List (List ℕ)) (packets : List PacketField
         },
       )
 
-      -- behind a unit that ends in the packet
+      -- after a unit that ends in the packet
       behind : Goes → k + size units j ≤ length (body packets m)
           → Member (starts_within form most (1 + (k + size units j)) (drop (k + size units j) (body packets m))) start → Found
       behind later inside found = by_next (cases_lt (j + 1) (length units)) (cases_lt (begin (j + 1)) (edge packets (m + 1)))

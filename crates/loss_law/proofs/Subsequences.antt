@@ -2,7 +2,7 @@
 use Rattle.std.proofs.Common.{inl, inr, Bool, true, false, cond, List, [], ◌∷◌, ◌++◌, flat_map, refl}
 use Rattle.wire_spec.specs.Lists.{IsSubsequence}
 
--- a list stands behind others
+-- a list stands after others
 behind_others : {X : Type 0} (xs front ys : List X) → IsSubsequence xs ys → IsSubsequence xs (front ++ ys)
 behind_others [] front ys within = tt
 behind_others (x ∷ xs) [] ys within = within

@@ -12,7 +12,7 @@ use Rattle.loss_report.specs.Names.{is_name_byte}
 use Rattle.loss_report.specs.RuleText.{address_text, group_text, hex_digit, rule_text}
 use Rattle.loss_report.specs.Written.{IsPlain}
 
--- all bytes stand behind the comma in ASCII
+-- all bytes stand after the comma in ASCII
 abbrev pub IsAbove : List ℕ → Type 0
 IsAbove [] = Unit {0}
 IsAbove (b ∷ bs) = (44 < b) × IsAbove bs

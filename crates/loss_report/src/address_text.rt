@@ -19,7 +19,7 @@ fn digit_of(number: u8) -> u8
     }
 }
 
-/// Puts the two digits of a byte behind the text.
+/// Puts the two digits of a byte after the text.
 fn put_byte(text: &mut Vec<u8>, byte: u8) -> Result<(), OutOfMemory>
     ensures { OnOk result (text.new.items ≡ text.old.items ++ byte_text byte) }
 {
@@ -28,7 +28,7 @@ fn put_byte(text: &mut Vec<u8>, byte: u8) -> Result<(), OutOfMemory>
     Ok(())
 }
 
-/// Puts the four digits of a group behind the text.
+/// Puts the four digits of a group after the text.
 fn put_group(text: &mut Vec<u8>, address: &[u8; 16], group: usize) -> Result<(), OutOfMemory>
     requires { group < 8 }
     ensures { OnOk result (text.new.items ≡ text.old.items ++ group_text address.now group) }
@@ -37,7 +37,7 @@ fn put_group(text: &mut Vec<u8>, address: &[u8; 16], group: usize) -> Result<(),
     put_byte(text, address[2 * group + 1])
 }
 
-/// Puts a number in decimal behind the text.
+/// Puts a number in decimal after the text.
 fn put_decimal(text: &mut Vec<u8>, number: u8) -> Result<(), OutOfMemory>
     ensures { OnOk result (text.new.items ≡ text.old.items ++ decimal number) }
 {

@@ -15,7 +15,7 @@ use csv::Writer;
 use std::alloc::{AllocError as OutOfMemory, Global};
 use std::marker::Model;
 
-/// The lines of a report behind its head line; contracts see them as a list.
+/// The lines of a report after its head line; contracts see them as a list.
 #[derive(Drop)]
 pub struct Report {
     alloc: Global,
@@ -47,7 +47,7 @@ impl Report {
         }
     }
 
-    /// Puts the 13 lines of a service behind the others. Where memory is wanting the report stays as it was.
+    /// Puts the 13 lines of a service after the others. When out of memory the report stays as it was.
     pub fn add_service(&mut self, name: &str, counts: ServiceCounts) -> Result<(), OutOfMemory>
         requires { IsServiceName name.now }
         ensures written { OnOk result (self.new ≡ self.old ++ service_lines name.now counts) }
@@ -57,7 +57,7 @@ impl Report {
         self.add(Part::Service(ServicePart { name, counts }))
     }
 
-    /// Puts the two lines of the address table behind the others: its accepted sections, and the fault of the first one or 0.
+    /// Puts the two lines of the address table after the others: its accepted sections, and the fault of the first one or 0.
     pub fn add_table(&mut self, units: u64, refused: u8) -> Result<(), OutOfMemory>
         ensures written { OnOk result (self.new ≡ self.old ++ table_lines units refused) }
         ensures unchanged { OnErr result (self.new ≡ self.old) }
@@ -65,7 +65,7 @@ impl Report {
         self.add(Part::Table { units, refused })
     }
 
-    /// Puts the line of a rule of the table behind the others.
+    /// Puts the line of a rule of the table after the others.
     pub fn add_rule(&mut self, rule: &Rule, component_tag: u8) -> Result<(), OutOfMemory>
         ensures written { OnOk result (self.new ≡ self.old ++ rule_line rule.now component_tag ∷ []) }
         ensures unchanged { OnErr result (self.new ≡ self.old) }
@@ -76,7 +76,7 @@ impl Report {
         })
     }
 
-    /// Puts a part behind the others.
+    /// Puts a part after the others.
     fn add(&mut self, part: Part) -> Result<(), OutOfMemory>
         ensures written { OnOk result (self.new ≡ self.old ++ part_lines part) }
         ensures unchanged { OnErr result (self.new ≡ self.old) }

@@ -9,7 +9,7 @@ use Rattle.mpe_section.specs.declared.mpe.MpeFault.TheVariants as mpe
 use Rattle.mpe_section.specs.declared.fec.FecFault.{FecFault}
 use Rattle.mpe_section.specs.declared.fec.FecFault.TheVariants as fec
 
--- what the bytes behind the head are refused as
+-- what the bytes after the head are refused as
 abbrev pub datagram_fault : Option IpFault → Option MpeFault
 datagram_fault None = None
 datagram_fault (Some fault) = Some (mpe.Datagram fault)

@@ -1,4 +1,4 @@
-//! What both kinds of section have in their bodies: a head of nine bytes, and what stands behind it.
+//! What both kinds of section have in their bodies: a head of nine bytes, and what stands after it.
 //!
 //! Byte 0 of a body is byte 3 of its section. A body that is shorter than its head reads as if zeros followed it.
 
@@ -27,7 +27,7 @@ pub(crate) fn byte_at(body: &[u8], place: usize) -> u8
     if place < body.len() { body[place] } else { 0 }
 }
 
-/// The bytes behind the head.
+/// The bytes after the head.
 pub(crate) fn behind_head(body: &[u8]) -> &[u8]
     ensures behind { result.now ≡ drop 9 body.now }
     ensures within { length result.now ≤ length body.now }

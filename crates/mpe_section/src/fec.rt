@@ -94,7 +94,7 @@ pub fn read_fec<'a>(section: &SectionRef<'a>, rows: u16) -> Result<Fec<'a>, FecF
 
 /// Writes the MPE-FEC section of these fields to the front of `into`; answers its length.
 ///
-/// The column has 256, 512, 768 or 1,024 bytes, and the address is `number` times as many. What stands behind in `into` stays.
+/// The column has 256, 512, 768 or 1,024 bytes, and the address is `number` times as many. What stands after in `into` stays.
 pub fn write_fec(fec: &Fec<'_>, into: &mut [u8]) -> usize
     requires writable { IsWritableFec (fec_in fec.now) }
     requires room { length fec.now.column.now + 16 ≤ length into.old }

@@ -22,7 +22,7 @@ pub struct Mpe<'a> {
     pub mac: [u8; 6],
     /// real_time_parameters, which stand in the place of MAC_address_4 to _1.
     pub real_time: RealTime,
-    /// The datagram, without the stuffing behind it.
+    /// The datagram, without the stuffing after it.
     pub datagram: &'a [u8],
 }
 
@@ -51,7 +51,7 @@ const WRITTEN_FLAGS: u8 = 0xC1;
 
 /// Reads a datagram_section.
 ///
-/// `datagram` is lent out of the section, from its byte 12 on. Reserved bits and what stands behind the datagram are not tested.
+/// `datagram` is lent out of the section, from its byte 12 on. Reserved bits and what stands after the datagram are not tested.
 pub fn read_mpe<'a>(section: &SectionRef<'a>) -> Result<Mpe<'a>, MpeFault>
     ensures read { IfOk result (λ m. mpe_of (fields_in section.now) ≡ Some (mpe_in m)) }
     ensures only { OnErr result (mpe_of (fields_in section.now) ≡ None) }
@@ -103,7 +103,7 @@ fn mac_of(body: &[u8]) -> [u8; 6]
 /// Writes the datagram_section of these fields to the front of `into`; answers its length.
 ///
 /// With real_time_parameters these stand in the place of the first four bytes of `mac`. A datagram has at most 4,080 bytes.
-/// What stands behind in `into` stays.
+/// What stands after in `into` stays.
 pub fn write_mpe(
     mac: [u8; 6],
     real_time: Option<RealTime>,

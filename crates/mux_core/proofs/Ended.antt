@@ -158,7 +158,7 @@ last_one plan services slot old new of_service some left none s same =
 
 -- Records that are handed on in pieces.
 
--- of the records before a slot a front was appended, and these bytes behind it are held back
+-- of the records before a slot a front was appended, and these bytes after it are held back
 pub record AreHanded (plan : PlanFields) (services : List (List PacketFields)) (slot : ℕ) (old new : Option (List ℕ)) (back : List ℕ) : Type 0 where
   pub front : List ℕ
   pub appended : Appends old new front

@@ -1,4 +1,4 @@
--- Units one behind another in a buffer.
+-- Units one after another in a buffer.
 use Rattle.std.proofs.Common.{◌≡◌, ℕ, zero, suc, ◌+◌, ◌-◌, ◌≤◌, Bool, true, false, cond, eqb, List, [], ◌∷◌, ◌++◌, length, map, take, drop, get_or, refl, sym, ap, ◌∙◌, arith, append_assoc, append-nil, length-drop, Option, Some, None, subst}
 use Rattle.std.specs.Prelude.{All, slice_get}
 use Rattle.std.specs.Int.{w32, to_be_bytes}
@@ -59,7 +59,7 @@ end_next unit datagrams i datagram end size ends found ends_are end_is size_is =
     sums : (a b c d : ℕ) → a ≡ b → c ≡ d → a + c ≡ 0 + b + d
     sums a b c d e e2 = omega (arith, e, e2)
 
--- the buffer behind it
+-- the buffer after it
 pub put_back : (items new unit : List ℕ) (len end size : ℕ) → len ≡ length items → end + size ≤ length items → size ≡ length unit
     → new ≡ take end items ++ (unit ++ drop size (drop end items))
     → (take len (new ++ drop (length new) items) ≡ take end items ++ (unit ++ drop size (drop end items))) × (length (take len (new ++ drop (length new) items)) ≡ length items)

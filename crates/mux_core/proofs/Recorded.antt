@@ -1,4 +1,4 @@
--- A record is its stamp and its packet, and stands behind those that no sink has yet.
+-- A record is its stamp and its packet, and stands after those that no sink has yet.
 use Rattle.std.proofs.Common.{◌≡◌, ℕ, ◌+◌, ◌-◌, ◌≤◌, List, [], ◌++◌, length, take, drop, sym, ap, ap₂, ◌∙◌, arith, append_assoc, append-nil, length-drop}
 use Rattle.std.proofs.lemmas.List.{length-append, length-take-le, take_at, drop_at, take-append-drop, drop-drop, drop_all}
 use Rattle.std.proofs.Math.Seq.{take-length}
@@ -16,7 +16,7 @@ module _ (plan : PlanFields) (services : List (List PacketFields)) (slot : ℕ) 
   abbrev record_is : List ℕ
   record_is = record_of_slot plan services slot
 
-  -- the stamp was written, and then the packet behind it
+  -- the stamp was written, and then the packet after it
   pub record_written : (old mid rest new : List ℕ) (size : ℕ) → size ≡ length stamp → size ≤ 8 → mid ≡ stamp ++ drop size old → 196 ≤ length old
       → rest ≡ take (length mid - size) (drop size mid) → drop 188 new ≡ drop 188 rest → length new ≡ length rest → TakesSlot plan services slot serving (take 188 new)
       → WritesRecord plan services slot serving old (take size mid ++ (new ++ post_of size (length mid - size) mid)) (size + 188)
@@ -51,7 +51,7 @@ module _ (plan : PlanFields) (services : List (List PacketFields)) (slot : ℕ) 
           ∙ sym (append_assoc stamp (take 188 new) (drop (size + 188) old))
           ∙ ap (λ (t : List ℕ). (stamp ++ t) ++ drop (size + 188) old) took.bytes_are
 
-  -- it was written behind the others
+  -- it was written after the others
   pub record_added : (items rest new : List ℕ) (fill size : ℕ) (before : List ℕ) → take fill items ≡ before → fill ≤ length items
       → WritesRecord plan services slot serving rest new size → (all : List ℕ) → all ≡ take fill items ++ new
       → AddsRecord plan services slot serving before (take (fill + size) all)

@@ -1,4 +1,4 @@
--- Services by turns: which has its turn, and what it leaves.
+-- Services in rotation: which has its turn, and what it leaves.
 use Rattle.std.proofs.Common.{◌≡◌, ℕ, zero, suc, ◌+◌, ◌-◌, ◌*◌, ◌^◌, ◌<◌, ◌≤◌, Bool, true, false, cond, ltb, List, [], ◌∷◌, length, map, get_or, set, refl, sym, ap, ◌∙◌, arith, Option, Some, None, subst}
 use Rattle.std.specs.Prelude.{All, find, slice_index, slice_index_or, is_some, IsSome}
 use Rattle.std.specs.List.{range_with_len}

@@ -1,4 +1,4 @@
--- The services on their way, by turns.
+-- The services on their way, in rotation.
 use Rattle.std.specs.Prelude.{◌≡◌, ℕ, ◌+◌, ◌<◌, ◌≤◌, ◌^◌, Bool, true, List, [], ◌∷◌, length, drop, set, find, slice_get, slice_index, slice_index_or, nat_lt, Option, Some}
 use Rattle.ts_spec.specs.Packet.{PacketFields}
 use Rattle.stream_spec.specs.Slots.{Turns, asked}

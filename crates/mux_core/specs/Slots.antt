@@ -31,7 +31,7 @@ pub record WritesRecord (plan : PlanFields) (services : List (List PacketFields)
   pub after : AreAt services (turns_in plan services (slot + 1)) new
   pub of_service : is_early plan slot ≡ false → is_of_service (slot_in plan services slot) ≡ true
 
--- the record of a slot was added behind others
+-- the record of a slot was added after others
 pub record AddsRecord (plan : PlanFields) (services : List (List PacketFields)) (slot : ℕ) (new : Serving) (old bytes : List ℕ) : Type 0 where
   pub bytes_are : bytes ≡ old ++ record_of_slot plan services slot
   pub after : AreAt services (turns_in plan services (slot + 1)) new

@@ -1,4 +1,4 @@
--- The units of a service, one behind another in a buffer.
+-- The units of a service, one after another in a buffer.
 use Rattle.std.specs.Prelude.{◌≡◌, ℕ, ◌+◌, ◌≤◌, List, [], ◌∷◌, ◌++◌, length, map, All}
 use Rattle.wire_spec.specs.Datagram.{IsDatagram}
 use Rattle.wire_spec.specs.Lists.{joined}
@@ -13,7 +13,7 @@ unit_of (mpe pid) unicast datagram = section_of unicast datagram
 unit_of (fec pid rows parity window) unicast datagram = []
 unit_of (gse isi address) unicast datagram = []
 
--- the units of these datagrams, one behind another
+-- the units of these datagrams, one after another
 abbrev pub unit_bytes : KindFields → List ℕ → List (List ℕ) → List ℕ
 unit_bytes kind unicast datagrams = joined (map (unit_of kind unicast) datagrams)
 
@@ -25,7 +25,7 @@ pub record IsFor (kind : KindFields) (datagram : List ℕ) : Type 0 where
 abbrev pub AreFor : KindFields → List (List ℕ) → Type 0
 AreFor kind datagrams = All (IsFor kind) datagrams
 
--- where units end that stand one behind another from a place on
+-- where units end that stand one after another from a place on
 abbrev pub ends_from : ℕ → List (List ℕ) → List ℕ
 ends_from place [] = []
 ends_from place (unit ∷ units) = (place + length unit) ∷ ends_from (place + length unit) units

@@ -1,4 +1,4 @@
--- The units of a service that are due, one behind another in a buffer.
+-- The units of a service that are due, one after another in a buffer.
 use Rattle.std.specs.Prelude.{◌≡◌, ℕ, ◌+◌, ◌*◌, ◌≤◌, ◌<◌, ◌^◌, true, List, ◌++◌, length, map, take}
 use Rattle.unit_stream.specs.Packers.{PackerState, AreRising, IsOnWay}
 use Rattle.plan_spec.specs.Plan.{KindFields}
@@ -6,8 +6,8 @@ use Rattle.stream_law.specs.Words.{is_of_units}
 use Rattle.mux_core.specs.Units.{unit_of, unit_bytes, ends_from, AreFor}
 use Rattle.mux_core.specs.declared.window.Window.{Window}
 
--- the units of the first so many datagrams end with what the buffer has, behind what was forgotten; the longest unit has room
--- behind the bytes of a packet
+-- the units of the first so many datagrams end with what the buffer has, after what was forgotten; the longest unit has room
+-- after the bytes of a packet
 pub record IsWindow (kind : KindFields) (unicast : List ℕ) (datagrams : List (List ℕ)) (window : Window) : Type 0 where
   pub built : is_of_units kind ≡ true
   pub datagrams_are : AreFor kind datagrams

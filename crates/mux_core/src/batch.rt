@@ -65,7 +65,7 @@ impl Batch {
         Ok(Batch { buffer, fill: 0 })
     }
 
-    /// Writes the record of a slot behind the others.
+    /// Writes the record of a slot after the others.
     pub(crate) fn add(
         &mut self,
         plan: &Plan,

@@ -3,7 +3,7 @@
 use std::marker::Model;
 use unit_stream::{Packer, UnitForm, count_packets};
 
-/// Units that stand one behind another in a buffer, which may be longer.
+/// Units that stand one after another in a buffer, which may be longer.
 #[derive(Drop)]
 pub(crate) struct Units {
     pub(crate) bytes: Vec<u8>,

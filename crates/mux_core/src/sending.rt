@@ -33,7 +33,7 @@ pub struct Sent {
 pub enum MuxFault {
     /// The sink has failed.
     Sink,
-    /// Memory is wanting.
+    /// Out of memory.
     OutOfMemory,
 }
 
@@ -50,11 +50,11 @@ fn count_datagrams(lists: &Lists) -> u32
     count
 }
 
-/// Writes the stream of what was offered under the plan: the packets of its services by turns, and in each cycle of slots those
+/// Writes the stream of what was offered under the plan: the packets of its services in rotation, and in each cycle of slots those
 /// of the INT first.
 ///
 /// The services are of SNDUs and datagram_sections, and fewer than 2^32 records were offered.
-/// On an Err a prefix of the stream was written, and nothing where memory is wanting. Nothing is flushed.
+/// On an Err a prefix of the stream was written, and nothing when out of memory. Nothing is flushed.
 pub fn stream<K: Sink>(
     alloc: Global,
     plan: &Plan,

@@ -1,4 +1,4 @@
-//! The services by turns: one packet of the next of them that has packets left.
+//! The services in rotation: one packet of the next of them that has packets left.
 ghost use Rattle.std.specs.Prelude.{◌≡◌, ◌-◌, ◌≤◌, ◌^◌, All, map, length, find, IfOk};
 ghost use Rattle.std.specs.List.{range_with_len};
 ghost use Rattle.service_plan.specs.PlanView.{plan_fields};
@@ -14,7 +14,7 @@ use std::marker::Model;
 #[derive(Drop)]
 pub(crate) struct Services<'a> {
     lanes: Vec<Lane<'a>>,
-    /// The service behind the one served last.
+    /// The service after the one served last.
     first: usize,
 }
 

@@ -109,7 +109,7 @@ const A: [u8; 4] = [239, 1, 0, 1];
 
 const B: [u8; 4] = [239, 2, 0, 1];
 
-/// Sections that end at the last bytes of a packet, the longest section, one too long; two services by turns behind the INT;
+/// Sections that end at the last bytes of a packet, the longest section, one too long; two services in rotation after the INT;
 /// the INT in a second cycle; nothing that a service takes.
 #[test]
 fn streams_are_these_packets(rt: HostRuntime) -> Result<(), Fail> {
@@ -229,7 +229,7 @@ fn streams_are_these_packets(rt: HostRuntime) -> Result<(), Fail> {
     Ok(())
 }
 
-/// Two of the longest SNDUs, which do not stand in the buffer together: the second begins behind the last 20 bytes of the first.
+/// Two of the longest SNDUs, which do not stand in the buffer together: the second begins after the last 20 bytes of the first.
 #[test]
 fn the_longest_units_follow_one_another(rt: HostRuntime) -> Result<(), Fail> {
     let alloc = rt.alloc();

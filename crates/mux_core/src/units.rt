@@ -87,7 +87,7 @@ fn unit_size(service: &Service, datagram: &[u8]) -> usize
     }
 }
 
-/// Where the units end, one behind another, of datagrams that the service takes.
+/// Where the units end, one after another, of datagrams that the service takes.
 pub(crate) fn ends_of(
     alloc: Global,
     service: &Service,

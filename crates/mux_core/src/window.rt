@@ -1,4 +1,4 @@
-//! The units of a service, written one behind another into a small buffer when they are due.
+//! The units of a service, written one after another into a small buffer when they are due.
 ghost use Rattle.std.specs.Prelude.{◌≡◌, ◌+◌, ◌-◌, ◌≤◌, ◌<◌, true, false, length, take, drop, min, IfOk};
 ghost use Rattle.service_plan.specs.Parts.{kind_seen};
 ghost use Rattle.mux_core.specs.Units.{unit_bytes};
@@ -12,10 +12,10 @@ use std::alloc::{AllocError as OutOfMemory, Global};
 /// Bytes that a packet carries at most (ISO/IEC 13818-1 clause 2.4.3.2).
 const PAYLOAD: usize = 184;
 
-/// Bytes of the buffer, in which the longest unit, of 32,773 bytes, has room behind what a packet lacks.
+/// Bytes of the buffer, in which the longest unit, of 32,773 bytes, has room after what a packet lacks.
 const SIZE: usize = 32_773 + PAYLOAD;
 
-/// Some of the units of a service, one behind another: from bytes that are not out to the last unit that was written.
+/// Some of the units of a service, one after another: from bytes that are not out to the last unit that was written.
 #[derive(Drop)]
 pub(crate) struct Window {
     buffer: Vec<u8>,
@@ -103,7 +103,7 @@ impl Window {
         }
     }
 
-    /// Writes further units where the buffer lacks some of the next 184 bytes behind those that are out.
+    /// Writes further units where the buffer lacks some of the next 184 bytes after those that are out.
     pub(crate) fn reach(&mut self, service: &Service, datagrams: &DatagramList, at: usize)
         requires window { IsWindow (kind_seen service.now.kind) service.now.unicast datagrams.now self.old }
         requires at { (self.old.from ≤ at) × (at ≤ self.old.from + self.old.fill) }

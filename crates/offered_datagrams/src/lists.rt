@@ -31,7 +31,7 @@ impl Lists {
         Ok(Lists { lists })
     }
 
-    /// Copies a datagram behind those of its service. Where memory is wanting the lists stay as they were.
+    /// Copies a datagram after those of its service. When out of memory the lists stay as they were.
     pub(crate) fn push(&mut self, service: u32, datagram: &[u8]) -> Result<(), OutOfMemory>
         requires { service < length self.old }
         ensures written { OnOk result (self.new ≡ set self.old service (get_or self.old service [] ++ datagram.now ∷ [])) }

@@ -17,7 +17,7 @@ pid = 512
 rules = ["239.2.0.0/16"]
 "#;
 
-/// Sections for 239.1.0.0/16, and SNDUs for the whole of 239.0.0.0/8 behind them.
+/// Sections for 239.1.0.0/16, and SNDUs for the whole of 239.0.0.0/8 after them.
 const TWO: &[u8] = br#"
 [[service]]
 name = "lecture"

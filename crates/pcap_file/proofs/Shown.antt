@@ -10,7 +10,7 @@ use Rattle.pcap_file.proofs.FileHeads.{head_is_cut}
 use Rattle.pcap_file.proofs.Longest.{Tells-end}
 use Rattle.pcap_file.proofs.OneTold.{one_told}
 
--- what stands behind the records shows their fault, or none
+-- what stands after the records shows their fault, or none
 pub shown_behind : (reader : ReaderState) (front got : List ℕ) (captured : List (List ℕ)) (f : Option CaptureFault) → HasRead reader front captured
     → record_fault reader.least_first reader.records reader.bytes got ≡ f → (f ≡ None → got ≡ []) → Tells (front ++ got) captured f
 shown_behind reader front got captured f read shows ending =

@@ -75,7 +75,7 @@ pub record Takes (old new : InputTold) (bytes : List ℕ) : Type 0 where
   pub consumed : Consumes old.left new.left bytes
   pub counted : new.taken ≡ raised old.taken (length bytes)
 
--- the next record and what stands behind it are these bytes, and the record stays within the limits
+-- the next record and what stands after it are these bytes, and the record stays within the limits
 pub record IsNext (least_first : Bool) (records bytes : ℕ) (got taken behind : List ℕ) : Type 0 where
   pub head : List ℕ
   pub head_size : length head ≡ 16
@@ -147,7 +147,7 @@ pub record IsHeldBehind (bytes : List ℕ) : Type 0 where
   pub capture : IsCapture front records
   pub few : length held ≤ most_held
 
--- no more was read than a head, or than a reader of a capture holds behind it
+-- no more was read than a head, or than a reader of a capture holds after it
 abbrev pub IsReadAhead : List ℕ → Type 0
 IsReadAhead bytes = (length bytes ≤ 24) ⊎ IsHeldBehind bytes
 

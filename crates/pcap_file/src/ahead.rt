@@ -13,7 +13,7 @@ use std::alloc::{AllocError as OutOfMemory, Global};
 /// So there is room for 65,536 bytes at each read, and a source that buffers as many writes them straight into this buffer.
 const SIZE: usize = 16 + 262_144 + 65_536;
 
-/// Bytes that were read: those that were given, and behind them those that are held.
+/// Bytes that were read: those that were given, and after them those that are held.
 #[derive(Drop)]
 pub(crate) struct Ahead {
     buffer: Vec<u8>,
@@ -119,7 +119,7 @@ impl Ahead {
         self.from = 0;
     }
 
-    /// Reads once, into all that is free behind the held bytes, and answers how many bytes came.
+    /// Reads once, into all that is free after the held bytes, and answers how many bytes came.
     fn read<S: Source>(&mut self, source: &mut S) -> Result<usize, Failed>
         requires within { IsWithin self.old }
         requires room { self.old.to < length self.old.buffer.items }

@@ -43,7 +43,7 @@ impl Model for CaptureReader {
 impl CaptureReader {
     ghost use Rattle.pcap_file.specs.After.{EndsAs};
 
-    /// Reads the head of a capture, 24 bytes and none behind them, and takes memory for its longest record and 65,536 bytes.
+    /// Reads the head of a capture, 24 bytes and none after them, and takes memory for its longest record and 65,536 bytes.
     pub fn open<S: Source>(alloc: Global, source: &mut S) -> Result<CaptureReader, OpenFault>
         ensures read { Opens result (S.told source.old) (S.told source.new) }
         ensures opened { IfOk result (λ reader. (reader.is_open ≡ true) × (reader.held ≡ [])) }

@@ -22,7 +22,7 @@ const MOST_RECORDS: u32 = 4_194_304;
 /// Profile: the most bytes of all records.
 const MOST_BYTES: u32 = 268_435_456;
 
-/// The length that a record's head tells, where it stays within the limits. What follows the head may stand behind it.
+/// The length that a record's head tells, where it stays within the limits. What follows the head may stand after it.
 fn record_length(
     head: &[u8],
     least_first: bool,

@@ -24,7 +24,7 @@ const ETHERNET: [u8; 80] = [
     0, 0, 0, 0, 0, 0,
 ];
 
-/// How many records a capture tells, how many of them hold a datagram of 20 bytes, and the fault behind them.
+/// How many records a capture tells, how many of them hold a datagram of 20 bytes, and the fault after them.
 ///
 /// A read gives at most `chunk` bytes.
 fn told(

@@ -95,7 +95,7 @@ gse_keys = name_key ∷ kind_key ∷ required (codes "isi") (range 0 255) ∷ ad
 
 -- What is wrong with the tables.
 
--- kind comes first, mode behind it where the kind has frames, then the keys of this kind and mode
+-- kind comes first, mode after it where the kind has frames, then the keys of this kind and mode
 abbrev pub kind_text : Members → List ℕ
 kind_text service = text_or [] (codes "kind") service
 

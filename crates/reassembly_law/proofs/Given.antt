@@ -1,4 +1,4 @@
--- What is given behind a packet, with one packet more.
+-- What is given after a packet, with one packet more.
 use Rattle.std.proofs.Common.{◌≡◌, ℕ, Bool, true, false, cond, not, ◌&&◌, List, [], ◌∷◌, ◌++◌, take, drop, refl, ap, sym, ◌∙◌, append_assoc}
 use Rattle.ts_spec.specs.Packet.{PacketFields, continues, pointer, pointer_fits}
 use Rattle.ts_spec.specs.Received.{Arrival, packet_of}
@@ -16,7 +16,7 @@ not_true false e = refl
 pub given_whole : (q : PacketFields) (g : Given) → q.starts ≡ false → given_by q g ≡ with_payload q.payload g
 given_whole q g s = ap (λ (b : Bool). cond b (cond (pointer_fits q) (record { payloads = []; rest = take (pointer q) (drop 1 q.payload); is_ended = true }) (ended_by q)) (with_payload q.payload g)) s
 
--- with the start indicator nothing behind matters
+-- with the start indicator nothing after matters
 pub given_start : (q : PacketFields) (g h : Given) → q.starts ≡ true → given_by q g ≡ given_by q h
 given_start q g h s =
     ap (λ (b : Bool). cond b (cond (pointer_fits q) (record { payloads = []; rest = take (pointer q) (drop 1 q.payload); is_ended = true }) (ended_by q)) (with_payload q.payload g)) s
@@ -42,7 +42,7 @@ given_runs p (a ∷ xs) e =
     shape ∙ ap (with_payload (packet_of a).payload) behind ∙ with-with (packet_of a).payload (given_behind (packet_of a) xs).payloads nothing_given
     ∙ ap (λ (t : List ℕ). with_payload t nothing_given) (sym (ap (λ (g : Given). g.payloads) shape))
 
--- while nothing has ended the list, the packet is added behind what is given
+-- while nothing has ended the list, the packet is added after what is given
 pub given_more : (p : PacketFields) (xs : List Arrival) (q : Arrival) → runs_on p xs ≡ true
     → given_behind p (xs ++ q ∷ []) ≡ with_payload (given_behind p xs).payloads (given_behind (last_packet p xs) (q ∷ []))
 given_more p [] q e = refl
@@ -58,7 +58,7 @@ given_more p (a ∷ xs) q e =
     ∙ with-with (packet_of a).payload (given_behind (packet_of a) xs).payloads (given_behind (last_packet (packet_of a) xs) (q ∷ []))
     ∙ ap (λ (t : List ℕ). with_payload t (given_behind (last_packet (packet_of a) xs) (q ∷ []))) (sym (ap (λ (g : Given). g.payloads) shape))
 
--- once the list has ended a packet behind changes nothing
+-- once the list has ended a packet after changes nothing
 pub given_ended : (p : PacketFields) (xs : List Arrival) (q : Arrival) → runs_on p xs ≡ false → given_behind p (xs ++ q ∷ []) ≡ given_behind p xs
 given_ended p [] q e = absurd (cc)
 given_ended p (a ∷ xs) q e = by_link (continues p (packet_of a)) (packet_of a).starts refl e (given_ended (packet_of a) xs q)

@@ -90,7 +90,7 @@ module _ (form : UnitForm) (lawful : IsLawful form) where
       by_test true m2 = starts_good packet.payload (length packet.payload) (1 + pointer packet) (drop (1 + pointer packet) packet.payload) s refl m2
       by_test false m2 = absurd m2
 
-  -- bytes behind a start are no stuffing either
+  -- bytes after a start are no stuffing either
   pub stays_unit : (front behind : List ℕ) → form.start ≤ length front → (form.span front ≡ stuffing → ⊥) → form.span (front ++ behind) ≡ stuffing → ⊥
   stays_unit front behind enough no_it e = by_told (lawful.told (take form.start front) (drop form.start front))
     where

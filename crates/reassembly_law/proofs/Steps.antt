@@ -1,4 +1,4 @@
--- One packet more behind some packets.
+-- One packet more after some packets.
 use Rattle.std.proofs.Common.{◌≡◌, ◌⊎◌, inl, inr, ℕ, zero, suc, ◌+◌, ◌≤◌, Bool, true, false, cond, not, ◌&&◌, leb, ltb, List, [], ◌∷◌, ◌++◌, length, drop, flat_map, refl, ap, sym, ◌∙◌, subst, arith, length-append, append_assoc}
 use Rattle.std.proofs.lemmas.List.{append-nil, drop-drop}
 use Rattle.std.proofs.lemmas.Bool.{cases_Bool}
@@ -118,7 +118,7 @@ module _ (form : UnitForm) (lawful : IsLawful form) where
 
   -- The starts of one packet.
 
-  -- behind a start that leaves a unit under way there is no other
+  -- after a start that leaves a unit under way there is no other
   abbrev LastOnly : (ℕ → List Open) → List ℕ → Type 0
   LastOnly f [] = Unit {0}
   LastOnly f (s ∷ rest) = ((rest ≡ []) ⊎ (f s ≡ [])) × LastOnly f rest
@@ -192,7 +192,7 @@ module _ (form : UnitForm) (lawful : IsLawful form) where
 
   -- Packets.
 
-  -- while nothing has ended the list, the packets behind have no starts
+  -- while nothing has ended the list, the packets after have no starts
   quiet : (p : PacketFields) (xs : List Arrival) → runs_on p xs ≡ true → (events_of form xs ≡ []) × (open_units form xs ≡ [])
   quiet p [] e = (refl, refl)
   quiet p (a ∷ xs) e =
@@ -207,7 +207,7 @@ module _ (form : UnitForm) (lawful : IsLawful form) where
         ap (λ (t : List ℕ). flat_map (open_at form a xs) t ++ open_units form xs) starts ∙ later.1,
       )
 
-  -- what the packet more adds to one packet's events stands behind all events before
+  -- what the packet more adds to one packet's events stands after all events before
   regroup : (m f e p q : List Event) (r : List Event) → (r ≡ []) ⊎ (e ≡ []) → (m ++ (f ++ r)) ++ (e ++ (p ++ q)) ≡ ((m ++ f) ++ e) ++ ((r ++ p) ++ q)
   regroup m f e p q r (inl none) = subst (λ (t : List Event). (m ++ (f ++ t)) ++ (e ++ (p ++ q)) ≡ ((m ++ f) ++ e) ++ ((t ++ p) ++ q)) (sym none) (ap (λ (t : List Event). (m ++ t) ++ (e ++ (p ++ q))) (append-nil f) ∙ simp append_assoc)
   regroup m f e p q r (inr none) = subst (λ (t : List Event). (m ++ (f ++ r)) ++ (t ++ (p ++ q)) ≡ ((m ++ f) ++ t) ++ ((r ++ p) ++ q)) (sym none) (ap (λ (t : List Event). (m ++ (f ++ r)) ++ t) refl ∙ sym (ap (λ (t : List Event). t ++ ((r ++ p) ++ q)) (append-nil (m ++ f)) ∙ simp append_assoc) ∙ refl)

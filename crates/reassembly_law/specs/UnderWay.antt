@@ -1,4 +1,4 @@
--- The unit under way behind some packets, and what one packet more adds to their events.
+-- The unit under way after some packets, and what one packet more adds to their events.
 use Rattle.std.specs.Prelude.{◌≡◌, ℕ, ◌<◌, ◌≤◌, Bool, true, false, not, ◌&&◌, List, [], ◌∷◌, ◌++◌, length, nat_le, if◌then◌else◌, flat_map, map, Contains, ◌≢◌}
 use Rattle.ts_spec.specs.Form.{UnitForm, Span, more, stuffing, whole, bad}
 use Rattle.ts_spec.specs.Packet.{PacketFields, continues}
@@ -7,7 +7,7 @@ use Rattle.ts_spec.specs.Reassembly.{Given, with_payload, ended_by, given_by, by
 use Rattle.ts_spec.specs.Events.{Event, unit_event, bad_check_event, delimit_event, bad_length_event, event_by, packet_events, events_of}
 use Rattle.ts_spec.specs.Packetized.{no_packet}
 
--- nothing has ended the list behind the packet: each packet is continuous and without the start indicator
+-- nothing has ended the list after the packet: each packet is continuous and without the start indicator
 abbrev pub runs_on : PacketFields → List Arrival → Bool
 runs_on before [] = true
 runs_on before (arrival ∷ behind) =
@@ -36,7 +36,7 @@ open_at form arrival behind start =
     then unless_told form arrival.moment (bytes_from start (packet_of arrival) behind).payloads
     else []
 
--- the unit under way behind some packets: one or none
+-- the unit under way after some packets: one or none
 abbrev pub open_units : UnitForm → List Arrival → List Open
 open_units form [] = []
 open_units form (arrival ∷ behind) = flat_map (open_at form arrival behind) (unit_starts form (packet_of arrival)) ++ open_units form behind
@@ -59,17 +59,17 @@ abbrev pub resumed : UnitForm → Bool → PacketFields → Open → List Event
 resumed form is_continuous packet unit =
     event_by form unit.moment (outcome_of form (with_payload unit.bytes (given_next is_continuous packet)))
 
--- the unit where it is still under way behind the next packet
+-- the unit where it is still under way after the next packet
 abbrev pub still_open : UnitForm → Bool → PacketFields → Open → List Open
 still_open form is_continuous packet unit =
     if is_continuous && (not packet.starts && true) then unless_told form unit.moment (unit.bytes ++ packet.payload) else []
 
--- the events of one packet more, behind a unit under way or none
+-- the events of one packet more, after a unit under way or none
 abbrev pub new_events : UnitForm → Bool → List Open → Arrival → List Event
 new_events form is_continuous under_way next =
     flat_map (resumed form is_continuous (packet_of next)) under_way ++ packet_events form next []
 
--- the unit under way behind one packet more
+-- the unit under way after one packet more
 abbrev pub new_under_way : UnitForm → Bool → List Open → Arrival → List Open
 new_under_way form is_continuous under_way next =
     flat_map (still_open form is_continuous (packet_of next)) under_way ++ flat_map (open_at form next []) (unit_starts form (packet_of next))
@@ -81,7 +81,7 @@ unit_of_event bad_check_event = []
 unit_of_event delimit_event = []
 unit_of_event bad_length_event = []
 
--- reassembly packet by packet: the events of one packet more, and the unit under way behind it, follow from
+-- reassembly packet by packet: the events of one packet more, and the unit under way after it, follow from
 -- the unit under way before it
 pub record OnePacketMore (form : UnitForm) (packets : List Arrival) (next : Arrival) : Type 0 where
   pub events : events_of form (packets ++ next ∷ []) ≡ events_of form packets

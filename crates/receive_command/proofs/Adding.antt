@@ -35,7 +35,7 @@ adds_grown a b c at count name text bytes named many place added put =
     adds_changed a b c at count (empty_file (file_name name)) (λ file. grown file bytes) many place
     (subst (λ (n : List ℕ). AddsFile a b (empty_file n)) named added) put
 
--- Files behind files.
+-- Files after files.
 
 -- no file was added
 pub adds_none : (a : Option (List File)) → AddsFiles a a []

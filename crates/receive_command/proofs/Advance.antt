@@ -32,7 +32,7 @@ joined-push : (xs : List (List ℕ)) (x : List ℕ) → joined (xs ++ x ∷ []) 
 joined-push [] x = append-nil x
 joined-push (y ∷ ys) x = ap (λ t. y ++ t) (joined-push ys x) ∙ sym (append_assoc y (joined ys) x)
 
--- bytes that were read, and more bytes behind them
+-- bytes that were read, and more bytes after them
 consumes_then : (a b c : Option (List ℕ)) (p q : List ℕ) → Consumes a b p → Consumes b c q → Consumes a c (p ++ q)
 consumes_then None b c p q h k = tt
 consumes_then (Some xs) None c p q h k = absurd h
@@ -181,7 +181,7 @@ few_taken form before taken now_taken mid now pieces reader now_reader same stan
   end.takes.rose ∙ ap (λ (m : ℕ). raised m (length end.bytes)) so_far ∙ raised-raised before (record_size form * length pieces) (length end.bytes),
 )
 
--- and as many bytes were taken as these records have, with those behind the last
+-- and as many bytes were taken as these records have, with those after the last
 pub front_taken : (form : RecordingForm) (before taken now_taken behind : ℕ) (pieces : List (List ℕ)) (reader : ReaderState)
     → reader.form ≡ form → length pieces < 2 ^ 32 → taken ≡ raised before (record_size form * length pieces)
     → behind < record_size reader.form → now_taken ≡ raised taken behind → (n : ℕ) × (n < record_size form * 2 ^ 32) × (now_taken ≡ raised before n)

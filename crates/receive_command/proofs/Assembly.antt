@@ -72,7 +72,7 @@ files_same k x y (service ∷ services) same = ap₂ (λ f fs. f ∷ fs) (ap (fi
 from_none : (k : ℕ) → k ≡ 0 + k
 from_none k = omega arith
 
--- The heads, and behind each a text that grew.
+-- The heads, and after each a text that grew.
 
 heads_grown : (services : List ServiceFields) (olds heads news : List File) (first : ℕ) (text : ℕ → List ℕ) → length olds ≡ first
     → heads ≡ olds ++ map (file_with false head_of) services → GrowEach heads news text → ((at : ℕ) → at < first → text at ≡ [])
@@ -105,7 +105,7 @@ added_grown services (Some olds) (Some heads) (Some news) first text own size ad
     heads_grown services olds heads news first text size added grew none
     ∙ ap (λ (fs : List File). olds ++ fs) (files_same 0 (λ k. capture_head ++ text (first + k)) (λ k. capture_head ++ own k) services (λ k. ap (λ (t : List ℕ). capture_head ++ t) (same k)))
 
--- the records of pairs, and a text behind them
+-- the records of pairs, and a text after them
 pub pairs_grown : (services : List ServiceFields) (pairs : List (ℕ × List ℕ)) (a b c : Option (List File)) (first : ℕ) → IfSome a (λ told. length told ≡ first)
     → AddsCaptures false head_of services a b → Grow b c (records_at first pairs) → AddsPairs pairs services a c
 pairs_grown services pairs a b c first size added grew =

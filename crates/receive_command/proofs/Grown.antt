@@ -80,7 +80,7 @@ grow_one None b first k text there changed = tt
 grow_one (Some a) None first k text there changed = absurd changed
 grow_one (Some a) (Some b) first k text there changed = one_each a b first k text there changed
 
--- the records of pairs, and one record behind them
+-- the records of pairs, and one record after them
 pub records-push : (first : ℕ) (pairs : List (ℕ × List ℕ)) (k : ℕ) (d : List ℕ) (at : ℕ)
     → records_at first pairs at ++ text_in first k (capture_record d) at ≡ records_at first (pairs ++ (k, d) ∷ []) at
 records-push first pairs k d at =
@@ -96,7 +96,7 @@ records_and-append first service text ps qs at =
     sym (append_assoc (records_at first ps at) (records_at first qs at) (text_in first service text at))
     ∙ ap (λ (t : List ℕ). t ++ text_in first service text at) (records-append first ps qs at)
 
--- The text behind the records is the one that the file ends with.
+-- The text after the records is the one that the file ends with.
 
 same_suffix : (x y s t : List ℕ) → x ++ s ≡ y ++ t → length s ≡ length t → s ≡ t
 same_suffix x y s t e size =

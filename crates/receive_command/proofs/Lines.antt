@@ -28,7 +28,7 @@ pub if_ok : {T E : Type 0} {P Q : T → Type 0} (r : Result T E) → ((x : T) �
 if_ok (Ok x) f h = f x h
 if_ok (Err e) f h = tt
 
--- no rules behind the lines of a table
+-- no rules after the lines of a table
 no_rules : (units number told : ℕ) (old new : List Line) → number ≡ told → new ≡ old ++ table_lines units number → new ≡ old ++ (table_lines units told ++ [])
 no_rules units number told old new is added =
     added ∙ ap (λ n. old ++ table_lines units n) is ∙ ap (λ t. old ++ t) (sym (append-nil (table_lines units told)))

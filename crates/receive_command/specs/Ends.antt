@@ -20,13 +20,13 @@ pub record EndsWhole (plan : PlanFields) (left now : Option (List ℕ)) (old new
   pub at_end : IsAtEnd now
   pub files : AddsCaptures true (capture_of (records_in plan pieces)) plan.services old new
 
--- the same of a receiver that was given all records, and the number of bytes behind the last
+-- the same of a receiver that was given all records, and the number of bytes after the last
 pub record WritesWhole (plan : PlanFields) (receiver : ReceiverState) (left now : Option (List ℕ)) (old new : Option (List File)) (tail : ℕ) : Type 0 where
   pub ends : EndsWhole plan left now old new
   pub tail_is : tail ≡ length ends.tail
   pub received : HasReceived plan (records_in plan ends.pieces) receiver
 
--- the input could not be read on: fewer records than the most were read, and less than one behind them; each file has what these
+-- the input could not be read on: fewer records than the most were read, and less than one after them; each file has what these
 -- records give, and nothing is flushed
 pub record EndsFront (plan : PlanFields) (left now : Option (List ℕ)) (old new : Option (List File)) : Type 0 where
   pub pieces : List (List ℕ)
@@ -35,7 +35,7 @@ pub record EndsFront (plan : PlanFields) (left now : Option (List ℕ)) (old new
   pub fewer : length pieces < most_records
   pub files : AddsPairs (delivered_pairs plan (records_in plan pieces)) plan.services old new
 
--- the most records were read, and nothing behind them; each file has what these records give, and nothing is flushed
+-- the most records were read, and nothing after them; each file has what these records give, and nothing is flushed
 pub record EndsAtLimit (plan : PlanFields) (left now : Option (List ℕ)) (old new : Option (List File)) : Type 0 where
   pub pieces : List (List ℕ)
   pub read : HasRead plan.recording left now pieces []
@@ -81,7 +81,7 @@ pub data EndsInFiles (plan : PlanFields) (left now : Option (List ℕ)) (old new
   in_record : StopsInRecord plan left now old new → EndsInFiles plan left now old new
   in_flush : StopsInFlush plan left now old new → EndsInFiles plan left now old new
 
--- an output grew by the report of the records, with so many bytes behind them
+-- an output grew by the report of the records, with so many bytes after them
 pub record Reports (plan : PlanFields) (records : List Record) (tail : ℕ) (old new : Option (List ℕ)) : Type 0 where
   pub text : List ℕ
   pub report : IsReport plan records tail text

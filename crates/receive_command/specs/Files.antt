@@ -27,7 +27,7 @@ file_with is_flushed text service = record {
   flushed = if is_flushed then length (text service) else 0;
 }
 
--- these files stand behind those that were there
+-- these files stand after those that were there
 abbrev pub AddsFiles : Option (List File) → Option (List File) → List File → Type 0
 AddsFiles None new files = ⊤
 AddsFiles (Some old) None files = ⊥
@@ -69,7 +69,7 @@ file_of name bytes = record { name = file_name name; bytes = bytes; flushed = 0 
 abbrev pub AddsPart : List ℕ → Option (List File) → Option (List File) → Type 0
 AddsPart name old new = Stays old new ⊎ ((n : ℕ) × (n < length capture_head) × AddsFile old new (file_of name (take n capture_head)))
 
--- the files of the first services, so many, with their heads, and behind them no file or that of the next service with less than its head
+-- the files of the first services, so many, with their heads, and after them no file or that of the next service with less than its head
 pub record AddsHeadsPart (services : List ServiceFields) (count : ℕ) (old new : Option (List File)) : Type 0 where
   pub service : ServiceFields
   pub next : slice_get services count ≡ Some service
@@ -85,7 +85,7 @@ files_from k text (service ∷ services) = file_of service.name (text k) ∷ fil
 abbrev pub capture_of_pairs : List (ℕ × List ℕ) → ℕ → List ℕ
 capture_of_pairs pairs k = capture_head ++ records_at 0 pairs k
 
--- and behind it, in the file of one service alone, a text
+-- and after it, in the file of one service alone, a text
 abbrev pub capture_and : ℕ → List ℕ → List (ℕ × List ℕ) → ℕ → List ℕ
 capture_and service text pairs k = capture_head ++ records_and 0 service text pairs k
 
@@ -93,7 +93,7 @@ capture_and service text pairs k = capture_head ++ records_and 0 service text pa
 abbrev pub AddsPairs : List (ℕ × List ℕ) → List ServiceFields → Option (List File) → Option (List File) → Type 0
 AddsPairs pairs services old new = AddsFiles old new (files_from 0 (capture_of_pairs pairs) services)
 
--- the same, and in the file of one service a text behind them
+-- the same, and in the file of one service a text after them
 abbrev pub AddsPairsAnd : ℕ → List ℕ → List (ℕ × List ℕ) → List ServiceFields → Option (List File) → Option (List File) → Type 0
 AddsPairsAnd service text pairs services old new = AddsFiles old new (files_from 0 (capture_and service text pairs) services)
 

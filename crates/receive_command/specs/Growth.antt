@@ -26,7 +26,7 @@ record_at first at pair = text_in first pair.0 (capture_record pair.1) at
 abbrev pub records_at : ℕ → List (ℕ × List ℕ) → ℕ → List ℕ
 records_at first pairs at = flat_map (record_at first at) pairs
 
--- the same, and behind them a text in the file of one service
+-- the same, and after them a text in the file of one service
 abbrev pub records_and : ℕ → ℕ → List ℕ → List (ℕ × List ℕ) → ℕ → List ℕ
 records_and first service text pairs at = records_at first pairs at ++ text_in first service text at
 

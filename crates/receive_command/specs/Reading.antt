@@ -14,20 +14,20 @@ use Rattle.receive_command.specs.Growth.{Grow, records_at, records_and}
 abbrev pub most_records : ℕ
 most_records = 2 ^ 32
 
--- what an input held begins with these records and the bytes behind them, fewer than a record has, and they were read
+-- what an input held begins with these records and the bytes after them, fewer than a record has, and they were read
 pub record HasRead (form : RecordingForm) (left now : Option (List ℕ)) (pieces : List (List ℕ)) (behind : List ℕ) : Type 0 where
   pub each : All (λ piece. length piece ≡ record_size form) pieces
   pub short : length behind < record_size form
   pub consumed : Consumes left now (joined pieces ++ behind)
 
--- the records of these pieces, and what they put behind the file at a place, where service 0 has the first
+-- the records of these pieces, and what they put after the file at a place, where service 0 has the first
 abbrev pub records_in : PlanFields → List (List ℕ) → List Record
 records_in plan pieces = records_of plan.recording pieces
 
 abbrev pub text_at : PlanFields → ℕ → List (List ℕ) → ℕ → List ℕ
 text_at plan first pieces at = records_at first (delivered_pairs plan (records_in plan pieces)) at
 
--- the input was read to its end, with this many bytes behind the last record; the files grew by all that it delivers
+-- the input was read to its end, with this many bytes after the last record; the files grew by all that it delivers
 pub record ReadsWhole (plan : PlanFields) (receiver : ReceiverState) (left now : Option (List ℕ)) (old new : Option (List File)) (first tail : ℕ) : Type 0 where
   pub pieces : List (List ℕ)
   pub behind : List ℕ
@@ -46,7 +46,7 @@ pub record ReadsFront (plan : PlanFields) (left now : Option (List ℕ)) (old ne
   pub fewer : length pieces < most_records
   pub files : Grow old new (text_at plan first pieces)
 
--- the most records were read, and nothing behind them; the files grew by what these give
+-- the most records were read, and nothing after them; the files grew by what these give
 pub record ReadsToLimit (plan : PlanFields) (left now : Option (List ℕ)) (old new : Option (List File)) (first : ℕ) : Type 0 where
   pub pieces : List (List ℕ)
   pub read : HasRead plan.recording left now pieces []

@@ -14,7 +14,7 @@ use Rattle.loss_report.specs.Lines.{Line, report_text}
 use Rattle.loss_report.specs.RuleText.{rule_line}
 use Rattle.loss_report.specs.declared.counts.StreamCounts.{StreamCounts}
 
--- the counts of a recording with bytes behind its last record
+-- the counts of a recording with bytes after its last record
 abbrev pub stream_with : StreamNumbers → ℕ → StreamCounts
 stream_with numbers tail = record {
   records = numbers.records;
@@ -73,7 +73,7 @@ report_lines plan records tail reading =
     stream_lines (stream_with (stream_numbers plan records) tail)
     ++ (flat_map (lines_of_service records) plan.services ++ table_part plan.table (table_units plan records) reading)
 
--- the text is the report of the records, with bytes behind the last
+-- the text is the report of the records, with bytes after the last
 pub record IsReport (plan : PlanFields) (records : List Record) (tail : ℕ) (text : List ℕ) : Type 0 where
   pub reading : Option Reading
   pub reads : IsReadingOf (table_section plan records) reading

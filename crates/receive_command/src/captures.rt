@@ -20,7 +20,7 @@ use std::alloc::Global;
 /// How the captures of a recording ended.
 #[derive(Clone, Copy, Debug, PartialEq, Eq)]
 pub(crate) enum CapturesEnd {
-    /// All are written and flushed; this many bytes stood behind the last record.
+    /// All are written and flushed; this many bytes stood after the last record.
     Whole(u32),
     /// The input could not be read.
     SourceFault,
@@ -28,7 +28,7 @@ pub(crate) enum CapturesEnd {
     RackFault,
     /// 2^32 records were read.
     TooLong,
-    /// Memory was wanting for a file.
+    /// Out of memory for a file.
     OutOfMemory,
 }
 

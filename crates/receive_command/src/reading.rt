@@ -15,7 +15,7 @@ use ts_record::{Record, RecordReader};
 /// How the reading of a recording ended.
 #[derive(Clone, Copy, Debug, PartialEq, Eq)]
 pub(crate) enum Ending {
-    /// The input has ended, with this many bytes behind the last record.
+    /// The input has ended, with this many bytes after the last record.
     Whole(u32),
     /// The input could not be read.
     SourceFault,

@@ -33,13 +33,13 @@ pub enum ReceiveEnd {
     RackFault,
     /// The recording has 2^32 records or more.
     TooLong,
-    /// Memory was wanting: before the first record, or for the report.
+    /// Out of memory: before the first record, or for the report.
     OutOfMemory,
 }
 
 /// Receives a recording under a plan: a capture for each service, `NAME.pcap` in the order of the plan, and the report.
 ///
-/// The input is read to its end. In front of the files nothing is read; behind the last record the files are flushed, and then
+/// The input is read to its end. In front of the files nothing is read; after the last record the files are flushed, and then
 /// the report is written.
 pub fn receive<I: Source, O: Sink, R: Rack>(
     alloc: Global,

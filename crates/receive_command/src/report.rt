@@ -16,7 +16,7 @@ use loss_report::Report;
 use service_plan::Plan;
 use std::alloc::Global;
 
-/// The text of the report of what a receiver was given, with this many bytes behind the last record.
+/// The text of the report of what a receiver was given, with this many bytes after the last record.
 pub(crate) fn report_of(
     alloc: Global,
     plan: &Plan,

@@ -69,7 +69,7 @@ ule,datagrams,0
 ";
 
 /// The report of both services, one of them with a duplicate; a packet of another PID, a wrong first byte, the INT, and 187
-/// bytes behind the last record.
+/// bytes after the last record.
 const WHOLE: &[u8] = b"scope,name,value
 stream,records,6
 stream,tail_bytes,187
@@ -157,7 +157,7 @@ fn plan_of(alloc: Global) -> Result<Plan, Fail>
     }
 }
 
-/// What a reception has left behind.
+/// What a reception has left after.
 #[derive(Drop)]
 struct Ended {
     end: ReceiveEnd,
@@ -242,7 +242,7 @@ fn each_failing_call_ends_the_reception(rt: HostRuntime) -> Result<(), Fail> {
             assert_eq!(rt; ended.rack.flushed(1), 60);
         }
     }
-    // two reads a record; behind the second record both datagrams are written
+    // two reads a record; after the second record both datagrams are written
     for (call, lengths) in [
         (0, [24, 24]),
         (1, [24, 24]),

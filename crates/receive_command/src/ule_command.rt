@@ -24,13 +24,13 @@ pub enum UleEnd {
     RackFault,
     /// The recording has 2^32 records or more.
     TooLong,
-    /// Memory was wanting, before the first record.
+    /// Out of memory, before the first record.
     OutOfMemory,
 }
 
 /// Receives the SNDUs of one PID of a plain recording, whatever their addresses, into the capture `ule.pcap`.
 ///
-/// All memory is taken before the first record is read; where it is wanting, nothing was read and no file was added.
+/// All memory is taken before the first record is read; where it runs out, nothing was read and no file was added.
 pub fn ule<I: Source, R: Rack>(alloc: Global, pid: u16, input: &mut I, rack: &mut R) -> UleEnd
     requires { pid ≤ 8190 }
     ensures done { result ≡ UleEnd.Done → EndsWhole (plan_of_pid pid) (I.told input.old).left (I.told input.new).left (R.told rack.old).files (R.told rack.new).files }

@@ -27,7 +27,7 @@ pub units_on_pid : (service : ServiceFields) (pid : ℕ) (records : List Record)
     → units_of service records ≡ units_on (form_of_kind service.kind) (Some pid) records
 units_on_pid service pid records on = ap (λ (p : Option ℕ). units_on (form_of_kind service.kind) p records) on
 
--- a list with others behind it
+-- a list with others after it
 abbrev pub IsFront : {X : Type 0} → List X → List X → Type 0
 IsFront {X} front whole = (added : List X) × (whole ≡ front ++ added)
 

@@ -16,7 +16,7 @@ use Rattle.reception_law.proofs.Fronts.{delivered_more}
 
 -- Record by record.
 
--- what a record gives does not depend on the records behind it
+-- what a record gives does not depend on the records after it
 given_front : (service : ServiceFields) (records : List Record) (r : Record) (place : ℕ) → place < length records
     → given_by_record service (records ++ r ∷ []) place ≡ given_by_record service records place
 given_front service records r place known =

@@ -10,12 +10,12 @@ use Rattle.reception_spec.specs.Numbers.{units_of}
 abbrev pub delivered_datagrams : ServiceFields → List Record → List (List ℕ)
 delivered_datagrams service records = flat_map (delivered_by_unit service) (units_of service records)
 
--- the datagrams that the record at a place gives: those of the records up to it, behind those of the records before it
+-- the datagrams that the record at a place gives: those of the records up to it, after those of the records before it
 abbrev pub given_by_record : ServiceFields → List Record → ℕ → List (List ℕ)
 given_by_record service records place =
     drop (length (delivered_datagrams service (take place records))) (delivered_datagrams service (take (place + 1) records))
 
--- pairs of service and datagram, service k and the services behind it
+-- pairs of service and datagram, service k and the services after it
 abbrev pub pairs_from : ℕ → List ServiceFields → List Record → ℕ → List (ℕ × List ℕ)
 pairs_from k [] records place = []
 pairs_from k (service ∷ services) records place =

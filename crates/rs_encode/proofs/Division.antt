@@ -41,7 +41,7 @@ value_sum z f (x ∷ xs) (u ∷ us) (v ∷ vs) eu ev h =
     ∙ xor_swap (field_product f (field_product u zn)) (field_product v zn) (field_product f (row_value z us)) (row_value z vs)
     ∙ ap₂ (λ s t. bit_xor s t) (sym (product_sum_right f (field_product u zn) (row_value z us)) ∙ ap (λ t. field_product f t) (sym ru)) (sym rv)
 
--- a byte of a row with a 0 behind it
+-- a byte of a row with a 0 after it
 get_or_end : (t : List ℕ) (k : ℕ) → get_or (t ++ 0 ∷ []) k 0 ≡ get_or t k 0
 get_or_end [] zero = refl
 get_or_end [] (suc k) = refl

@@ -18,7 +18,7 @@ put_mid-within a k xs ys j le h =
     get_or-append_right (take a xs) (ys ++ post_of a k xs) a (a + j) 0 l (omega arith) ∙ ap (λ i. get_or (ys ++ post_of a k xs) i 0) e
     ∙ get_or_append_left ys (post_of a k xs) 0 j h
 
--- behind it
+-- after it
 pub put_mid-behind : (a k : ℕ) (xs ys : List ℕ) (i : ℕ) → a + k ≤ length xs → length ys ≡ k → a + k ≤ i → get_or (put_mid a k xs ys) i 0 ≡ get_or xs i 0
 put_mid-behind a k xs ys i le ly h =
     let l : length (take a xs) ≡ a = omega (arith, length-take a xs) in

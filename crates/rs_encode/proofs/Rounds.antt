@@ -18,7 +18,7 @@ pub record IsAdded (rows from count : ℕ) (generator factors old new : List ℕ
   pub each : (k r : ℕ) → k < count → r < rows
       → get_or new (k * rows + r) 0 ≡ bit_xor (get_or old (k * rows + r) 0) (field_product (get_or generator (from + k) 0) (get_or factors r 0))
 
--- the three parts of a table, before and behind a step: factors is what the middle one holds in between
+-- the three parts of a table, before and after a step: factors is what the middle one holds in between
 pub record IsStep (first rows : ℕ) (generator column b f e factors b' f' e' : List ℕ) : Type 0 where
   pub first_fits : first < 64
   pub long_b : length b ≡ first * rows
@@ -59,7 +59,7 @@ step_is first rows generator column b f e factors b' f' e' is r low =
     let one : field_product 1 byte ≡ byte = product_one_left byte (is.small r) in
     let factor_is : get_or factors r 0 ≡ factor =
     is.factor r low ∙ ap₂ (λ x y. bit_xor x y) (sym front) one ∙ xor_comm (get_or state 0 0) byte in
-    -- a column behind the factors
+    -- a column after the factors
     let after : (k : ℕ) → k < 63 - first → get_or next k 0 ≡ bit_xor (field_product factor (get_or generator k 0)) (get_or state (k + 1) 0) =
     λ k h.
     let j1 : ((first + 1) % 64 + k) % 64 ≡ first + 1 + k = omega arith in

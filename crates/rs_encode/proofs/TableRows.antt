@@ -22,7 +22,7 @@ table_row_is columns rows table r row long each =
 pub place_below : (n rows k r : ℕ) → k < n → r < rows → k * rows + r < n * rows
 place_below n rows k r h low = grind arith
 
--- the place of a byte behind n columns
+-- the place of a byte after n columns
 place_moved : (n j k rows r : ℕ) → n + j ≡ k → n * rows + (j * rows + r) ≡ k * rows + r
 place_moved n j k rows r e =
     let f : (n + j) * rows ≡ n * rows + j * rows = add-mul n j rows in

@@ -3,7 +3,7 @@ use Rattle.std.specs.Prelude.{ℕ, List, ◌≡◌, ◌<◌, ◌+◌, length, sl
 use Rattle.wire_spec.specs.Bytes.{AreBytes}
 use Rattle.fec_spec.specs.Field.{field_sum, field_product}
 
--- the remainder with a byte more: each byte is the one that stood behind it, plus the generator's coefficient times the sum of the new byte and the first
+-- the remainder with a byte more: each byte is the one that stood after it, plus the generator's coefficient times the sum of the new byte and the first
 pub record IsNext (generator state : List ℕ) (byte : ℕ) (next : List ℕ) : Type 0 where
   pub long : length next ≡ 64
   pub bytes : AreBytes next

@@ -16,7 +16,7 @@ rows_of columns = columns.rows
 abbrev pub pushed_of : Columns → ℕ
 pushed_of columns = columns.pushed
 
--- the parity columns, one behind another
+-- the parity columns, one after another
 abbrev pub parity_of : Columns → List ℕ
 parity_of columns = columns.parity.now
 
@@ -24,7 +24,7 @@ parity_of columns = columns.parity.now
 abbrev pub buffer_of : Columns → GName
 buffer_of columns = columns.parity.ghost_name
 
--- the columns pushed are these, one behind another, and each row of them followed by its parity is zero at the powers 0 to 63 of 2
+-- the columns pushed are these, one after another, and each row of them followed by its parity is zero at the powers 0 to 63 of 2
 pub record Stands (columns : Columns) (given : List ℕ) : Type 0 where
   pub long : length given ≡ pushed_of columns * rows_of columns
   pub bytes : AreBytes given

@@ -5,7 +5,7 @@ ghost use Rattle.fec_spec.specs.Table.{table_row};
 
 use crate::Columns;
 
-/// The parity table of a frame whose data table is `table`, in a buffer that may be used again behind it.
+/// The parity table of a frame whose data table is `table`, in a buffer that may be used again after it.
 pub(crate) fn encode_frame<'a>(rows: usize, table: &[u8], buffer: &'a mut [u8]) -> &'a [u8]
     requires given { length table.now ≡ 191 * rows }
     requires room { length buffer.old ≡ 64 * rows }

@@ -13,7 +13,7 @@ use gf256::{Gf, horner_step, mul_add};
 pub struct Columns<'a> {
     rows: usize,
     pushed: usize,
-    /// The remainders. Their first byte stands in column `pushed + 1`, round, so that no column is ever moved, and behind 191
+    /// The remainders. Their first byte stands in column `pushed + 1`, round, so that no column is ever moved, and after 191
     /// columns it stands in column 0.
     parity: &'a mut [u8],
     ghost room: { length parity.now ≡ 64 * rows },
@@ -57,7 +57,7 @@ impl<'a> Columns<'a> {
         self.pushed += 1;
     }
 
-    /// The 64 parity columns, one behind another: behind the data columns they complete each row.
+    /// The 64 parity columns, one after another: after the data columns they complete each row.
     pub fn finish(self) -> &'a [u8]
         requires { pushed_of self ≡ 191 }
         ensures written { (given : List ℕ) → Stands self.entry given → (r : ℕ) → r < rows_of self.entry

@@ -31,7 +31,7 @@ fn next_state(generator: &[u8; PARITY], state: &[u8; PARITY], byte: u8) -> [u8; 
     next
 }
 
-/// The byte behind a place, or 0 behind the last.
+/// The byte after a place, or 0 after the last.
 fn byte_behind(state: &[u8; PARITY], place: usize) -> u8
     requires { place < 64 }
     ensures { result ≡ slice_index state.now (place + 1) }

@@ -125,7 +125,7 @@ later_changed rows from to column k f old before after part order within room wh
     ap (λ n. get_or new n 0) q ∙ right (i - column * rows) ∙ mid_above from k after part (i - column * rows) long (omega arith) (omega arith)
     ∙ sym (ap (λ n. get_or old n 0) q ∙ old_right (i - column * rows)))
 
--- a part of the front of a buffer that was split behind the column
+-- a part of the front of a buffer that was split after the column
 pub earlier_changed : (rows from to column start k : ℕ) (f : ℕ → ℕ) (old before after part : List ℕ) → from ≤ to → to ≤ rows → (column + 1) * rows ≤ length before
     → old ≡ before ++ after → start ≡ column * rows + from → k ≡ to - from → length part ≡ k
     → ((i : ℕ) → i < to - from → get_or part i 0 ≡ f (from + i))

@@ -38,7 +38,7 @@ among_drop xs at k lt le =
     ap (λ x. is_among x (drop k xs)) (sym (get_or-drop k xs (at - k) 0 ∙ ap (λ n. get_or xs n 0) e))
     ∙ among_at (drop k xs) (at - k) (omega arith)
 
--- and not among those behind it, where they rise
+-- and not among those after it, where they rise
 not_behind : (xs : List ℕ) (at : ℕ) → IsStrictlyIncreasing xs → at < length xs → is_among (get_or xs at 0) (drop (at + 1) xs) ≡ false
 not_behind xs at rising lt =
     let l : length (drop (at + 1) xs) ≡ length xs - (at + 1) = length-drop (at + 1) xs in

@@ -31,7 +31,7 @@ same_row rows table new r same =
     same_list (table_row 255 rows new r) (table_row 255 rows table r) (l ∙ sym (length-table_row 255 rows table r))
     (λ j lt. let low : j < 255 = omega arith in get_or-row rows new r j low ∙ same j ∙ sym (get_or-row rows table r j low))
 
--- the columns behind the elimination hold what is left of the row
+-- the columns after the elimination hold what is left of the row
 pub left_in_column : (unknown powers row : List ℕ) (value left : ℕ → ℕ) (j : ℕ) → length unknown ≤ 64 → powers ≡ map place_power unknown → j < 64
     → ((m : ℕ) → m < 64 → value m ≡ values_of row m)
     → left j ≡ combined (root_polynomial (drop (length powers - j) powers)) value (j - length powers)
@@ -47,7 +47,7 @@ left_in_column unknown powers row value left j few is_powers low values is =
     ∙ ap₂ (λ (l : List ℕ) (m : ℕ). combined (root_polynomial l) value m) turned (ap (λ k. j - k) long)
     ∙ combined_same (root_polynomial (map place_power places)) value (values_of row) (j - u) 64 (omega arith) values
 
--- what is known of a row behind all steps
+-- what is known of a row after all steps
 pub record Steps (unknown row new : List ℕ) (left column : ℕ → ℕ) (mark : ℕ) : Type 0 where
   pub few : length unknown ≤ 64
   pub row_long : length row ≡ 255

@@ -1,4 +1,4 @@
-//! From what is left behind the elimination, the unknown columns are corrected one after another, each in all rows of a run.
+//! From what is left after the elimination, the unknown columns are corrected one after another, each in all rows of a run.
 
 ghost use Rattle.erasure_law.specs.Roots.{differences, place_power};
 ghost use Rattle.fec_spec.specs.Field.{field_product, field_sum};

@@ -1,4 +1,4 @@
-//! Which rows of a run are no codeword's: where something is left behind the elimination.
+//! Which rows of a run are no codeword's: where something is left after the elimination.
 
 ghost use Rattle.rs_erasure.specs.Columns.{cell};
 ghost use Rattle.rs_erasure.specs.Marks.{IsMarked};

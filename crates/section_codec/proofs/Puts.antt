@@ -1,9 +1,9 @@
--- Pieces put into a list one behind another.
+-- Pieces put into a list one after another.
 use Rattle.std.proofs.Common.{◌≡◌, ℕ, ◌+◌, List, ◌++◌, length, take, drop, ap, ap₂, sym, ◌∙◌, append_assoc, arith}
 use Rattle.std.proofs.lemmas.List.{take_at}
 use Rattle.std.proofs.lemmas.Slice.{drop-append-drop}
 
--- a front was written before, and one more piece is put behind it
+-- a front was written before, and one more piece is put after it
 pub put_behind : (front piece old before after : List ℕ) (at end : ℕ) → length front ≡ at → at + length piece ≡ end
     → before ≡ front ++ drop at old
     → after ≡ take at before ++ (piece ++ drop (at + length piece) before)

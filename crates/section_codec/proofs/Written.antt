@@ -44,7 +44,7 @@ section_span-section_bytes table_id top body rest it =
     (length_told top (length body + 4) it.byte it.upper_half most) (syntax_told top (length body + 4) it.syntax it.byte it.upper_half most)
     (omega (arith, it.least)) most (omega (arith, length-section_bytes table_id top body))
 
--- a place behind a front
+-- a place after a front
 at_behind : (front back : List ℕ) (place n : ℕ) → place ≡ length front + n → slice_index (front ++ back) place ≡ slice_index back n
 at_behind front back place n e = ap (λ (k : ℕ). slice_index (front ++ back) k) e ∙ get_or-append-add front back n 0
 

@@ -69,8 +69,8 @@ pub fn parse(bytes: &[u8]) -> Result<SectionRef<'_>, SectionFault>
 
 /// Writes the section with this table_id, upper half of byte 1 and body to the front of `into`; answers its length.
 ///
-/// `top` has section_syntax_indicator and the three bits behind it, and four bits 0. A body has 5 to 4,089 bytes.
-/// What stands behind in `into` stays.
+/// `top` has section_syntax_indicator and the three bits after it, and four bits 0. A body has 5 to 4,089 bytes.
+/// What stands after in `into` stays.
 pub fn write(table_id: u8, top: u8, body: &[u8], into: &mut [u8]) -> usize
     requires writable { IsWritableSection table_id top body.now }
     requires room { length body.now + 7 ≤ length into.old }

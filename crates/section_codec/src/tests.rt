@@ -43,7 +43,7 @@ fn fields_are_read_and_each_fault_is_named(rt: HostRuntime) {
     }
 }
 
-/// The same section is written of its fields, and no byte behind it.
+/// The same section is written of its fields, and no byte after it.
 #[test]
 fn the_same_bytes_are_written(rt: HostRuntime) {
     let mut into = [0xEE; 20];

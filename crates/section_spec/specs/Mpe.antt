@@ -67,7 +67,7 @@ abbrev pub mac_in : List ℕ → List ℕ
 mac_in body =
     slice_index body 8 ∷ slice_index body 7 ∷ slice_index body 6 ∷ slice_index body 5 ∷ slice_index body 1 ∷ slice_index body 0 ∷ []
 
--- the fields of a body whose datagram has so many bytes; what stands behind it is stuffing
+-- the fields of a body whose datagram has so many bytes; what stands after it is stuffing
 abbrev pub mpe_with : List ℕ → Option ℕ → Option MpeFields
 mpe_with body None = None
 mpe_with body (Some n) =

@@ -10,7 +10,7 @@ use Rattle.ts_spec.specs.Form.{UnitForm, Span, more, stuffing, whole, bad}
 abbrev pub has_syntax : List ℕ → Bool
 has_syntax b = nat_le 0x80 (slice_index b 1)
 
--- section_length: the bytes behind it, the CRC_32 among them
+-- section_length: the bytes after it, the CRC_32 among them
 abbrev pub section_length : List ℕ → ℕ
 section_length b = u16_at b 1 % 2 ^ 12
 
@@ -54,7 +54,7 @@ pub record SectionFields : Type 0 where
 abbrev pub section_fields : List ℕ → SectionFields
 section_fields b = record { table_id = slice_index b 0; body = take (length b - 7) (drop 3 b) }
 
--- what a section can be written of: a table_id that is no stuffing, section_syntax_indicator 1 and the three bits behind it as the
+-- what a section can be written of: a table_id that is no stuffing, section_syntax_indicator 1 and the three bits after it as the
 -- upper half of a byte, and a body that section_length counts beside the CRC_32
 pub record IsWritableSection (table_id top : ℕ) (body : List ℕ) : Type 0 where
   pub table_id_is : table_id < 0xFF

@@ -28,7 +28,7 @@ use Rattle.send_command.specs.declared.gather.Next.TheVariants as next
 use Rattle.send_command.specs.declared.gather.ReadFault.{ReadFault}
 use Rattle.send_command.proofs.Given.{all_datagrams}
 
--- bytes behind a capture don't change its link type
+-- bytes after a capture don't change its link type
 given_by-append : (front rest : List ℕ) (captured : List (List ℕ)) → 24 ≤ length front → given_by (front ++ rest) captured ≡ given_by front captured
 given_by-append front rest captured whole = ap (λ (link : Option LinkType). map (datagram_in link) captured) (link_at-append front rest whole)
 
@@ -107,7 +107,7 @@ pub by_told : (a : Option (List ℕ)) (P Q : List ℕ → Type 0) → ((bytes : 
 by_told None P Q f h = tt
 by_told (Some xs) P Q f h = f xs h
 
--- behind a right head a fault is in the record behind those that are told
+-- after a right head a fault is in the record after those that are told
 pub place_behind_records : (front rest : List ℕ) (captured : List (List ℕ)) → head_fault front ≡ None → place_of_fault (front ++ rest) captured ≡ length captured + 1
 place_behind_records front rest captured right =
     ap (λ (f : Option CaptureFault). if is_some f then 0 else length captured + 1) (head_fault-append front rest (head_is_whole front right) ∙ right)
@@ -147,7 +147,7 @@ gathered_none plan fault offer a stands head =
     })
     head
 
--- the place of a fault behind the records
+-- the place of a fault after the records
 pub place_behind : (reader : ReaderState) (front : List ℕ) (captured : List (List ℕ)) (place : ℕ) → HasRead reader front captured → place ≡ reader.records + 1
     → place ≡ length captured + 1
 place_behind reader front captured place read e = e ∙ ap (λ n. n + 1) read.count

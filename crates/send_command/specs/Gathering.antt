@@ -46,7 +46,7 @@ pub record TakesIn (plan : PlanFields) (old new : ReaderState) (offer : Offered)
   pub takes : Takes before now more
   pub moved : old.held ++ more ≡ piece ++ new.held
 
--- what the bytes that were read show, by what stood next behind the records
+-- what the bytes that were read show, by what stood next after the records
 abbrev pub ShowsStop : List (List ℕ) → Result Next ReadFault → List ℕ → Type 0
 ShowsStop captured (Ok next.Record) bytes = ⊤
 ShowsStop captured (Ok next.End) bytes = ⊤
@@ -54,7 +54,7 @@ ShowsStop captured (Ok (next.Fault fault)) bytes = Tells bytes captured (Some fa
 ShowsStop captured (Err read.Source) bytes = ShowsNoFault bytes
 ShowsStop captured (Err read.OutOfMemory) bytes = ⊤
 
--- the bytes that were read behind those of the front, and what all of them show
+-- the bytes that were read after those of the front, and what all of them show
 pub record ReadsNext (held front : List ℕ) (captured : List (List ℕ)) (result : Result Next ReadFault) (old new : InputTold) : Type 0 where
   pub more : List ℕ
   pub takes : Takes old new more

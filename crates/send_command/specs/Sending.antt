@@ -92,7 +92,7 @@ pub record ShowsFault (bytes : List ℕ) (fault : CaptureFault) (place : ℕ) : 
   pub place_is : place ≡ place_of_fault bytes captured
 
 -- what a send read of its input, and what that shows: at a fault of the capture that fault, and at a fault of the input none, or
--- none but that the bytes are cut. Behind the record that was read last no more was read than a reader holds
+-- none but that the bytes are cut. After the record that was read last no more was read than a reader holds
 pub record Reads (end : SendEnd) (old new : InputTold) : Type 0 where
   pub bytes : List ℕ
   pub takes : Takes old new bytes

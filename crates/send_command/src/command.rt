@@ -1,4 +1,4 @@
-//! The command `send`, behind its settings.
+//! The command `send`, after its settings.
 ghost use Rattle.std.specs.Prelude.{◌≡◌, ◌≢◌, ℕ, ◌≤◌, List, true, false, Some, None, ◌⊎◌, OnOk};
 ghost use Rattle.wire_spec.specs.Causes.{Rose};
 ghost use Rattle.wire_spec.specs.Content.{Stays};
@@ -20,7 +20,7 @@ use std::alloc::Global;
 /// Writes the stream of what the services of a plan take of the capture that is read from `input`, and flushes it.
 ///
 /// The services are of SNDUs and datagram_sections. Where the capture has a fault, the stream of the records before it is
-/// written and flushed, and then the fault is answered. Where the input fails or memory is wanting nothing is written.
+/// written and flushed, and then the fault is answered. Where the input fails or memory runs out nothing is written.
 pub fn send<I: Source, O: Sink>(
     alloc: Global,
     plan: &Plan,

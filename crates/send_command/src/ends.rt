@@ -30,6 +30,6 @@ pub enum SendEnd {
     SourceFault,
     /// The output could not be written or flushed.
     SinkFault,
-    /// Memory was wanting. Nothing was written.
+    /// Out of memory. Nothing was written.
     OutOfMemory,
 }

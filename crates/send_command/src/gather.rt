@@ -1,4 +1,4 @@
-//! A capture -> what its records offer to the services of a plan, and the fault behind them.
+//! A capture -> what its records offer to the services of a plan, and the fault after them.
 ghost use Rattle.std.specs.Prelude.{◌≡◌, ℕ, ◌≤◌, List, ◌∷◌, ◌++◌, [], Ok, true, false, IfOk, IsErrOf, IfSome, is_none, None, Some};
 ghost use Rattle.pcap_file.specs.Told.{Tells};
 ghost use Rattle.pcap_file.specs.Reader.{is_cut, rest_of};
@@ -19,7 +19,7 @@ use std::alloc::Global;
 pub(crate) struct Gathered {
     /// What its records offered.
     pub(crate) offered: Offered,
-    /// The fault behind them.
+    /// The fault after them.
     pub(crate) fault: Option<PlacedFault>,
 }
 

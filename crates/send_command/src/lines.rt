@@ -61,7 +61,7 @@ pub fn tell_fault<E: Sink>(
     put_all(complaints, b"\n")
 }
 
-/// Writes two numbers, each behind its text.
+/// Writes two numbers, each after its text.
 fn put_numbers<E: Sink>(
     complaints: &mut E,
     first: &str,

@@ -30,7 +30,7 @@ const DATAGRAM: [u8; 28] = [
 /// What stands before it in its SNDU: Length, Type and NPA address (RFC 4326 section 4, RFC 1112 section 6.4).
 const SNDU_HEAD: [u8; 10] = [0, 38, 8, 0, 1, 0, 0x5E, 2, 0, 9];
 
-/// The CRC-32 behind it, by long division with other means.
+/// The CRC-32 after it, by long division with other means.
 const CRC: [u8; 4] = [0x8F, 0x01, 0xBA, 0x4A];
 
 /// The packet of as many of its SNDUs, the first of its PID.

@@ -193,7 +193,7 @@ services_valid (text ∷ texts) (s ∷ services) are valid =
     let (first, others) = and_parts (has_valid_values 32 (service_seen s)) (list_all (has_valid_values 32) (services_seen services)) valid in
     rw (first, rules_valid text s.rules are.0, services_valid texts services are.1 others)
 
--- a test that is not met, and the tests behind it
+-- a test that is not met, and the tests after it
 not_met : (b : Bool) (check : SettingsFault) (rest : Option SettingsFault) → (if b then Some check else rest) ≡ None → (b ≡ false) × (rest ≡ None)
 not_met true check rest e = absurd (let h = e in cc)
 not_met false check rest e = (refl, e)

@@ -20,7 +20,7 @@ use Rattle.service_plan.specs.Drafts.{services_seen}
 use Rattle.service_plan.specs.Sizes.{size_from, identifier_size, entry_size}
 use Rattle.service_plan.specs.declared.service.Service.{Service}
 
--- rules behind the last but one descriptor leave those before it as they are
+-- rules after the last but one descriptor leave those before it as they are
 fold-with_rule : (group next : List Rule) (others : List (List Rule)) (rules : List Rule)
     → fold with_rule (group ∷ next ∷ others) rules ≡ group ∷ fold with_rule (next ∷ others) rules
 fold-with_rule group next others [] = refl
@@ -66,7 +66,7 @@ grown_by first rule others rules false more anew =
     let g = group_one rule in
     omega (arith, anew, s, g)
 
--- the descriptor under way, and what the rules behind add
+-- the descriptor under way, and what the rules after add
 grown : (first : Rule) (others rules : List Rule) → bytes_of (fold with_rule ((first ∷ others) ∷ []) rules) ≡ length (group_bytes (first ∷ others)) + size_from (Some first) (1 + length others) rules
 grown first others [] = bytes_of_cons (first ∷ others) []
 grown first others (rule ∷ rules) =

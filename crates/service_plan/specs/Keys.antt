@@ -5,7 +5,7 @@ pub use Rattle.settings_text.specs.Keys.{key_text, fault_seen}
 use Rattle.service_plan.specs.declared.fault.PlanError.{PlanError}
 use Rattle.service_plan.specs.declared.fault.PlanError.TheVariants as error
 
--- the error is this fault, or want of memory
+-- the error is this fault, or out of memory
 abbrev pub Faults : PlanError → Option SettingsFault → Type 0
 Faults (error.Fault f) fault = fault ≡ Some (fault_seen f)
 Faults error.OutOfMemory fault = Unit {0}

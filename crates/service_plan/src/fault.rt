@@ -8,7 +8,7 @@ use std::alloc::AllocError as OutOfMemory;
 pub enum PlanError {
     /// The settings are refused.
     Fault(PlanFault),
-    /// Memory was wanting.
+    /// Out of memory.
     OutOfMemory,
 }
 

@@ -18,7 +18,7 @@ fn has_name(services: &[Service], name: &str) -> bool
     services.iter().any(|service| name == service.name.text())
 }
 
-/// The services behind a place.
+/// The services after a place.
 pub(crate) fn behind(services: &[Service], place: usize) -> &[Service]
     requires { place < length services.now }
     ensures read { result.now ≡ drop (place + 1) services.now }

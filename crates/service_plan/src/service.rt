@@ -46,7 +46,7 @@ pub enum Kind {
         pid: u16,
         /// Whether SNDUs carry an NPA address.
         address: bool,
-        /// Whether an SNDU may begin behind another in one packet.
+        /// Whether an SNDU may begin after another in one packet.
         packing: bool,
     },
     /// Datagram sections (EN 301 192 clause 7).
@@ -118,7 +118,7 @@ impl ServiceList {
         }
     }
 
-    /// Puts a service behind the others.
+    /// Puts a service after the others.
     pub(crate) fn push(&mut self, service: Service) -> Result<(), OutOfMemory>
         ensures written { OnOk result (self.new ≡ self.old ++ service ∷ []) }
         ensures unchanged { OnErr result (self.new ≡ self.old) }

@@ -43,7 +43,7 @@ fn slices_of(kind: &Kind) -> Option<Sliced>
     }
 }
 
-/// The window begins within the INT, or ends behind the cycle.
+/// The window begins within the INT, or ends after the cycle.
 fn leaves_cycle(draft: &Draft, table_packets: u32, service: &Sliced) -> bool
     ensures read { result ≡ leaves table_packets (draft_seen draft.now) (sliced_view service.now) }
 {

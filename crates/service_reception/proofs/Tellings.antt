@@ -7,7 +7,7 @@ use Rattle.service_reception.specs.Telling.{pairs_of, Told, StopsWithin}
 pub told_nothing : (old : List (ℕ × List ℕ) → Type 0) (service : ℕ) → Told old old service []
 told_nothing old service = λ pairs stood. subst old (sym (append-nil pairs)) stood
 
--- some datagrams, and others behind them
+-- some datagrams, and others after them
 pub told_then : (a b c : List (ℕ × List ℕ) → Type 0) (service : ℕ) (xs ys : List (List ℕ)) → Told a b service xs → Told b c service ys → Told a c service (xs ++ ys)
 told_then a b c service xs ys first then = λ pairs stood.
     subst c

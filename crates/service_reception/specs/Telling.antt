@@ -1,4 +1,4 @@
--- What an outlet was told. It stands for lists of pairs of service and datagram, before some calls and behind them.
+-- What an outlet was told. It stands for lists of pairs of service and datagram, before some calls and after them.
 use Rattle.std.specs.Prelude.{◌≡◌, ℕ, List, ◌∷◌, ◌++◌, map}
 
 -- the pairs of a service

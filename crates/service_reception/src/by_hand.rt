@@ -118,7 +118,7 @@ pub(crate) fn packet(starts: bool, counter: u8, front: &[u8]) -> [u8; 188] {
     bytes
 }
 
-/// The packet in which one unit starts, behind a pointer.
+/// The packet in which one unit starts, after a pointer.
 pub(crate) fn one_unit(counter: u8, pointer: u8, unit: &[u8]) -> [u8; 188] {
     let mut front = [0xFF; 184];
     front[0] = pointer;

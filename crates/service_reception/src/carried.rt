@@ -20,7 +20,7 @@ use unit_stream::UnitForm;
 /// table_id and section_length, in front of a section's body (ISO/IEC 13818-1 clause 2.4.4).
 const HEAD: usize = 3;
 
-/// CRC_32, behind it.
+/// CRC_32, after it.
 const CRC: usize = 4;
 
 /// The fewest bytes of a section: its head, a body of 5 bytes, and CRC_32.
@@ -71,7 +71,7 @@ impl UnitReader for SectionForm {
     ghost form_is = { mpe_form };
 }
 
-/// The datagram of an SNDU behind its extension headers (RFC 4326 sections 4 and 5).
+/// The datagram of an SNDU after its extension headers (RFC 4326 sections 4 and 5).
 fn read_sndu(unit: &[u8]) -> Option<Carried<'_>>
     ensures read { (kind : KindFields) → IsUle kind → IsUnit sndu_form unit.now → ReadsAs kind unit.now result }
 {

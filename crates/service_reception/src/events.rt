@@ -21,7 +21,7 @@ use std::alloc::Allocator;
 use ts_packet::Packet;
 use unit_stream::{JoinEvent, Joiner};
 
-/// Takes all events of the packet that the joiner was fed last. Behind a refused datagram they are counted alone.
+/// Takes all events of the packet that the joiner was fed last. After a refused datagram they are counted alone.
 pub(crate) fn take_events<K: UnitReader, A: Allocator, T: Outlet>(
     joiner: &mut Joiner<K, A>,
     counts: &mut Counts,

@@ -61,7 +61,7 @@ impl<K: UnitReader, A: Allocator> Reception<K, A> {
     /// Takes one packet of the service's PID, which `parse` read from `bytes`, and the moment of its record.
     ///
     /// The datagrams that end in it and that `filter` wants go to the outlet, as those of this service. Failed: the outlet
-    /// refused one, and those behind it are not offered; the packet and all its units are counted as with Ok.
+    /// refused one, and those after it are not offered; the packet and all its units are counted as with Ok.
     pub fn take<T: Outlet>(
         &mut self,
         bytes: &[u8; 188],

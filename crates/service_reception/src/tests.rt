@@ -12,7 +12,7 @@ use ts_packet::parse;
 use ule_unit::UleForm;
 use unit_stream::UnitForm;
 
-/// A packet, how often it comes, and the numbers behind it and a packet with a good unit.
+/// A packet, how often it comes, and the numbers after it and a packet with a good unit.
 #[derive(Clone, Copy)]
 struct Case<'a> {
     pointer: u8,
@@ -57,7 +57,7 @@ fn ran_with<K: UnitReader>(
     ran::<K>(alloc, good, &filter, &case)
 }
 
-/// RFC 4326 sections 4 and 7, ISO/IEC 13818-1 clause 2.4.3.3: what a packet makes of the numbers, and the unit behind it arrives.
+/// RFC 4326 sections 4 and 7, ISO/IEC 13818-1 clause 2.4.3.3: what a packet makes of the numbers, and the unit after it arrives.
 #[test]
 fn a_good_sndu_behind_each_packet_arrives(rt: HostRuntime) -> Result<(), Fail> {
     let mut damaged = SNDU;

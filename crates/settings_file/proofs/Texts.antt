@@ -13,17 +13,17 @@ use Rattle.service_plan.specs.Parts.{service_seen}
 use Rattle.service_plan.specs.declared.service.Service.{Service}
 use Rattle.settings_file.specs.Lines.{service_line}
 
--- texts joined behind others
+-- texts joined after others
 joined-append : (xs ys : List (List ℕ)) → joined (xs ++ ys) ≡ joined xs ++ joined ys
 joined-append [] ys = refl
 joined-append (x ∷ xs) ys = ap (λ t. x ++ t) (joined-append xs ys) ∙ sym (append_assoc x (joined xs) (joined ys))
 
--- the item at a place, behind those before it
+-- the item at a place, after those before it
 take-next : {X : Type 0} (xs : List X) (i : ℕ) (x : X) → slice_get xs i ≡ Some x → take (i + 1) xs ≡ take i xs ++ x ∷ []
 take-next xs i x is =
     rw (add-one i) (take-suc xs i x (slice_get_within xs i x is) ∙ ap (λ y. take i xs ++ y ∷ []) (get_or_from_slice_get xs i x x is))
 
--- one text more behind those before it
+-- one text more after those before it
 pub joined-next : {X : Type 0} (text : X → List ℕ) (xs : List X) (i : ℕ) (x : X) → slice_get xs i ≡ Some x
     → joined (map text (take (i + 1) xs)) ≡ joined (map text (take i xs)) ++ text x
 joined-next text xs i x is =
@@ -32,7 +32,7 @@ joined-next text xs i x is =
     ∙ joined-append (map text (take i xs)) (text x ∷ [])
     ∙ ap (λ t. joined (map text (take i xs)) ++ t) (append-nil (text x))
 
--- all texts: those before one, it, and those behind it
+-- all texts: those before one, it, and those after it
 pub joined-at : {X : Type 0} (text : X → List ℕ) (xs : List X) (i : ℕ) (x : X) → slice_get xs i ≡ Some x
     → joined (map text xs) ≡ joined (map text (take i xs)) ++ (text x ++ joined (map text (drop (i + 1) xs)))
 joined-at text xs i x is =

@@ -21,7 +21,7 @@ fault_number no_stamps = 11
 fault_number wrong_carrier = 12
 fault_number unknown_key = 13
 
--- its key behind a space, where it has one
+-- its key after a space, where it has one
 abbrev pub fault_key : SettingsFault → List ℕ
 fault_key no_document = []
 fault_key (missing key) = 32 ∷ key

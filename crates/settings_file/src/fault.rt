@@ -18,6 +18,6 @@ pub enum SettingsError {
     ShelfFault,
     /// The file gives none.
     File(FileFault),
-    /// Memory was wanting.
+    /// Out of memory.
     OutOfMemory,
 }

@@ -33,7 +33,7 @@ fn number_of(fault: PlanFault) -> u8
     }
 }
 
-/// The key of a fault behind a space, where it has one.
+/// The key of a fault after a space, where it has one.
 fn key_of(fault: PlanFault) -> (&'static str, &'static str)
     ensures { result.0.now ++ result.1.now ≡ fault_key (fault_seen fault) }
 {

@@ -67,7 +67,7 @@ pub items_there : (key : List ℕ) (table : Members) (d : Data) (items : List Da
 unfolding items_at
 items_there key table d items there is = rw (← there, is)
 
--- the rules so far: what the rest of the texts spell goes behind them
+-- the rules so far: what the rest of the texts spell goes after them
 pub record RulesSoFar (all rest : List (List ℕ)) (list : List Rule) : Type 0 where
   pub forth : (others : List Rule) → AreRules rest others → AreRules all (list ++ others)
   pub back : (whole : List Rule) → AreRules all whole → (others : List Rule) × (whole ≡ list ++ others) × AreRules rest others

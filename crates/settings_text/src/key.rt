@@ -37,7 +37,7 @@ pub enum Key {
     Isi,
     /// `address`: whether units carry an address.
     Address,
-    /// `packing`: whether a unit may begin behind another in one packet.
+    /// `packing`: whether a unit may begin after another in one packet.
     Packing,
     /// `mode` of MPE-FEC frames: indexed or sliced.
     Mode,

@@ -51,7 +51,7 @@ module _ (front : (b : List ℕ) (n : ℕ) → (front_length b ≡ Some n) ↔ I
     size = omega (arith, length-take n b);
   }
 
-  -- behind an Ethernet header
+  -- after an Ethernet header
   of_type : (ether_type : ℕ) (b datagram : List ℕ) → AreBytes b → datagram_of_type ether_type b ≡ Some datagram → IsGiven b datagram
   of_type ether_type b datagram all e = by_tests (eqb ether_type 0x0800) (has_ipv4_front b) refl (eqb ether_type 0x86DD) (has_ipv6_front b) refl e
     where

@@ -25,7 +25,7 @@ module _ (cycle table : ℕ) (less : table < cycle) (packets : List ℕ) (slots 
       let last : is_of_service (slot_at (kept_for_table cycle table) packets (slots - 1)) ≡ true = count.last (slots - 1) (omega (arith, before)) in
       absurd (cc)
 
-  -- so that each slot behind the INT's carries a packet
+  -- so that each slot after the INT's carries a packet
   one_more : (s : ℕ) → s < slots → kept s ≡ None → sent (suc s) ≡ sent s + 1
   one_more s before free =
       let turn : (k : ℕ) × (next_service packets (turns s) ≡ Some k) = someone s before (next_service packets (turns s)) refl in
@@ -38,7 +38,7 @@ module _ (cycle table : ℕ) (less : table < cycle) (packets : List ℕ) (slots 
       by_kept None e = omega (arith, one_more s before e)
       by_kept (Some slot) e = omega (arith, ap (λ (t : Turns). total t.sent) (turns_kept (kept_for_table cycle table) packets s slot e))
 
-  -- the slots of the INT in a cycle, and those behind them
+  -- the slots of the INT in a cycle, and those after them
   first_ones : (m at : ℕ) → m + at ≤ slots → sent at ≤ sent (m + at)
   first_ones zero at le = let same : 0 + at ≡ at = omega arith in omega (arith, ap sent same)
   first_ones (suc m) at le =

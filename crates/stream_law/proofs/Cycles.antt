@@ -73,7 +73,7 @@ module _ {X : Type 0} (cycle table : ℕ) (less : table < cycle) (item : ℕ →
       more_cycles : suc n * cycle + r ≡ cycle + (n * cycle + r)
       more_cycles = let one : suc n ≡ n + 1 = omega arith in ap (λ (k : ℕ). k * cycle + r) one ∙ omega (arith, add-mul n 1 cycle)
 
-  -- slots that end behind the first ones of a cycle
+  -- slots that end after the first ones of a cycle
   pub of_slots : (slots : ℕ) → ((s : ℕ) → slots ≡ s + 1 → table ≤ s % cycle) → flat_map given (range_with_len 0 slots) ≡ flat_map items (range_with_len 0 (begun_cycles cycle slots))
   of_slots zero last = sym (ap (λ (n : ℕ). flat_map items (range_with_len 0 n)) none)
     where

@@ -68,7 +68,7 @@ six_bytes a b c d e f of_a of_b of_c of_d of_e of_f = record { size = refl; byte
     each (suc (suc (suc (suc (suc zero))))) x less = of_f
     each (suc (suc (suc (suc (suc (suc n)))))) x less = absurd (omega (arith, less))
 
--- any place of a list of bytes, also behind its end
+-- any place of a list of bytes, also after its end
 byte_at : (bytes : List ℕ) → AreBytes bytes → (i : ℕ) → slice_index bytes i < 256
 byte_at [] all i = omega arith
 byte_at (b ∷ bytes) all zero = all 0 0 (omega arith)

@@ -9,7 +9,7 @@ use Rattle.stream_spec.proofs.Over.{KeepsNone, turns_kept, turns_served, over_fr
 use Rattle.stream_law.proofs.Next.{has_turn, none_has_turn, false_ltb}
 use Rattle.stream_law.proofs.Turns.{within_at, turns_pass}
 
--- behind each slot is one that is not kept
+-- after each slot is one that is not kept
 abbrev pub LeavesSlots : (ℕ → Option Slot) → Type 0
 LeavesSlots kept = (s : ℕ) → (free : ℕ) × (s ≤ free) × (kept free ≡ None)
 
@@ -136,7 +136,7 @@ module _ (kept : ℕ → Option Slot) (packets : List ℕ) (leaves : LeavesSlots
       let end : (end : ℕ) × (next_service packets (turns end) ≡ None) = none_left (total packets) 0 (omega arith) in
       last_slot (slot_at kept packets) end.0 (over_from kept packets keeps end.0 end.1)
 
-  -- behind the last slot all packets are out
+  -- after the last slot all packets are out
   same_turns : (slots : ℕ) → IsSlotCount (slot_at kept packets) slots → (d later : ℕ) → later ≡ slots + d → turns later ≡ turns slots
   same_turns slots count zero later e = let same : later ≡ slots = omega (arith, e) in ap turns same
   same_turns slots count (suc d) zero e = absurd (omega (arith, e))

@@ -1,4 +1,4 @@
--- Places in packets, and in those behind them.
+-- Places in packets, and in those after them.
 use Rattle.std.proofs.Common.{◌≡◌, ℕ, ◌+◌, ◌-◌, ◌<◌, ◌≤◌, List, ◌++◌, length, take, drop, sym, ap, ap₂, ◌∙◌, arith}
 use Rattle.std.specs.Prelude.{slice_index}
 use Rattle.std.proofs.lemmas.List.{length-append, take-append-drop, take-append-le, get_or_append_left, get_or-append-add}
@@ -49,7 +49,7 @@ module _ (ps qs : List PacketFields) where
   pub packet_high : (i : ℕ) → packet_at both (count + i) ≡ packet_at qs i
   packet_high i = get_or-append-add ps qs i no_packet
 
-  -- places in the first packets, and in those behind them
+  -- places in the first packets, and in those after them
   pub in_both : (m place : ℕ) → IsIn ps m place → IsIn both m place
   in_both m place here = record {
     within = omega (arith, here.within, length-both);

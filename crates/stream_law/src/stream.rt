@@ -37,7 +37,7 @@ pub fn the_packets_of_a_service_are_on_its_pid()
     null_packet_is_read();
 }
 
-/// The bytes of a stream are cut into its records, and nothing is left behind them.
+/// The bytes of a stream are cut into its records, and nothing is left after them.
 pub fn a_stream_is_cut_into_its_records()
     ensures cut { (plan : PlanFields) (datagrams : ℕ → List (List ℕ)) (records : List (List ℕ)) → IsStream plan datagrams records
         → IsCut (record_size plan.recording) (joined records) records [] }

@@ -1,5 +1,5 @@
 -- The slots of a transmission: what each carries. Profile: the order is the sender's.
--- Some slots are kept by their place in the cycle; through the others the services go by turns.
+-- Some slots are kept by their place in the cycle; through the others the services go in rotation.
 use Rattle.std.specs.Prelude.{◌≡◌, ℕ, zero, suc, ◌+◌, ◌-◌, ◌%◌, ◌≤◌, Bool, true, false, List, ◌++◌, length, slice_index, set, find, nat_lt, replicate, if◌then◌else◌, Option, Some, None, is_some}
 use Rattle.std.specs.List.{range_with_len}
 use Rattle.std.specs.Option.{unwrap_or}
@@ -23,7 +23,7 @@ kept_for_table cycle table s = if nat_lt (s % cycle) table then Some (of_table (
 abbrev pub asked : ℕ → ℕ → List ℕ
 asked count first = range_with_len first (count - first) ++ range_with_len 0 first
 
--- how far the services are: how many packets of each are out, and which is asked first, the one behind that served last
+-- how far the services are: how many packets of each are out, and which is asked first, the one after that served last
 pub record Turns : Type 0 where
   pub sent : List ℕ
   pub first : ℕ
@@ -58,7 +58,7 @@ abbrev pub slot_at : (ℕ → Option Slot) → List ℕ → ℕ → Slot
 slot_at kept packets s =
     unwrap_or (kept s) (slot_of_service (turns_at kept packets s) (next_service packets (turns_at kept packets s)))
 
--- the transmission has so many slots: the last of them carries a packet of a service, and none behind it does
+-- the transmission has so many slots: the last of them carries a packet of a service, and none after it does
 pub record IsSlotCount (slot : ℕ → Slot) (slots : ℕ) : Type 0 where
   pub last : (s : ℕ) → slots ≡ s + 1 → is_of_service (slot s) ≡ true
   pub over : (s : ℕ) → slots ≤ s → is_of_service (slot s) ≡ false

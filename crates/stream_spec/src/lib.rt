@@ -10,14 +10,14 @@ ghost use Rattle.stream_spec.specs.Slots.{of_table, of_service, empty, IsSlotCou
 ghost use Rattle.stream_spec.specs.Stream.{stamp_bytes};
 ghost use Rattle.stream_spec.specs.Examples.{small_slot, small_slots, idle_slot};
 
-/// Two services by turns, the table at the head of each cycle, and null packets behind the last.
+/// Two services in rotation, the table at the head of each cycle, and null packets after the last.
 pub fn small_transmissions()
     ensures slots { small_slots ≡ of_table 0 ∷ of_service 0 0 ∷ of_service 1 0 ∷ of_service 0 1 ∷ of_service 0 2 ∷ of_table 0 ∷ empty ∷ empty ∷ [] }
     ensures count { IsSlotCount small_slot 5 }
     ensures nothing { IsSlotCount idle_slot 0 }
 {}
 
-/// Stamps of an m2ts recording at 10,000 packets per second: slot 397,683 is the first behind a turn of its 30 bits.
+/// Stamps of an m2ts recording at 10,000 packets per second: slot 397,683 is the first after a turn of its 30 bits.
 pub fn stamps_of_m2ts()
     ensures early { stamp_bytes m2ts 10000 1201 ≡ 0x00 ∷ 0x31 ∷ 0x7A ∷ 0xCC ∷ [] }
     ensures last { stamp_bytes m2ts 10000 397682 ≡ 0x3F ∷ 0xFF ∷ 0xFE ∷ 0x58 ∷ [] }

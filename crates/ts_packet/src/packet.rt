@@ -14,7 +14,7 @@ pub struct Packet<'a> {
     pub counter: u8,
     /// discontinuity_indicator of the adaptation field; false where that field is absent or empty.
     pub broken: bool,
-    /// What stands behind the header and the adaptation field: 1 to 184 bytes.
+    /// What stands after the header and the adaptation field: 1 to 184 bytes.
     pub payload: &'a [u8],
 }
 
@@ -63,10 +63,10 @@ const FIELD_AND_PAYLOAD: u8 = 0x30;
 /// continuity_counter, in byte 3.
 pub(crate) const COUNTER: u8 = 0x0F;
 
-/// The longest adaptation field with a payload behind it, its length byte not counted (clause 2.4.3.5).
+/// The longest adaptation field with a payload after it, its length byte not counted (clause 2.4.3.5).
 const LONGEST_FIELD: u8 = 182;
 
-/// discontinuity_indicator, in the byte behind adaptation_field_length.
+/// discontinuity_indicator, in the byte after adaptation_field_length.
 const DISCONTINUITY: u8 = 0x80;
 
 /// The PID of null packets (clause 2.4.3.3, table 2-3).
@@ -127,7 +127,7 @@ pub fn write_packet(into: &mut [u8; 188], pid: u16, starts: bool, counter: u8, p
     into[4..].copy_from_slice(payload);
 }
 
-/// Writes bytes 0 to 3 of the packet with these fields, without an adaptation field; the 184 bytes behind them stay.
+/// Writes bytes 0 to 3 of the packet with these fields, without an adaptation field; the 184 bytes after them stay.
 ///
 /// For a caller that writes the payload to its place itself.
 pub fn write_header(into: &mut [u8; 188], pid: u16, starts: bool, counter: u8)

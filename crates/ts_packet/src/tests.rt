@@ -1,7 +1,7 @@
 //! Packets by hand, after ISO/IEC 13818-1 clause 2.4.3.2.
 use crate::{Continuity, Link, PacketFault, parse, write_header, write_null, write_packet};
 
-/// A packet with these first bytes, and bytes FF behind them.
+/// A packet with these first bytes, and bytes FF after them.
 fn packet(front: [u8; 6]) -> [u8; 188] {
     let mut bytes = [0xFF; 188];
     bytes[..6].copy_from_slice(&front);

@@ -4,14 +4,14 @@ use Rattle.std.proofs.lemmas.List.{take_at, drop_at, length-append}
 use Rattle.std.proofs.lemmas.List.Elements.{All-head, All-tail}
 use Rattle.wire_spec.specs.Lists.{joined, IsCut}
 
--- a piece and what is behind it: two such lists that are equal have equal pieces, and the same behind them
+-- a piece and what is after it: two such lists that are equal have equal pieces, and the same after them
 same_front : (size : ℕ) (x y r s : List ℕ) → length x ≡ size → length y ≡ size → x ++ r ≡ y ++ s → x ≡ y
 same_front size x y r s of_x of_y e = sym (take_at x r size of_x) ∙ ap (take size) e ∙ take_at y s size of_y
 
 same_behind : (size : ℕ) (x y r s : List ℕ) → length x ≡ size → length y ≡ size → x ++ r ≡ y ++ s → r ≡ s
 same_behind size x y r s of_x of_y e = sym (drop_at x r size of_x) ∙ ap (drop size) e ∙ drop_at y s size of_y
 
--- a tail is too short to be a piece with more behind it
+-- a tail is too short to be a piece with more after it
 no_piece : (size : ℕ) (x r s : List ℕ) → length x ≡ size → length s < size → s ≡ x ++ r → ⊥
 no_piece size x r s of_x short e = omega (arith, length-append x r, ap length e)
 

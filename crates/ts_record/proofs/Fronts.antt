@@ -1,4 +1,4 @@
--- One list behind another: their prefixes, and what a source gives of both.
+-- One list after another: their prefixes, and what a source gives of both.
 use Rattle.std.proofs.Common.{◌≡◌, ℕ, ◌+◌, List, ◌++◌, length, take, ap, sym, ◌∙◌, subst, Option}
 use Rattle.std.proofs.Math.Seq.{take-append-add, take-length}
 use Rattle.std.specs.Io.KnownBytes.{Consumes}

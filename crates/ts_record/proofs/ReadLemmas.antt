@@ -9,7 +9,7 @@ use Rattle.ts_spec.specs.Recording.{stamp_size, record_size, records_of}
 use Rattle.ts_record.specs.Reading.{ReaderState, ReaderOf, ReadsRecord, last_moment, moment_in}
 use Rattle.ts_record.proofs.RecordsLemmas.{record_with, record_behind, record_behind-cat, records_of-push, last_moment-push}
 
--- the reader behind one record more, of this moment
+-- the reader after one record more, of this moment
 abbrev pub stepped : ReaderState → Option ℕ → ReaderState
 stepped reader moment = record { form = reader.form; count = reader.count + 1; before = moment; tail = reader.tail; is_open = reader.is_open }
 

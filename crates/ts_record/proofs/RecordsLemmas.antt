@@ -9,7 +9,7 @@ use Rattle.ts_record.specs.Reading.{last_moment, moment_in}
 abbrev pub record_with : Option ℕ → List ℕ → Record
 record_with moment bytes = record { moment = moment; bytes = bytes }
 
--- the record of a piece behind one with the moment before
+-- the record of a piece after one with the moment before
 abbrev pub record_behind : RecordingForm → Option ℕ → List ℕ → Record
 record_behind form before piece = record_with (moment_in form before piece) (drop (stamp_size form) piece)
 

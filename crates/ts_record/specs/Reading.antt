@@ -56,7 +56,7 @@ pub record ReadsRecord (reader now_reader : ReaderState) (left now_left : Option
   pub form : now_reader.form ≡ reader.form
   pub tail : now_reader.tail ≡ reader.tail
 
--- the input has ended behind fewer bytes than a record has
+-- the input has ended after fewer bytes than a record has
 pub record ReadsEnd (reader now_reader : ReaderState) (left now_left : Option (List ℕ)) (taken now_taken : ℕ) (pieces : List (List ℕ)) : Type 0 where
   pub bytes : List ℕ
   pub short : length bytes < record_size reader.form
@@ -66,7 +66,7 @@ pub record ReadsEnd (reader now_reader : ReaderState) (left now_left : Option (L
   pub form : now_reader.form ≡ reader.form
   pub tail : now_reader.tail ≡ length bytes
 
--- the moment that a record of a piece has behind one with the moment before
+-- the moment that a record of a piece has after one with the moment before
 abbrev pub moment_in : RecordingForm → Option ℕ → List ℕ → Option ℕ
 moment_in plain before piece = (plain_record piece).moment
 moment_in stamped before piece = (stamped_record piece).moment

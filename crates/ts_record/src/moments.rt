@@ -24,7 +24,7 @@ pub(crate) fn stamp_size(recording: Recording) -> usize
     }
 }
 
-/// The moment of the record with this stamp, behind one with the moment `before`.
+/// The moment of the record with this stamp, after one with the moment `before`.
 pub(crate) fn moment_of(recording: Recording, before: Option<u64>, stamp: &[u8; 8]) -> Option<u64>
     requires { ForSome before (λ m. m ≤ 2 ^ 63) }
     ensures read { result ≡ moment_in (form_of recording) before stamp.now }

@@ -104,7 +104,7 @@ impl RecordReader {
 
     /// Reads the next record as `next` does, into the place of another. False: the input has ended.
     ///
-    /// Behind false or an Err the place holds no record, but any bytes.
+    /// After false or an Err the place holds no record, but any bytes.
     pub fn next_into<S: Source>(
         &mut self,
         source: &mut S,

@@ -4,7 +4,7 @@ use ipe_io::{MemSource, RecordFault, Recording};
 use std::alloc::{AllocError, Global};
 use std::test::Fail;
 
-/// Records with these stamps, the packet of each filled with its number, and bytes EE behind them.
+/// Records with these stamps, the packet of each filled with its number, and bytes EE after them.
 fn recorded(alloc: Global, stamps: &[&[u8]], tail: usize) -> Result<Vec<u8>, AllocError> {
     let mut bytes = Vec::new(alloc);
     for (place, stamp) in stamps.iter().enumerate() {

@@ -8,7 +8,7 @@ use Rattle.wire_spec.specs.Datagram.{datagram_of_type}
 abbrev pub is_optional : ℕ → Bool
 is_optional type_field = nat_le 0x0100 type_field && nat_lt type_field 0x0600
 
--- the bytes of an optional header behind its Type: H-LEN words of 16 bits, the last of which is the next Type
+-- the bytes of an optional header after its Type: H-LEN words of 16 bits, the last of which is the next Type
 abbrev pub header_size : ℕ → ℕ
 header_size type_field = 2 * (type_field / 256)
 
@@ -21,18 +21,18 @@ pub record IsOptional (header : Header) : Type 0 where
   pub optional : is_optional header.type_field ≡ true
   pub size : length header.contents + 2 ≡ header_size header.type_field
 
--- the first Type of these headers, where a last Type stands behind them
+-- the first Type of these headers, where a last Type stands after them
 abbrev pub first_type_of : List Header → ℕ → ℕ
 first_type_of [] last_type = last_type
 first_type_of (header ∷ headers) last_type = header.type_field
 
--- the bytes behind the first Type, where these bytes stand behind the last
+-- the bytes after the first Type, where these bytes stand after the last
 abbrev pub chain_bytes : List Header → ℕ → List ℕ → List ℕ
 chain_bytes [] last_type behind = behind
 chain_bytes (header ∷ headers) last_type behind =
     header.contents ++ to_be_bytes w16 (first_type_of headers last_type) ++ chain_bytes headers last_type behind
 
--- a first Type and bytes are optional headers, a last Type, and the bytes behind that
+-- a first Type and bytes are optional headers, a last Type, and the bytes after that
 pub record Leads (first_type : ℕ) (bytes : List ℕ) (last_type : ℕ) (behind : List ℕ) : Type 0 where
   pub headers : List Header
   pub optional : All IsOptional headers
@@ -40,7 +40,7 @@ pub record Leads (first_type : ℕ) (bytes : List ℕ) (last_type : ℕ) (behind
   pub spelled : bytes ≡ chain_bytes headers last_type behind
   pub sixteen_bits : last_type < 2 ^ 16
 
--- the end of a chain: a Type that is no optional header's, with the bytes behind it, or an optional header that is cut
+-- the end of a chain: a Type that is no optional header's, with the bytes after it, or an optional header that is cut
 pub data ChainEnd : Type 0 where
   ended : ℕ → List ℕ → ChainEnd
   cut : ChainEnd
@@ -75,7 +75,7 @@ abbrev pub datagram_at : ChainEnd → Option (List ℕ)
 datagram_at cut = None
 datagram_at (ended last_type behind) = datagram_of_type last_type behind
 
--- all bytes behind Type 1, where they hold an Ethernet header of 14 bytes
+-- all bytes after Type 1, where they hold an Ethernet header of 14 bytes
 abbrev pub frame_at : ChainEnd → Option (List ℕ)
 frame_at cut = None
 frame_at (ended last_type behind) = if (last_type == 1) && nat_le 14 (length behind) then Some behind else None

@@ -40,7 +40,7 @@ lacks_payload b = control b == 0x20
 abbrev pub is_scrambled : List ℕ → Bool
 is_scrambled b = not (bit_and (slice_index b 3) 0xC0 == 0)
 
--- discontinuity_indicator, the upper bit behind an adaptation_field_length of at least 1
+-- discontinuity_indicator, the upper bit after an adaptation_field_length of at least 1
 abbrev pub is_broken : List ℕ → Bool
 is_broken b = has_adaptation b && (nat_le 1 (slice_index b 4) && not (bit_and (slice_index b 5) 0x80 == 0))
 

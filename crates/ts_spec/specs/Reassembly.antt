@@ -7,7 +7,7 @@ use Rattle.ts_spec.specs.Received.{Arrival, packet_of, received_packets}
 
 -- Unit starts: they depend on one packet alone.
 
--- the next start stands where a unit ends within the bytes; behind any other span there is none
+-- the next start stands where a unit ends within the bytes; after any other span there is none
 abbrev pub starts_behind : ℕ → List ℕ → ℕ → Span → (ℕ → List ℕ → List ℕ) → List ℕ
 starts_behind place bytes size stuffing next = []
 starts_behind place bytes size (whole n) next = place ∷ (if nat_le n size then next (place + n) (drop n bytes) else [])
@@ -28,7 +28,7 @@ unit_starts form packet =
     then starts_within form (length packet.payload) (1 + pointer packet) (drop (1 + pointer packet) packet.payload)
     else []
 
--- The bytes behind a start.
+-- The bytes after a start.
 
 -- whole payloads; the pointer's bytes of the packet in which the next unit starts; whether a packet ended the list
 -- whose own pointer does not fail to fit
@@ -48,7 +48,7 @@ with_payload payload given = record { payloads = payload ++ given.payloads; rest
 abbrev pub ended_by : PacketFields → Given
 ended_by packet = record { payloads = []; rest = []; is_ended = not packet.starts || pointer_fits packet }
 
--- what a continuous packet gives: its payload and what is behind it; with the start indicator its pointer's bytes alone
+-- what a continuous packet gives: its payload and what is after it; with the start indicator its pointer's bytes alone
 abbrev pub given_by : PacketFields → Given → Given
 given_by packet behind =
     if packet.starts then
@@ -63,7 +63,7 @@ given_behind before (arrival ∷ behind) =
     if continues before (packet_of arrival) then given_by (packet_of arrival) (given_behind (packet_of arrival) behind)
     else ended_by (packet_of arrival)
 
--- the payload from the start on, then what the packets behind give
+-- the payload from the start on, then what the packets after give
 abbrev pub bytes_from : ℕ → PacketFields → List Arrival → Given
 bytes_from start packet behind = with_payload (drop start packet.payload) (given_behind packet behind)
 

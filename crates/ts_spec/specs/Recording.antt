@@ -1,8 +1,8 @@
--- Recordings: transport packets one after another, bare or each behind a time stamp.
+-- Recordings: transport packets one after another, bare or each after a time stamp.
 use Rattle.std.specs.Prelude.{ℕ, ◌+◌, ◌-◌, ◌*◌, ◌%◌, ◌^◌, List, [], ◌∷◌, drop, map, nat_lt, if◌then◌else◌, Option, Some, None}
 use Rattle.wire_spec.specs.Bytes.{u32_at}
 
--- bare packets; microseconds in 8 bytes; or 30 bits of arrival time at 27 MHz behind 2 bits of copy permission (m2ts)
+-- bare packets; microseconds in 8 bytes; or 30 bits of arrival time at 27 MHz after 2 bits of copy permission (m2ts)
 pub data RecordingForm : Type 0 where
   plain : RecordingForm
   stamped : RecordingForm
@@ -49,7 +49,7 @@ moment_behind (Some before) stamp = before + (stamp + 2 ^ 30 - before % 2 ^ 30) 
 abbrev pub m2ts_record : Option ℕ → List ℕ → Record
 m2ts_record before piece = record { moment = Some (moment_behind before (m2ts_stamp piece)); bytes = drop 4 piece }
 
--- the records behind one with this moment
+-- the records after one with this moment
 abbrev pub m2ts_records : Option ℕ → List (List ℕ) → List Record
 m2ts_records before [] = []
 m2ts_records before (piece ∷ pieces) =

@@ -10,11 +10,11 @@ use Rattle.ts_spec.specs.Form.{UnitForm, Span, more, stuffing, whole, bad}
 abbrev pub lacks_address : List ℕ → Bool
 lacks_address b = nat_le 0x80 (slice_index b 0)
 
--- Length: the bytes behind Type, the CRC-32 among them (section 4.2)
+-- Length: the bytes after Type, the CRC-32 among them (section 4.2)
 abbrev pub length_field : List ℕ → ℕ
 length_field b = u16_at b 0 % 2 ^ 15
 
--- what stands behind Type at least: the address, where there is one, and the CRC-32
+-- what stands after Type at least: the address, where there is one, and the CRC-32
 abbrev pub least_length : List ℕ → ℕ
 least_length b = if lacks_address b then 4 else 10
 
@@ -51,7 +51,7 @@ has_right_length b = is_whole_of (length b) (sndu_span b)
 abbrev pub is_sndu : List ℕ → Bool
 is_sndu b = has_right_length b && has_right_crc b
 
--- an SNDU: its NPA address, its Type, and what stands behind these and before the CRC-32
+-- an SNDU: its NPA address, its Type, and what stands after these and before the CRC-32
 pub record SnduFields : Type 0 where
   pub npa : Option (List ℕ)
   pub first_type : ℕ

@@ -22,7 +22,7 @@ first_below : (headers : List Header) (last_type : ℕ) → All IsOptional heade
 first_below [] last_type all below = below
 first_below (header ∷ headers) last_type all below = sixteen_bits header.type_field (all zero header (omega arith)).optional
 
--- a Type between contents and what stands behind
+-- a Type between contents and what stands after
 u16_between : (contents tail : List ℕ) (n : ℕ) → n < 2 ^ 16 → u16_at (contents ++ to_be_bytes w16 n ++ tail) (length contents) ≡ n
 u16_between contents tail n below =
     let two : List ℕ = to_be_bytes w16 n in

@@ -1,4 +1,4 @@
--- Why a chain leads to no EtherType, and why no datagram stands behind it.
+-- Why a chain leads to no EtherType, and why no datagram stands after it.
 use Rattle.std.specs.Prelude.{ℕ, List, ◌==◌, nat_le, if◌then◌else◌, Option, Some, None}
 use Rattle.wire_spec.specs.Datagram.{version, ether_type_ipv4, ether_type_ipv6}
 use Rattle.ip_datagram.specs.Refusal.{refusal}
@@ -34,7 +34,7 @@ ip_refusal ether_type bytes =
     if ether_type == ether_type_ipv6 then version_refusal 6 bytes (refusal bytes) else
     Some payload.NotIp
 
--- why no datagram stands behind a chain with this end
+-- why no datagram stands after a chain with this end
 abbrev pub payload_refusal : ChainEnd → Option PayloadFault
 payload_refusal cut = Some (payload.Extension ext.Cut)
 payload_refusal (ended last_type behind) =

@@ -1,18 +1,18 @@
 //! Chains of extension headers (RFC 4326 sections 4.4 and 5).
 //!
-//! A first Type and the bytes behind it come in; the EtherType at the end and the bytes behind it go out.
+//! A first Type and the bytes after it come in; the EtherType at the end and the bytes after it go out.
 
 ghost use Rattle.std.specs.Prelude.{◌≡◌, ◌≤◌, length, drop, IfOk, IfSome, MatchOption};
 ghost use Rattle.std.specs.Result.{result_err};
 ghost use Rattle.ts_spec.specs.Chain.{chain_end, ended, cut, is_optional};
 ghost use Rattle.ule_extension.specs.Faults.{ext_refusal, mandatory_fault};
 
-/// What stands behind a chain of optional headers.
+/// What stands after a chain of optional headers.
 #[derive(Clone, Copy, Debug, PartialEq, Eq)]
 pub struct Payload<'a> {
     /// The last Type, from 1536 on (RFC 4326 section 4.4.2).
     pub ether_type: u16,
-    /// All bytes behind that Type.
+    /// All bytes after that Type.
     pub bytes: &'a [u8],
 }
 
@@ -41,7 +41,7 @@ const TEST: u16 = 0;
 /// Type of a bridged frame (RFC 4326 section 5.2).
 pub(crate) const BRIDGED: u16 = 1;
 
-/// The Type behind all optional headers, and the bytes behind it.
+/// The Type after all optional headers, and the bytes after it.
 #[derive(Clone, Copy)]
 pub(crate) struct ChainEnd<'a> {
     pub(crate) last_type: u16,
@@ -87,7 +87,7 @@ fn mandatory(last_type: u16) -> ExtFault
     }
 }
 
-/// Follows the chain that `first_type` begins; `bytes` are all that stand behind that Type.
+/// Follows the chain that `first_type` begins; `bytes` are all that stand after that Type.
 ///
 /// Optional headers are skipped, also those of padding (RFC 4326 section 5.3).
 pub fn walk(first_type: u16, bytes: &[u8]) -> Result<Payload<'_>, ExtFault>

@@ -1,7 +1,7 @@
-//! Extension headers of ULE (RFC 4326 section 5), which GSE has too, and the datagram behind them.
+//! Extension headers of ULE (RFC 4326 section 5), which GSE has too, and the datagram after them.
 //!
 //! Receiving: ule_unit or gse_reassembly -> [ule_extension] -> datagram. Sending writes none.
-//! Begin with `datagram`; `walk` answers what stands behind the headers, and `bridged` an Ethernet frame.
+//! Begin with `datagram`; `walk` answers what stands after the headers, and `bridged` an Ethernet frame.
 #![tactic(auto)]
 
 mod chain;

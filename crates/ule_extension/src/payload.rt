@@ -1,6 +1,6 @@
-//! What stands behind a chain of extension headers: a datagram, or a bridged Ethernet frame.
+//! What stands after a chain of extension headers: a datagram, or a bridged Ethernet frame.
 //!
-//! A first Type and the bytes behind it come in; the datagram or the frame goes out, lent.
+//! A first Type and the bytes after it come in; the datagram or the frame goes out, lent.
 
 ghost use Rattle.std.specs.Prelude.{◌≡◌, ◌≤◌, Some, None, length, IfOk, MatchOption, MatchResult};
 ghost use Rattle.std.specs.Result.{result_err};
@@ -12,14 +12,14 @@ ghost use Rattle.wire_spec.specs.Datagram.{datagram_of_type};
 use crate::chain::{BRIDGED, ExtFault, follow, walk};
 use ip_datagram::{IpFault, front};
 
-/// Why no datagram stands behind a chain, in the order of the tests.
+/// Why no datagram stands after a chain, in the order of the tests.
 #[derive(Clone, Copy, Debug, PartialEq, Eq)]
 pub enum PayloadFault {
     /// The chain leads to no EtherType.
     Extension(ExtFault),
     /// The EtherType is neither 0x0800 nor 0x86DD.
     NotIp,
-    /// The bytes behind it begin with no datagram, or with one of the other version.
+    /// The bytes after it begin with no datagram, or with one of the other version.
     Datagram(IpFault),
 }
 
@@ -32,9 +32,9 @@ const ETHER_TYPE_IPV6: u16 = 0x86DD;
 /// The least Ethernet frame: two addresses of 6 bytes and a Type or Length (RFC 4326 section 5.2).
 const LEAST_FRAME: usize = 14;
 
-/// Lends the datagram behind the chain that `first_type` begins; `bytes` are all behind that Type.
+/// Lends the datagram after the chain that `first_type` begins; `bytes` are all after that Type.
 ///
-/// Profile: bytes behind the datagram are free.
+/// Profile: bytes after the datagram are free.
 pub fn datagram(first_type: u16, bytes: &[u8]) -> Result<&[u8], PayloadFault>
     ensures read { MatchResult result (λ d. datagram_at (chain_end first_type bytes.now) ≡ Some d.now) (λ _. datagram_at (chain_end first_type bytes.now) ≡ None) }
     ensures refused { payload_refusal (chain_end first_type bytes.now) ≡ result_err result }
@@ -69,7 +69,7 @@ fn datagram_of(ether_type: u16, bytes: &[u8]) -> Result<&[u8], PayloadFault>
     }
 }
 
-/// Lends the bridged Ethernet frame behind the optional headers (RFC 4326 section 5.2).
+/// Lends the bridged Ethernet frame after the optional headers (RFC 4326 section 5.2).
 ///
 /// None: the chain does not end in Type 0x0001, or fewer than 14 bytes follow that.
 pub fn bridged(first_type: u16, bytes: &[u8]) -> Option<&[u8]>

@@ -74,7 +74,7 @@ fn datagrams_are_lent_and_each_fault_is_named(rt: HostRuntime) {
     }
 }
 
-/// RFC 4326 section 5.2: a frame of at least an Ethernet header stands behind Type 1.
+/// RFC 4326 section 5.2: a frame of at least an Ethernet header stands after Type 1.
 #[test]
 fn frames_are_lent(rt: HostRuntime) {
     let mut behind = [0u8; 16];

@@ -30,11 +30,11 @@ not_both : (x y : ℕ) (b : Bool) → x * 256 + y < 65535 → (x == 0xFF) ≡ b 
 not_both x y false below e = refl
 not_both x y true below e = ne_eqb y 0xFF (λ h. omega (arith, eqb-true x 0xFF e))
 
--- a number in two bytes, with more behind it
+-- a number in two bytes, with more after it
 abbrev numbered : ℕ → List ℕ → List ℕ
 numbered n tail = n / 256 % 256 ∷ n % 256 ∷ tail
 
--- the span that it tells, where Length has room for what stands behind Type at least
+-- the span that it tells, where Length has room for what stands after Type at least
 span_of_numbered : (n size : ℕ) (lacks : Bool) (tail : List ℕ) → n < 65535 → nat_le 0x80 (n / 256 % 256) ≡ lacks
     → (if lacks then 4 else 10) ≤ n % 2 ^ 15 → 4 + n % 2 ^ 15 ≡ size → sndu_span (numbered n tail) ≡ whole size
 span_of_numbered n size lacks tail below d least e =
@@ -47,7 +47,7 @@ span_of_numbered n size lacks tail below d least e =
     rw (field, d) (le-ltb (n % 2 ^ 15) (if lacks then 4 else 10) least) in
     rw (two, no_end, room, field) (ap whole e)
 
--- what stands behind Type
+-- what stands after Type
 abbrev behind_type : List ℕ → List ℕ → ℕ → List ℕ
 behind_type address pdu sum = address ++ pdu ++ to_be_bytes w32 sum
 
@@ -74,7 +74,7 @@ sndu_span-sndu_bytes (Some npa) first_type pdu rest writable =
     span_of_numbered n (length (sndu_bytes (Some npa) first_type pdu)) false (drop 2 (sndu_bytes (Some npa) first_type pdu ++ rest)) (omega arith) (has_no_d n (omega arith)) (omega arith)
     (omega (arith, length-sndu_bytes (Some npa) first_type pdu))
 
--- a place behind a front
+-- a place after a front
 at_behind : (front back : List ℕ) (place n : ℕ) → place ≡ length front + n → slice_index (front ++ back) place ≡ slice_index back n
 at_behind front back place n e = ap (λ (k : ℕ). slice_index (front ++ back) k) e ∙ get_or-append-add front back n 0
 

@@ -9,7 +9,7 @@ use Rattle.ts_spec.specs.Sndu.{sndu_span, sndu_form}
 abbrev length_of : ℕ → ℕ → ℕ
 length_of first second = (first * 256 + second) % 2 ^ 15
 
--- what stands behind Type at least
+-- what stands after Type at least
 abbrev least_of : Bool → ℕ
 least_of lacks = if lacks then 4 else 10
 

@@ -67,7 +67,7 @@ pub(crate) fn has_its_crc(unit: &[u8]) -> bool
 }
 
 /// SNDUs as units of a transport stream: D and Length, 2 bytes, stand in the first packet (RFC 4326 section 6), and the
-/// longest has 32,767 bytes behind its Type (section 4.2).
+/// longest has 32,767 bytes after its Type (section 4.2).
 pub struct UleForm;
 
 impl UnitForm for UleForm {

@@ -12,14 +12,14 @@ use crate::form::{ADDRESS, CRC, D, HEAD, NO_ADDRESS, has_its_crc, span_of};
 use crc_unit::crc32;
 use unit_stream::Span;
 
-/// An SNDU: its NPA address, its Type, and what stands behind these and before the CRC-32.
+/// An SNDU: its NPA address, its Type, and what stands after these and before the CRC-32.
 #[derive(Clone, Copy, Debug, PartialEq, Eq)]
 pub struct Sndu<'a> {
     /// The destination's address, where there is one (RFC 4326 section 4.5).
     pub npa: Option<[u8; 6]>,
     /// Type: an EtherType from 1536 on, below it an extension header's (RFC 4326 section 4.4).
     pub first_type: u16,
-    /// The extension headers behind the first Type, and the PDU.
+    /// The extension headers after the first Type, and the PDU.
     pub bytes: &'a [u8],
 }
 
@@ -45,7 +45,7 @@ fn is_whole(unit: &[u8]) -> bool
 
 /// Reads one whole SNDU, from D to the end of its CRC-32.
 ///
-/// `bytes` is lent out of the unit: bytes 4 or, behind an address, 10 on, up to the CRC-32.
+/// `bytes` is lent out of the unit: bytes 4 or, after an address, 10 on, up to the CRC-32.
 pub fn read(unit: &[u8]) -> Result<Sndu<'_>, UleFault>
     ensures only { is_ok result ≡ is_sndu unit.now }
     ensures read { IfOk result (λ s. fields_in s ≡ sndu_fields unit.now) }
@@ -104,7 +104,7 @@ fn fields_of(unit: &[u8]) -> Sndu<'_>
 /// Writes the SNDU with this address, Type and datagram to the front of `into`; answers its length.
 ///
 /// A datagram has at most 32,757 bytes, since Length counts an address and the CRC-32 beside it
-/// (RFC 4326 section 4.2). No extension header is written. What stands behind in `into` stays.
+/// (RFC 4326 section 4.2). No extension header is written. What stands after in `into` stays.
 pub fn write(npa: Option<[u8; 6]>, ether_type: u16, datagram: &[u8], into: &mut [u8]) -> usize
     requires size { length datagram.now ≤ 32757 }
     requires room { length datagram.now + 14 ≤ length into.old }

@@ -59,7 +59,7 @@ fn fields_are_read_and_each_fault_is_named(rt: HostRuntime) {
     assert_eq!(rt; read_checked(&long), None);
 }
 
-/// The same SNDUs are written of their fields, and no byte behind them.
+/// The same SNDUs are written of their fields, and no byte after them.
 #[test]
 fn the_same_bytes_are_written(rt: HostRuntime) {
     let mut into = [0xEE; 80];

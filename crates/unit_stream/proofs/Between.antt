@@ -55,7 +55,7 @@ stands-first bytes = let size : 0 + length bytes - 0 ≡ length bytes = omega ar
 pub end_of-next : (ends : List ℕ) (begun : ℕ) → end_of ends (begun + 1) ≡ get_or ends begun 0
 end_of-next ends begun = ap (end_of ends) (add-one begun)
 
--- the unit behind the first so many
+-- the unit after the first so many
 pub units_from-next : (bytes ends : List ℕ) (from begun : ℕ) → begun < length ends
     → units_from from bytes (drop begun ends) ≡ between bytes from (end_of ends (begun + 1)) ∷ units_from (end_of ends (begun + 1)) bytes (drop (begun + 1) ends)
 units_from-next bytes ends from begun less =
@@ -87,7 +87,7 @@ rising_to start from (end ∷ ends) (suc begun) rising le = rising_to start end 
 pub below_last : (start : ℕ) (ends : List ℕ) (begun : ℕ) → AreRising start 0 ends → begun ≤ length ends → end_of ends begun ≤ end_of ends (length ends)
 below_last start ends begun rising le = rising_to start 0 ends begun rising le
 
--- a part ends before the last unit does, and 184 bytes behind those that are out at most
+-- a part ends before the last unit does, and 184 bytes after those that are out at most
 pub part_within : (start : ℕ) (ends : List ℕ) (begun at : ℕ) (part : Part) → AreRising start 0 ends → IsPart ends begun at part
     → part.at ≤ min (at + 184) (end_of ends (length ends))
 part_within start ends begun at part rising is = by_start part.starts is.room

@@ -1,4 +1,4 @@
--- Bytes put behind others in a buffer.
+-- Bytes put after others in a buffer.
 use Rattle.std.proofs.Common.{◌≡◌, ℕ, ◌+◌, ◌-◌, ◌<◌, ◌≤◌, min, true, List, [], ◌∷◌, ◌++◌, length, take, drop, replicate, append_assoc, length-drop, ap, sym, ◌∙◌, arith}
 use Rattle.std.proofs.Math.ListN.{set}
 use Rattle.std.proofs.lemmas.List.{append-nil, length-set, length-take-le, take_min, take_at, take_more_set, drop_at, drop_all}
@@ -7,7 +7,7 @@ use Rattle.std.proofs.Math.Seq.{take-append-add}
 use borrow.Rule.Slice.PartMut.{put_mid, mid_of}
 use Rattle.unit_stream.specs.Parts.{payload_with}
 
--- the front of a buffer, with as much of a piece behind it as there is room for
+-- the front of a buffer, with as much of a piece after it as there is room for
 pub append_is : (buffer piece put : List ℕ) (size count k : ℕ) → size ≤ length buffer → count ≡ min (length piece) (length buffer - size)
     → put ≡ take count piece → take (size + count) (put_mid size k buffer put) ≡ take (length buffer) (take size buffer ++ piece)
 append_is buffer piece put size count k fits is put_is =
@@ -24,7 +24,7 @@ append_is buffer piece put size count k fits is put_is =
 pub copy_is : (put bytes behind : List ℕ) → put ≡ bytes → take (length bytes) (put ++ behind) ≡ bytes
 copy_is put bytes behind same = take_at put behind (length bytes) (ap length same) ∙ same
 
--- a number and bytes behind it, written to the end of a buffer
+-- a number and bytes after it, written to the end of a buffer
 number_put : (at k : ℕ) (old put : List ℕ) (x : ℕ) → at < length old → length old ≤ at + 1 + k
     → put_mid (at + 1) k (set old at x) put ≡ take at old ++ x ∷ put
 number_put at k old put x within room =

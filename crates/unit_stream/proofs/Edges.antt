@@ -9,7 +9,7 @@ pub edge-zero : (packets : List PacketFields) → edge packets 0 ≡ 0
 unfolding edge
 edge-zero packets = refl
 
--- a unit ends at a place, and the next one begins at another: at once, or behind stuffing
+-- a unit ends at a place, and the next one begins at another: at once, or after stuffing
 abbrev pub Follows : List PacketFields → ℕ → ℕ → Type 0
 Follows packets end next = (next ≡ end) ⊎ IsStuffed packets end next
 
@@ -35,7 +35,7 @@ module _ (p : PacketFields) (packets : List PacketFields) where
   only_first zero place here less = refl
   only_first (suc m) place here less = absurd (omega (arith, here.from, edge-suc m))
 
-  -- a place behind it
+  -- a place after it
   pub in_later : (m place : ℕ) → IsIn packets m place → IsIn (p ∷ packets) (suc m) (length (unit_bytes p) + place)
   in_later m place here = record { within = omega (arith, here.within); from = omega (arith, here.from, edge-suc m); below = omega (arith, here.below, edge-suc_next m) }
 
@@ -45,7 +45,7 @@ module _ (p : PacketFields) (packets : List PacketFields) where
   pub later_from : (m place : ℕ) → IsIn (p ∷ packets) (suc m) place → length (unit_bytes p) ≤ place
   later_from m place here = omega (arith, here.from, edge-suc m)
 
-  -- stuffing behind it
+  -- stuffing after it
   pub stuffed_later : (end next : ℕ) → IsStuffed packets end next → IsStuffed (p ∷ packets) (length (unit_bytes p) + end) (length (unit_bytes p) + next)
   stuffed_later end next so = record {
     last = suc so.last;
@@ -86,7 +86,7 @@ module _ (p : PacketFields) (packets : List PacketFields) where
   pub follows_first : (front : List ℕ) (room : ℕ) → unit_bytes p ≡ front ++ replicate room 0xFF → 1 ≤ length front → Follows (p ∷ packets) (length front) (length (unit_bytes p))
   follows_first front room bytes some = inr (stuffed_first front room bytes some)
 
-  -- bytes behind it
+  -- bytes after it
   pub bytes_later : (size place : ℕ) → take size (drop (length (unit_bytes p) + place) (joined (p ∷ packets))) ≡ take size (drop place (joined packets))
   bytes_later size place =
       ap (take size)

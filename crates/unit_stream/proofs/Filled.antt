@@ -15,7 +15,7 @@ same_filling : (a b rest rest2 : List ℕ) (units units2 : List (List ℕ)) → 
 same_filling a b rest rest2 units units2 p q r =
     ap (λ (t : List ℕ). make t rest units) p ∙ ap (λ (t : List ℕ). make b t units) q ∙ ap (make b rest2) r
 
--- one unit more in front of what stands behind
+-- one unit more in front of what stands after
 behind-behind : (front unit : List ℕ) (filling : Filling) → behind_unit front (behind_unit unit filling) ≡ behind_unit (front ++ unit) filling
 behind-behind front unit filling = ap (λ (t : List ℕ). record { bytes = t; rest = filling.rest; units = filling.units }) (sym (append_assoc front unit filling.bytes))
 

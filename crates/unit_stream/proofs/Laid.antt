@@ -29,7 +29,7 @@ pub record IsPointed (packets : List PacketFields) (count : ℕ) (begins : List 
   pub first : (k : ℕ) → k < count → IsIn packets m (begin_at begins k) → begin_at begins n ≤ begin_at begins k
   pub pointer_is : edge packets m + pointer (packet_at packets m) ≡ begin_at begins n
 
--- the packets carry the rest of a unit and the units behind it
+-- the packets carry the rest of a unit and the units after it
 pub record AreLaid (start : ℕ) (rest : List ℕ) (units : List (List ℕ)) (packets : List PacketFields) (begins : List ℕ) : Type 0 where
   pub count : length begins ≡ length units + 1
   pub rest_bytes : take (length rest) (joined packets) ≡ rest
@@ -52,7 +52,7 @@ pub record BeginIn (start : ℕ) (p : PacketFields) (packets : List PacketFields
   pub next_is : 1 ≤ from → Follows (p ∷ packets) from (begin_at (front ++ map (λ b. length (unit_bytes p) + b) begins) 0)
 
 module _ (start : ℕ) (p : PacketFields) (packets : List PacketFields) where
-  -- with the places behind the first packet
+  -- with the places after the first packet
   abbrev shifted : List ℕ → List ℕ
   shifted begins = map (λ b. length (unit_bytes p) + b) begins
 
@@ -63,7 +63,7 @@ module _ (start : ℕ) (p : PacketFields) (packets : List PacketFields) where
   begin_first : (begins : List ℕ) → 1 ≤ length begins → begin_at (shifted begins) 0 ≡ length (unit_bytes p) + begin_at begins 0
   begin_first begins some = get_or-map (λ b. length (unit_bytes p) + b) begins 0 0 0 (omega arith)
 
-  -- a unit of the packets behind
+  -- a unit of the packets after
   laid_later : (begin next : ℕ) (unit : List ℕ) → IsLaid start packets begin next unit → IsLaid start (p ∷ packets) (length (unit_bytes p) + begin) (length (unit_bytes p) + next) unit
   laid_later begin next unit so = record {
     bytes = bytes_later p packets (length unit) begin ∙ so.bytes;
@@ -101,7 +101,7 @@ module _ (start : ℕ) (p : PacketFields) (packets : List PacketFields) where
       ∙ ap (take (length unit)) (append_assoc unit behind (joined packets))
       ∙ take_at unit (behind ++ joined packets) (length unit) refl
 
-  -- the bytes of a unit that goes on behind it
+  -- the bytes of a unit that goes on after it
   cut_bytes : (pre unit : List ℕ) (room : ℕ) → unit_bytes p ≡ pre ++ take room unit → room < length unit → take (length (drop room unit)) (joined packets) ≡ drop room unit
       → take (length unit) (drop (length pre) (joined (p ∷ packets))) ≡ unit
   cut_bytes pre unit room bytes over rest =
@@ -133,7 +133,7 @@ module _ (start : ℕ) (p : PacketFields) (packets : List PacketFields) where
         subst (λ (e : ℕ). Follows (p ∷ packets) (length pre) e) (sym next) (follows_first p packets pre room bytes some);
   }
 
-  -- the first unit begins at its place, the others behind it
+  -- the first unit begins at its place, the others after it
   begin_more : (pre unit : List ℕ) (units left : List (List ℕ)) (front begins : List ℕ) → p.starts ≡ true → 1 ≤ start → start ≤ length unit
       → (behind : List ℕ) → unit_bytes p ≡ pre ++ (unit ++ behind) → BeginIn start p packets (length pre + length unit) units left front begins
       → BeginIn start p packets (length pre) (unit ∷ units) left (length pre ∷ front) begins
@@ -269,7 +269,7 @@ module _ (start : ℕ) (p : PacketFields) (packets : List PacketFields) where
     none = λ _ no_units. absurd (omega arith);
   }
     where
-      -- the units behind the first ones
+      -- the units after the first ones
       later_begin : (n : ℕ) → length front ≤ n → n < length units + 1 → begin_at (front ++ shifted begins) n ≡ length (unit_bytes p) + begin_at begins (n - length front)
       later_begin n past less =
           let place : n ≡ length front + (n - length front) = omega arith in
@@ -377,7 +377,7 @@ module _ (start : ℕ) (p : PacketFields) (packets : List PacketFields) where
       ended : length rest ≤ 184 → unit_bytes p ≡ rest ++ replicate (184 - length rest) 0xFF
       ended le = bytes ∙ ap (λ (t : List ℕ). t ++ replicate (184 - length rest) 0xFF) (take_all 184 rest le)
 
-      -- it goes on behind it
+      -- it goes on after it
       goes_on : 184 < length rest → unit_bytes p ≡ take 184 rest
       goes_on over =
           let none : 184 - length rest ≡ 0 = omega arith in

@@ -1,4 +1,4 @@
--- The packets of the rest of a unit and the units behind it, one from another.
+-- The packets of the rest of a unit and the units after it, one from another.
 use Rattle.std.proofs.Common.{◌≡◌, ℕ, zero, suc, ◌+◌, ◌-◌, ◌≤◌, Bool, true, false, cond, ◌&&◌, ◌||◌, leb, eqb, List, [], ◌∷◌, ◌++◌, take, drop, length, refl, ap, ◌∙◌, arith, length-drop}
 use Rattle.reassembly_law.proofs.Outcomes.{true_leb, false_leb}
 use Rattle.unit_stream.proofs.Numbers.{eqb_zero, not_zero}

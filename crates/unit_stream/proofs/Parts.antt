@@ -8,7 +8,7 @@ use Rattle.unit_stream.specs.Parts.{part_piece, NextPart, Fills}
 use Rattle.unit_stream.proofs.Between.{length-between, between-append, take-between, drop-between, units_from-next, units_from-none, below_last}
 use Rattle.unit_stream.proofs.Left.{AreLong, left, left_none, left_begin, left_middle}
 
--- The units behind some have enough bytes each.
+-- The units after some have enough bytes each.
 
 rising_drop : (start from : ℕ) (ends : List ℕ) (begun : ℕ) → AreRising start from ends → begun ≤ length ends → AreRising start (get_or (from ∷ ends) begun 0) (drop begun ends)
 rising_drop start from ends zero rising le = rising

@@ -137,7 +137,7 @@ module _ (form : UnitForm) (lawful : IsLawful form) where
         goes_open unit packet plain (take size buffer) held good
         (ap (λ (t : Span). is_told t (length (take size buffer))) (sym told) ∙ ap (is_told s) (length-take-le size buffer fits) ∙ untold)
 
--- what is put behind a unit, as far as the longest unit goes
+-- what is put after a unit, as far as the longest unit goes
 pub held_is : (old new piece payload : List ℕ) (size count longest told_longest : ℕ) → take count new ≡ take (length old) (take size old ++ piece)
     → length old ≡ told_longest → longest ≡ told_longest → payload ≡ piece → take count new ≡ take longest (take size old ++ payload)
 held_is old new piece payload size count longest told_longest put room same payload_is =

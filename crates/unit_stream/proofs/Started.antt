@@ -82,7 +82,7 @@ module _ (form : UnitForm) (lawful : IsLawful form) (packet : PacketFields) (pla
         falls = λ _. omega arith;
       }
 
-  -- a unit of which all bytes lie there: reading goes on behind it
+  -- a unit of which all bytes lie there: reading goes on after it
   pub reads_within : (size : ℕ) → form.start ≤ length bytes → form.span bytes ≡ whole size → size ≤ length bytes
       → Reads form packet place (Some (cond (form.check (take size bytes)) (unit_event place.moment (take size bytes)) bad_check_event)) (reading (record { moment = place.moment; at = place.at + size }))
   reads_within size enough told within =

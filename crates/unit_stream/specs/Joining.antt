@@ -31,7 +31,7 @@ abbrev pub events_from : UnitForm → PacketFields → Place → List Event
 events_from form packet place =
     flat_map (λ start. event_by form place.moment (outcome_of form (bytes_from start packet []))) (starts_from form packet.payload place.at)
 
--- the unit under way behind the starts from a place on
+-- the unit under way after the starts from a place on
 abbrev pub open_from : UnitForm → PacketFields → Place → List Open
 open_from form packet place =
     flat_map (λ start. unless_told form place.moment (bytes_from start packet []).payloads) (starts_from form packet.payload place.at)
@@ -76,7 +76,7 @@ packets_with Next packets next = packets ++ next ∷ []
 packets_with Gap packets next = packets ++ next ∷ []
 packets_with Repeat packets next = packets
 
--- what holds behind an answer: one event more is given, or all were given before
+-- what holds after an answer: one event more is given, or all were given before
 abbrev pub AfterNext : UnitForm → JoinerState → PacketFields → List Arrival → List Event → Option Event → Type 0
 AfterNext form state packet packets given (Some event) = IsGiving form state packet packets (given ++ event ∷ [])
 AfterNext form state packet packets given None = Stands form state packets × (given ≡ events_of form packets)

@@ -4,7 +4,7 @@ use Rattle.std.specs.Prelude.{ℕ, zero, suc, ◌+◌, ◌-◌, ◌%◌, Bool, t
 use Rattle.ts_spec.specs.Form.{UnitForm}
 use Rattle.ts_spec.specs.Packet.{PacketFields}
 
--- what stands in a packet behind the end of the unit before: its bytes, what is left of the unit that goes on
+-- what stands in a packet after the end of the unit before: its bytes, what is left of the unit that goes on
 -- in the next packet, and the units that begin in later packets
 pub record Filling : Type 0 where
   pub bytes : List ℕ
@@ -35,7 +35,7 @@ pub record Piece : Type 0 where
   pub payload : List ℕ
 
 -- the next unit may begin in a packet that carries the rest of the one before: where nothing is left of that,
--- or packing is on and the rest leaves room for its first bytes behind the pointer
+-- or packing is on and the rest leaves room for its first bytes after the pointer
 abbrev pub may_begin : ℕ → Bool → List ℕ → List (List ℕ) → Bool
 may_begin start packing rest [] = false
 may_begin start packing rest (unit ∷ units) = (length rest == 0) || (packing && nat_le (length rest + start) 183)
@@ -49,7 +49,7 @@ begin_piece rest filling next =
 abbrev pub middle_piece : List ℕ → Piece
 middle_piece rest = record { starts = false; payload = take 184 rest ++ replicate (184 - length rest) 0xFF }
 
--- the packets of the rest of a unit and the units behind it, at most so many
+-- the packets of the rest of a unit and the units after it, at most so many
 abbrev pub pieces : ℕ → ℕ → Bool → List ℕ → List (List ℕ) → List Piece
 pieces zero start packing rest units = []
 pieces (suc most) start packing rest units =

@@ -4,7 +4,7 @@ use Rattle.unit_stream.specs.declared.packer.Part.{Part}
 use Rattle.unit_stream.specs.Packing.{filled, Piece}
 use Rattle.unit_stream.specs.Packers.{between, units_from, end_of, pieces_left}
 
--- a payload with these bytes, behind a pointer where a unit begins in it
+-- a payload with these bytes, after a pointer where a unit begins in it
 abbrev pub payload_with : Bool → ℕ → List ℕ → List ℕ
 payload_with starts pointer bytes =
     if starts
@@ -37,7 +37,7 @@ pub record Fills (start : ℕ) (packing : Bool) (room : ℕ) (ends : List ℕ) (
         units = units_from (end_of ends part.begun) bytes (drop part.begun ends);
       }
 
--- the part lies behind the bytes that are out, and within the units that have begun
+-- the part lies after the bytes that are out, and within the units that have begun
 pub record IsPart (ends : List ℕ) (begun at : ℕ) (part : Part) : Type 0 where
   pub count : part.begun ≤ length ends
   pub from : at < part.at

@@ -26,7 +26,7 @@ pub record Closes (form : UnitForm) (unit : Open) (packet : PacketFields) (place
   pub events : left_events form packet state ≡ resumed form true packet unit ++ rest_events form packet place
   pub under_way : left_open form packet state ≡ rest_open form packet place
 
--- any packet, behind a unit under way or none
+-- any packet, after a unit under way or none
 pub record IsFed (form : UnitForm) (is_continuous : Bool) (under_way : List Open) (moment : ℕ) (packet : PacketFields) (state : JoinerState) : Type 0 where
   pub events : left_events form packet state
       ≡ flat_map (resumed form is_continuous packet) under_way

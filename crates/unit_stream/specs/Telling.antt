@@ -6,7 +6,7 @@ use Rattle.ts_spec.specs.Received.{Arrival}
 use Rattle.ts_spec.specs.Events.{Event, events_of}
 use Rattle.unit_stream.specs.Joining.{JoinerState, Stands, IsGiving}
 
--- what was told is all that the joiner gave, behind what was told before
+-- what was told is all that the joiner gave, after what was told before
 pub record IsTelling (form : UnitForm) (joiner : JoinerState) (packet : PacketFields) (packets : List Arrival) (before told : List Event) : Type 0 where
   pub given : List Event
   pub gives : IsGiving form joiner packet packets given

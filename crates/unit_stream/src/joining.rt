@@ -81,7 +81,7 @@ pub(crate) fn read_pointer(packet: &Packet<'_>) -> Front
     }
 }
 
-/// Puts `piece` behind the first `size` bytes of the buffer, as far as there is room; how many bytes
+/// Puts `piece` after the first `size` bytes of the buffer, as far as there is room; how many bytes
 /// there are then.
 fn append(buffer: &mut [u8], size: usize, piece: &[u8]) -> usize
     requires { size ≤ length buffer.old }
@@ -203,7 +203,7 @@ fn take_start<F: UnitForm>(
     }
 }
 
-/// Takes the next packet behind a unit under way, or none.
+/// Takes the next packet after a unit under way, or none.
 pub(crate) fn take_packet<F: UnitForm>(
     buffer: &mut [u8],
     under_way: Option<UnderWay>,

@@ -14,10 +14,10 @@ const HEADER: usize = 4;
 /// Bytes of a payload (clause 2.4.3.2).
 const PAYLOAD: usize = 184;
 
-/// Bytes of a payload behind pointer_field (clause 2.4.4.2).
+/// Bytes of a payload after pointer_field (clause 2.4.4.2).
 const BEHIND_POINTER: usize = 183;
 
-/// The byte that fills a packet behind the last unit that ends in it (clause 2.4.4).
+/// The byte that fills a packet after the last unit that ends in it (clause 2.4.4).
 const STUFFING: u8 = 0xFF;
 
 /// Values of continuity_counter (clause 2.4.3.3).
@@ -28,9 +28,9 @@ const COUNTERS: u8 = 16;
 struct Part {
     /// Whether a unit begins in it.
     starts: bool,
-    /// How many units have begun behind it.
+    /// How many units have begun after it.
     begun: usize,
-    /// How many bytes of all units are out behind it.
+    /// How many bytes of all units are out after it.
     at: usize,
 }
 
@@ -42,7 +42,7 @@ fn end_of_unit(ends: &[usize], begun: usize) -> usize
     if begun == 0 { 0 } else { ends[begun - 1] }
 }
 
-/// What a packet carries in which the unit behind the first `begun` begins, with so much room.
+/// What a packet carries in which the unit after the first `begun` begins, with so much room.
 fn fill<F: UnitForm>(ends: &[usize], begun: usize, room: usize, packing: bool) -> Part
     requires count { begun ≤ length ends.now }
     requires rising { AreRising F.START 0 ends.now }
@@ -108,7 +108,7 @@ fn next_part<F: UnitForm>(ends: &[usize], begun: usize, at: usize, packing: bool
     })
 }
 
-/// Writes to its place in a packet the payload that carries these bytes, behind a pointer where a unit begins in it.
+/// Writes to its place in a packet the payload that carries these bytes, after a pointer where a unit begins in it.
 fn write_payload(into: &mut [u8; 188], starts: bool, pointer: usize, bytes: &[u8])
     requires pointer { starts ≡ true → pointer ≤ 183 }
     requires room { length bytes.now ≤ (if starts then 183 else 184) }
@@ -268,7 +268,7 @@ impl<F: UnitForm> Packer<F> {
     }
 }
 
-/// How many packets carry units that end at `ends`, each START bytes or more behind the one before.
+/// How many packets carry units that end at `ends`, each START bytes or more after the one before.
 pub fn count_packets<F: UnitForm>(ends: &[usize], packing: bool) -> u64
     requires { AreRising F.START 0 ends.now }
     ensures counted { (bytes : List ℕ) (pid counter : ℕ) → end_of ends.now (length ends.now) ≤ length bytes

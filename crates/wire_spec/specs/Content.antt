@@ -26,7 +26,7 @@ no_file = record { name = []; bytes = []; flushed = 0 }
 abbrev pub empty_file : List ℕ → File
 empty_file name = record { name = name; bytes = []; flushed = 0 }
 
--- the file with these bytes behind its own
+-- the file with these bytes after its own
 abbrev pub grown : File → List ℕ → File
 grown file bytes = record { name = file.name; bytes = file.bytes ++ bytes; flushed = file.flushed }
 
@@ -34,7 +34,7 @@ grown file bytes = record { name = file.name; bytes = file.bytes ++ bytes; flush
 abbrev pub flushed_file : File → File
 flushed_file file = record { name = file.name; bytes = file.bytes; flushed = length file.bytes }
 
--- one more file stands behind those that were there
+-- one more file stands after those that were there
 abbrev pub AddsFile : Option (List File) → Option (List File) → File → Type 0
 AddsFile None new file = ⊤
 AddsFile (Some files) None file = ⊥

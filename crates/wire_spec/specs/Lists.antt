@@ -12,7 +12,7 @@ IsSubsequence [] ys = Unit {0}
 IsSubsequence (x ∷ xs) [] = ⊥
 IsSubsequence (x ∷ xs) (y ∷ ys) = ((x ≡ y) × IsSubsequence xs ys) ⊎ IsSubsequence (x ∷ xs) ys
 
--- bytes cut into pieces of one size, and the shorter rest behind them
+-- bytes cut into pieces of one size, and the shorter rest after them
 pub record IsCut (size : ℕ) (bytes : List ℕ) (pieces : List (List ℕ)) (tail : List ℕ) : Type 0 where
   pub whole : bytes ≡ joined pieces ++ tail
   pub each : All (λ piece. length piece ≡ size) pieces

@@ -1,4 +1,4 @@
--- A pair that is right gives its entry, and those behind it are left.
+-- A pair that is right gives its entry, and those after it are left.
 use Rattle.std.proofs.Common.{◌≡◌, ◌++◌, List, ℕ, None, Some, drop, ap, sym, ◌∙◌}
 use Rattle.addr_rules.specs.declared.rules.Rule.{Rule}
 use Rattle.int_spec.specs.Table.{EntryFields}

@@ -1,4 +1,4 @@
--- A right pair of the known network, and those behind it decide.
+-- A right pair of the known network, and those after it decide.
 use Rattle.std.proofs.Common.{sym, ◌∙◌}
 use Rattle.int_table.specs.Pieces.{pieces_of}
 use Rattle.int_table.proofs.LoopLemmas.{pairs_from}

@@ -9,7 +9,7 @@ use Rattle.int_table.specs.Views.{entry_in}
 use Rattle.int_table.proofs.Puts.{puts_join, puts_same}
 use Rattle.int_table.proofs.writing.put_operational.Goals as goal
 
--- a head and a location, and what stands behind them, are the loop
+-- a head and a location, and what stands after them, are the loop
 whole_loop : (table : TableFields) (entry : EntryFields) (size : ℕ) (head location behind : List ℕ) → head ≡ to_be_bytes w16 (0xF000 + size)
     → size ≡ length (operational_bytes table entry) → location ≡ descriptor_bytes stream_location (location_bytes table entry)
     → behind ≡ slices_bytes entry.slices → (head ++ location) ++ behind ≡ loop_bytes (operational_bytes table entry)

@@ -1,4 +1,4 @@
--- A payload written behind a header makes the packet.
+-- A payload written after a header makes the packet.
 use Rattle.std.proofs.Common.{◌≡◌, ℕ, ◌≤◌, Bool, List, ◌++◌, length, drop, length-drop, ap, ◌∙◌, arith}
 use Rattle.std.proofs.lemmas.List.{append-nil, drop_all}
 use borrow.Rule.Slice.PartMut.{put_mid}

@@ -1,4 +1,4 @@
--- Each piece is put behind those before it.
+-- Each piece is put after those before it.
 use Rattle.std.proofs.Common.{◌≡◌, ℕ, ◌+◌, List, [], ◌++◌, length, drop, refl, ap, ◌∙◌, length-append, arith}
 use Rattle.std.specs.Int.{w16, to_be_bytes}
 use Rattle.ule_unit.proofs.Puts.{put_behind}
