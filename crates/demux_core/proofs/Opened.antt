@@ -8,8 +8,8 @@ use Rattle.ts_spec.specs.Recording.{Record}
 use Rattle.plan_spec.specs.Plan.{ServiceFields, PlanFields, is_baseband}
 use Rattle.plan_spec.specs.Checks.{has_wrong_carrier, has_same_name, has_same_pid, is_between}
 use Rattle.plan_spec.specs.Valid.{most_services, is_valid_frame_size, is_valid_int, has_valid_top, is_in_range, is_consistent, is_plan_of_settings, is_plan_of_pid, is_plan}
-use Rattle.service_plan.specs.Parts.{kind_seen, service_seen}
-use Rattle.service_plan.specs.declared.service.Service.{Service}
+use Rattle.plan.specs.Parts.{kind_seen, service_seen}
+use Rattle.plan.specs.declared.service.Service.{Service}
 use Rattle.demux_core.specs.Receiving.{is_built}
 use Rattle.demux_core.specs.Services.{HasReceivedOne, HaveReceived}
 use Rattle.demux_core.specs.declared.service.ServiceReceiver.{ServiceReceiver}

@@ -1,10 +1,10 @@
 //! Which services a receiver knows.
 ghost use Rattle.std.specs.Prelude.{◌≡◌};
-ghost use Rattle.service_plan.specs.Parts.{kind_seen};
-ghost use Rattle.service_plan.specs.PlanView.{plan_fields};
+ghost use Rattle.plan.specs.Parts.{kind_seen};
+ghost use Rattle.plan.specs.PlanView.{plan_fields};
 ghost use Rattle.demux_core.specs.Receiving.{is_built, are_built};
 
-use service_plan::{Kind, Plan};
+use plan::{Kind, Plan};
 
 /// Whether a receiver knows services of this kind.
 fn is_known(kind: &Kind) -> bool

@@ -2,7 +2,7 @@
 ghost use Rattle.std.specs.Prelude.{◌≡◌, ℕ, ◌^◌, ◌<◌, ◌≤◌, true, List, [], ◌∷◌, ◌++◌, length, IfOk, OnOk, OnErr};
 ghost use Rattle.wire_spec.specs.Causes.{HasCause};
 ghost use Rattle.ts_spec.specs.Recording.{Record};
-ghost use Rattle.service_plan.specs.PlanView.{plan_fields};
+ghost use Rattle.plan.specs.PlanView.{plan_fields};
 ghost use Rattle.reception_spec.specs.Packets.{is_pid_of};
 ghost use Rattle.reception_spec.specs.Delivered.{pairs_of_record};
 ghost use Rattle.service_reception.specs.Reception.{packet_record};
@@ -14,7 +14,7 @@ use crate::service::ServiceReceiver;
 use crate::services::place_of;
 use crate::table::{TableReceiver, take_for_table};
 use ipe_io::{Failed, Outlet};
-use service_plan::Plan;
+use plan::Plan;
 use ts_packet::Packet;
 
 /// Takes a packet, delivers what ends in it, and says whether its PID is one of the plan.

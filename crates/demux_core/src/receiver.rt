@@ -4,7 +4,7 @@ ghost use Rattle.wire_spec.specs.Causes.{HasCause};
 ghost use Rattle.ts_spec.specs.Recording.{Record as ReadRecord};
 ghost use Rattle.plan_spec.specs.Plan.{ServiceFields, PlanFields};
 ghost use Rattle.ts_record.specs.Reading.{record_seen};
-ghost use Rattle.service_plan.specs.PlanView.{plan_fields};
+ghost use Rattle.plan.specs.PlanView.{plan_fields};
 ghost use Rattle.reception_spec.specs.Numbers.{stream_numbers};
 ghost use Rattle.reception_spec.specs.Delivered.{pairs_of_record};
 ghost use Rattle.reception_spec.specs.Table.{table_section, table_units};
@@ -20,7 +20,7 @@ use crate::table::{TableReceiver, open_table};
 use bumpalo::Bump;
 use ipe_io::{Failed, OutOfMemory, Outlet};
 use loss_report::{ServiceCounts, StreamCounts};
-use service_plan::Plan;
+use plan::Plan;
 use std::marker::Model;
 use ts_record::Record;
 
@@ -36,7 +36,7 @@ pub struct Receiver<'a> {
 
 impl<'a> Model for Receiver<'a> {
     ghost use Rattle.demux_core.specs.Receiving.{ReceiverState};
-    ghost use Rattle.service_plan.specs.PlanView.{plan_fields};
+    ghost use Rattle.plan.specs.PlanView.{plan_fields};
     ghost use Rattle.demux_core.specs.Services.{FitsPlan};
     ghost use Rattle.std.specs.Prelude.{vec_len};
 

@@ -3,7 +3,7 @@ ghost use Rattle.std.specs.Prelude.{◌≡◌, ℕ, ◌<◌, true, List, [], ◌
 ghost use Rattle.wire_spec.specs.Causes.{HasCause};
 ghost use Rattle.ts_spec.specs.Recording.{Record};
 ghost use Rattle.plan_spec.specs.Plan.{ServiceFields};
-ghost use Rattle.service_plan.specs.Parts.{kind_seen};
+ghost use Rattle.plan.specs.Parts.{kind_seen};
 ghost use Rattle.service_reception.specs.Reception.{packet_record, added_by};
 ghost use Rattle.service_reception.specs.Telling.{Told, StopsWithin};
 ghost use Rattle.service_reception.specs.Counting.{on_pid, of_units};
@@ -16,7 +16,7 @@ use addr_rules::MacList;
 use bumpalo::Bump;
 use ipe_io::{Failed, OutOfMemory, Outlet};
 use section_codec::SectionForm;
-use service_plan::Kind;
+use plan::Kind;
 use service_reception::{Counts, Reception};
 use ts_packet::Packet;
 use ule_unit::UleForm;

@@ -1,15 +1,15 @@
 //! The receivers of all services of a plan, in its order.
 ghost use Rattle.std.specs.Prelude.{◌≡◌, ◌==◌, ℕ, ◌<◌, true, List, [], map, Some, IfOk, length};
 ghost use Rattle.std.specs.List.{list_all, position};
-ghost use Rattle.service_plan.specs.Parts.{kind_seen, service_seen};
-ghost use Rattle.service_plan.specs.declared.service.Service.{Service};
+ghost use Rattle.plan.specs.Parts.{kind_seen, service_seen};
+ghost use Rattle.plan.specs.declared.service.Service.{Service};
 ghost use Rattle.demux_core.specs.Receiving.{is_built};
 ghost use Rattle.demux_core.specs.Services.{HaveReceived};
 
 use crate::service::ServiceReceiver;
 use bumpalo::Bump;
 use ipe_io::OutOfMemory;
-use service_plan::ServiceList;
+use plan::ServiceList;
 
 /// The receivers of all services, that were given nothing.
 pub(crate) fn open_services<'a>(

@@ -2,7 +2,7 @@
 ghost use Rattle.std.specs.Prelude.{◌≡◌, ◌==◌, ℕ, ◌^◌, ◌<◌, true, false, List, [], ◌∷◌, ◌++◌, length, option_map, IfOk, Option};
 ghost use Rattle.ts_spec.specs.Recording.{Record};
 ghost use Rattle.plan_spec.specs.Plan.{IntFields};
-ghost use Rattle.service_plan.specs.Parts.{int_seen};
+ghost use Rattle.plan.specs.Parts.{int_seen};
 ghost use Rattle.service_reception.specs.Reception.{packet_record};
 ghost use Rattle.demux_core.specs.Contents.{IsRead};
 ghost use Rattle.demux_core.specs.Services.{HasReceivedInt, is_table_pid};
@@ -10,7 +10,7 @@ ghost use Rattle.demux_core.specs.Services.{HasReceivedInt, is_table_pid};
 use crate::service::zeros;
 use bumpalo::Bump;
 use ipe_io::OutOfMemory;
-use service_plan::IntPlan;
+use plan::IntPlan;
 use service_reception::TableReception;
 use ts_packet::Packet;
 

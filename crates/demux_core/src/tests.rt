@@ -1,6 +1,6 @@
 //! Small recordings of several services: what is delivered, in which order, and every number.
 ghost use Rattle.std.specs.Prelude.{◌≡◌, ◌≤◌, ◌<◌, length};
-ghost use Rattle.service_plan.specs.PlanView.{plan_fields};
+ghost use Rattle.plan.specs.PlanView.{plan_fields};
 
 use crate::by_hand::{INT, NEXT_INT, Part, Seen, record_of};
 use crate::{Receiver, can_receive};

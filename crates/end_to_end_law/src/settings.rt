@@ -5,7 +5,7 @@ ghost use Rattle.wire_spec.specs.Bytes.{AreBytes};
 ghost use Rattle.pcap_file.specs.Told.{Tells};
 ghost use Rattle.pcap_file.specs.declared.faults.CaptureFault.{CaptureFault};
 ghost use Rattle.plan_spec.specs.Plan.{PlanFields, kinds};
-ghost use Rattle.plan_spec.specs.Refusal.{IsAccepted};
+ghost use Rattle.settings_spec.specs.Refusal.{IsAccepted};
 ghost use Rattle.stream_law.specs.Words.{is_of_units};
 ghost use Rattle.end_to_end_law.specs.Sent.{IsSent};
 

@@ -7,8 +7,8 @@ use Rattle.wire_spec.specs.Content.{File, Stays}
 use Rattle.ipe_io.specs.Counts.{IsFlushed}
 use Rattle.ipe_io.specs.Told.{InputTold, OutputTold, ShelfTold, RackTold}
 use Rattle.plan_spec.specs.Plan.{PlanFields}
-use Rattle.settings_file.specs.Settings.{Refusal, IsAcceptedFile, IsRefusedFile}
-use Rattle.settings_file.specs.Lines.{check_text}
+use Rattle.settings_load.specs.Settings.{Refusal, IsAcceptedFile, IsRefusedFile}
+use Rattle.settings_load.specs.Lines.{check_text}
 use Rattle.receive_command.specs.Files.{AddsFiles}
 use Rattle.receive_command.proofs.Adding.{adds_none}
 use Rattle.ipencap_engine.specs.Statuses.{status_line}

@@ -3,9 +3,9 @@ use Rattle.std.proofs.Common.{◌≡◌, ℕ, true, List, [], ◌∷◌, refl, a
 use Rattle.std.proofs.lemmas.Option.{none-some}
 use Rattle.std.specs.List.{list_all}
 use Rattle.plan_spec.specs.Plan.{KindFields, ule, mpe, fec, gse, PlanFields}
-use Rattle.plan_spec.specs.Keys.{SettingsFault}
+use Rattle.settings_spec.specs.Keys.{SettingsFault}
 use Rattle.ipe_io.specs.Told.{ShelfTold}
-use Rattle.settings_file.specs.Settings.{Refusal, refused, IsAcceptedFile, IsRefusedFile}
+use Rattle.settings_load.specs.Settings.{Refusal, refused, IsAcceptedFile, IsRefusedFile}
 use Rattle.settings_law.proofs.Spellings.{one_plan}
 use Rattle.stream_law.specs.Words.{is_of_units}
 use Rattle.demux_core.specs.Receiving.{is_built}

@@ -11,7 +11,7 @@ use Rattle.ipe_io.specs.Counts.{IsFlushed}
 use Rattle.ipe_io.specs.Told.{InputTold, OutputTold, ShelfTold, RackTold}
 use Rattle.plan_spec.specs.Plan.{ServiceFields, PlanFields}
 use Rattle.plan_spec.specs.Given.{plan_of_pid}
-use Rattle.settings_file.specs.Settings.{Refusal, IsAcceptedFile}
+use Rattle.settings_load.specs.Settings.{Refusal, IsAcceptedFile}
 use Rattle.receive_command.specs.Files.{AddsFiles, AddsCaptures, AddsHeads, AddsParts, capture_of}
 use Rattle.receive_command.specs.Reading.{records_in, most_records}
 use Rattle.receive_command.specs.Ends.{EndsWhole, EndsFront, EndsAtLimit, EndsInFiles, EndsReported, EndsInReport}

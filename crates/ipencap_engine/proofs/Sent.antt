@@ -12,7 +12,7 @@ use Rattle.pcap_file.specs.declared.faults.CaptureFault.{CaptureFault}
 use Rattle.plan_spec.specs.Plan.{PlanFields}
 use Rattle.plan_spec.specs.Offered.{Records, not_ip_count, unrouted_count, too_long_count}
 use Rattle.stream_law.specs.Captures.{given_by}
-use Rattle.settings_file.specs.Settings.{Refusal, IsAcceptedFile}
+use Rattle.settings_load.specs.Settings.{Refusal, IsAcceptedFile}
 use Rattle.send_command.specs.Sending.{SendsAll, SendsToFault, SendsFront, Reads}
 use Rattle.send_command.specs.Tally.{offered_count, IsTally}
 use Rattle.send_command.specs.Lines.{tally_line, fault_line}

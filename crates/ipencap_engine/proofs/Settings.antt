@@ -5,11 +5,11 @@ use Rattle.wire_spec.specs.Causes.{Rose}
 use Rattle.ipe_io.specs.Told.{InputTold, OutputTold, ShelfTold, RackTold}
 use Rattle.ipe_io.proofs.Told.{stays-refl}
 use Rattle.plan_spec.specs.Plan.{PlanFields}
-use Rattle.settings_file.specs.Settings.{Refusal}
-use Rattle.settings_file.specs.Lines.{refusal_line}
-use Rattle.settings_file.specs.Faults.{refusal_of, refusal_seen}
-use Rattle.settings_file.specs.declared.fault.SettingsError.{SettingsError}
-use Rattle.settings_file.specs.declared.fault.SettingsError.TheVariants as error
+use Rattle.settings_load.specs.Settings.{Refusal}
+use Rattle.settings_load.specs.Lines.{refusal_line}
+use Rattle.settings_load.specs.Faults.{refusal_of, refusal_seen}
+use Rattle.settings_load.specs.declared.fault.SettingsError.{SettingsError}
+use Rattle.settings_load.specs.declared.fault.SettingsError.TheVariants as error
 use Rattle.receive_command.specs.Files.{capture_of}
 use Rattle.receive_command.specs.Reading.{records_in}
 use Rattle.receive_command.proofs.Assembly.{parts_none}

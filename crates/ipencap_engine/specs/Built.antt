@@ -1,8 +1,8 @@
 -- Which plans a job can use: what is not built yet is refused, as a value out of its range. Profile: all of it.
 use Rattle.std.specs.Prelude.{◌≡◌, ℕ, List, codes, Option, None, Some, IfSome, if◌then◌else◌}
 use Rattle.plan_spec.specs.Plan.{PlanFields, is_baseband, kinds}
-use Rattle.plan_spec.specs.Keys.{SettingsFault, out_of_range}
-use Rattle.settings_file.specs.Settings.{Refusal, refused, IsAcceptedFile, IsRefusedFile}
+use Rattle.settings_spec.specs.Keys.{SettingsFault, out_of_range}
+use Rattle.settings_load.specs.Settings.{Refusal, refused, IsAcceptedFile, IsRefusedFile}
 use Rattle.mux_core.specs.Sending.{are_built}
 
 -- what of a plan is not built yet: baseband frames, or a kind of service

@@ -4,7 +4,7 @@ use Rattle.command_words.specs.Words.{AsksForUle, AsksForCheck, AsksForSend, Ask
 use Rattle.plan_spec.specs.Plan.{PlanFields}
 use Rattle.plan_spec.specs.Given.{plan_of_pid}
 use Rattle.ipe_io.specs.Told.{ShelfTold}
-use Rattle.settings_file.specs.Settings.{Refusal, IsAcceptedFile, IsRefusedFile}
+use Rattle.settings_load.specs.Settings.{Refusal, IsAcceptedFile, IsRefusedFile}
 use Rattle.ipencap_engine.specs.Built.{unbuilt_fault, IsRefusedForUse}
 use Rattle.ipencap_engine.specs.World.{Object, the_shelf, the_input, the_output, the_rack}
 use Rattle.ipencap_engine.specs.declared.status.Status.{Status}

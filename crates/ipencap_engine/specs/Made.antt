@@ -9,7 +9,7 @@ use Rattle.plan_spec.specs.Offered.{not_ip_count, unrouted_count, too_long_count
 use Rattle.stream_law.specs.Captures.{given_by}
 use Rattle.pcap_file.specs.Told.{place_of_fault}
 use Rattle.pcap_file.specs.declared.faults.CaptureFault.{CaptureFault}
-use Rattle.settings_file.specs.Lines.{check_text}
+use Rattle.settings_load.specs.Lines.{check_text}
 use Rattle.send_command.specs.Sending.{IsSendOf}
 use Rattle.send_command.specs.Tally.{offered_count}
 use Rattle.send_command.specs.Lines.{tally_line, fault_line}

@@ -11,8 +11,8 @@ use Rattle.stream_spec.specs.Services.{Carries}
 use Rattle.loss_law.specs.Isolation.{SamePackets}
 use Rattle.loss_law.specs.Loss.{service_at, IsRecorded, DeliversEach}
 use Rattle.ipe_io.specs.Told.{ShelfTold, InputTold}
-use Rattle.settings_file.specs.Settings.{Refusal}
-use Rattle.settings_file.specs.Lines.{refusal_line}
+use Rattle.settings_load.specs.Settings.{Refusal}
+use Rattle.settings_load.specs.Lines.{refusal_line}
 use Rattle.send_command.specs.Sending.{ShowsFault}
 use Rattle.send_command.specs.Lines.{tally_line, fault_line}
 use Rattle.send_command.specs.declared.ends.Tally.{Tally}

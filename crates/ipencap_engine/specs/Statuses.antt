@@ -2,10 +2,10 @@
 use Rattle.std.specs.Prelude.{ℕ, List, [], ◌∷◌, ◌++◌, take, codes, Option}
 use Rattle.std.specs.Io.KnownBytes.{Appends}
 use Rattle.wire_spec.specs.Causes.{Rose}
-use Rattle.settings_file.specs.Lines.{refusal_line}
-use Rattle.settings_file.specs.Faults.{refusal_seen}
-use Rattle.settings_file.specs.declared.fault.SettingsError.{SettingsError}
-use Rattle.settings_file.specs.declared.fault.SettingsError.TheVariants as error
+use Rattle.settings_load.specs.Lines.{refusal_line}
+use Rattle.settings_load.specs.Faults.{refusal_seen}
+use Rattle.settings_load.specs.declared.fault.SettingsError.{SettingsError}
+use Rattle.settings_load.specs.declared.fault.SettingsError.TheVariants as error
 use Rattle.send_command.specs.Lines.{tally_line, fault_line}
 use Rattle.ipencap_engine.specs.declared.status.Outcome.{Outcome}
 use Rattle.ipencap_engine.specs.declared.status.Outcome.TheVariants as outcome

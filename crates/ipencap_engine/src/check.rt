@@ -9,7 +9,7 @@ ghost use Rattle.ipencap_engine.specs.Runs.{Runs};
 use crate::plan::outcome_of;
 use crate::status::{Outcome, Status};
 use ipe_io::{Failed, Shelf, Sink};
-use settings_file::{list_services, load_plan};
+use settings_load::{list_services, load_plan};
 use std::alloc::Global;
 
 /// Loads the settings, and writes one line for each service of the plan that they give.

@@ -1,8 +1,8 @@
 //! The engine: what the program does, over the objects of the outside that it is handed.
 //!
-//! Checking: settings -> settings_file -> output.
-//! Sending: settings -> settings_file -> send_command; capture -> send_command -> output.
-//! Receiving: settings -> settings_file -> receive_command; recording -> receive_command -> rack and output.
+//! Checking: settings -> settings_load -> output.
+//! Sending: settings -> settings_load -> send_command; capture -> send_command -> output.
+//! Receiving: settings -> settings_load -> receive_command; recording -> receive_command -> rack and output.
 //! Receiving one PID: recording -> receive_command -> rack.
 //! Begin with `run`.
 #![tactic(auto)]

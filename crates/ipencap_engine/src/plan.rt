@@ -2,10 +2,10 @@
 ghost use Rattle.std.specs.Prelude.{◌≡◌, ◌≤◌, ℕ, List, None, Some, true, IfOk, IfErr, IfSome, IfNone, IsErrOf, MatchResult, option_map, ⊤};
 ghost use Rattle.wire_spec.specs.Causes.{Rose};
 ghost use Rattle.plan_spec.specs.Plan.{PlanFields, kinds};
-ghost use Rattle.service_plan.specs.PlanView.{plan_fields};
-ghost use Rattle.settings_text.specs.Keys.{fault_seen};
-ghost use Rattle.settings_file.specs.Settings.{Refusal, IsAcceptedFile};
-ghost use Rattle.settings_file.specs.Faults.{refusal_of};
+ghost use Rattle.plan.specs.PlanView.{plan_fields};
+ghost use Rattle.settings_keys.specs.Keys.{fault_seen};
+ghost use Rattle.settings_load.specs.Settings.{Refusal, IsAcceptedFile};
+ghost use Rattle.settings_load.specs.Faults.{refusal_of};
 ghost use Rattle.mux_core.specs.Sending.{are_built};
 ghost use Rattle.ipencap_engine.specs.Statuses.{outcome_after};
 ghost use Rattle.ipencap_engine.specs.Built.{unbuilt_fault, IsRefusedForUse, IsPlanInUse};
@@ -14,7 +14,7 @@ use crate::status::{Outcome, Status};
 use ipe_io::Shelf;
 use send_command::can_send;
 use service_plan::{Key, Plan, PlanFault};
-use settings_file::{FileFault, SettingsError, load_plan};
+use settings_load::{FileFault, SettingsError, load_plan};
 use std::alloc::Global;
 
 /// Loads the settings, and refuses a plan that is not built yet.

@@ -6,7 +6,7 @@ ghost use Rattle.ipencap_engine.specs.Statuses.{status_line, outcome_line, statu
 use ipe_io::{Sink, put_all};
 use pcap_file::CaptureFault;
 use send_command::{Tally, tell_fault, tell_tally};
-use settings_file::{FileFault, put_fault};
+use settings_load::{FileFault, put_fault};
 
 /// How the program ends.
 #[derive(Clone, Copy, Debug, PartialEq, Eq)]

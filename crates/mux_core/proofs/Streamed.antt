@@ -16,8 +16,8 @@ use Rattle.stream_spec.specs.Stream.{packets_from, service_packets, slot_in, rec
 use Rattle.stream_spec.specs.Slots.{IsSlotCount}
 use Rattle.stream_law.specs.Words.{is_of_units}
 use Rattle.stream_law.proofs.Plans.{both, at_most, ranges, has_ranges, few_services}
-use Rattle.offered_datagrams.specs.Offering.{IsOffered}
-use Rattle.offered_datagrams.specs.declared.offered.Offered.{Offered}
+use Rattle.datagram_routing.specs.Offering.{IsOffered}
+use Rattle.datagram_routing.specs.declared.offered.Offered.{Offered}
 use Rattle.mux_core.specs.Sending.{are_built, IsUnderPlan}
 use Rattle.mux_core.specs.Units.{AreFor, HasPid}
 use Rattle.mux_core.specs.Services.{packets_from_lists, IsList, AreLists}

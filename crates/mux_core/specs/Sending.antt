@@ -5,8 +5,8 @@ use Rattle.wire_spec.specs.Lists.{joined}
 use Rattle.wire_spec.specs.Content.{Puts}
 use Rattle.plan_spec.specs.Plan.{KindFields, PlanFields}
 use Rattle.plan_spec.specs.Offered.{Records}
-use Rattle.offered_datagrams.specs.Offering.{HoldDatagrams, IsOffered}
-use Rattle.offered_datagrams.specs.declared.offered.Offered.{Offered}
+use Rattle.datagram_routing.specs.Offering.{HoldDatagrams, IsOffered}
+use Rattle.datagram_routing.specs.declared.offered.Offered.{Offered}
 use Rattle.stream_spec.specs.Stream.{IsStream}
 use Rattle.stream_law.specs.Words.{is_of_units}
 use Rattle.mux_core.specs.declared.sending.Sent.{Sent}

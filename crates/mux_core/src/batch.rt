@@ -3,7 +3,7 @@ ghost use Rattle.std.specs.Prelude.{◌≡◌, ◌≤◌, ◌<◌, ◌+◌, ℕ,
 ghost use Rattle.wire_spec.specs.Causes.{HasCause};
 ghost use Rattle.wire_spec.specs.Content.{Puts, Stays};
 ghost use Rattle.ts_spec.specs.Packet.{PacketFields};
-ghost use Rattle.service_plan.specs.PlanView.{plan_fields};
+ghost use Rattle.plan.specs.PlanView.{plan_fields};
 ghost use Rattle.mux_core.specs.Services.{packet_total, turn_of, AreAt};
 ghost use Rattle.mux_core.specs.Tables.{IsTableAt};
 ghost use Rattle.mux_core.specs.Slots.{turns_in, is_early, AddsRecord, Hands};
@@ -12,7 +12,7 @@ use crate::services::Services;
 use crate::slots::write_record;
 use crate::table::TablePackets;
 use ipe_io::{Failed, Sink, put_all};
-use service_plan::Plan;
+use plan::Plan;
 use std::alloc::{AllocError as OutOfMemory, Global};
 use std::marker::Model;
 
@@ -52,7 +52,7 @@ impl Batch {
     ghost use Rattle.wire_spec.specs.Causes.{HasCause};
     ghost use Rattle.wire_spec.specs.Content.{Puts, Stays};
     ghost use Rattle.ts_spec.specs.Packet.{PacketFields};
-    ghost use Rattle.service_plan.specs.PlanView.{plan_fields};
+    ghost use Rattle.plan.specs.PlanView.{plan_fields};
     ghost use Rattle.mux_core.specs.Services.{packet_total, turn_of, AreAt};
     ghost use Rattle.mux_core.specs.Tables.{IsTableAt};
     ghost use Rattle.mux_core.specs.Slots.{turns_in, is_early, AddsRecord, Hands};

@@ -2,11 +2,11 @@
 ghost use Rattle.std.specs.Prelude.{◌≡◌};
 ghost use Rattle.plan_spec.specs.Plan.{kinds};
 ghost use Rattle.stream_law.specs.Words.{is_of_units};
-ghost use Rattle.service_plan.specs.Parts.{kind_seen};
-ghost use Rattle.service_plan.specs.PlanView.{plan_fields};
+ghost use Rattle.plan.specs.Parts.{kind_seen};
+ghost use Rattle.plan.specs.PlanView.{plan_fields};
 ghost use Rattle.mux_core.specs.Sending.{are_built};
 
-use service_plan::{Kind, Plan};
+use plan::{Kind, Plan};
 
 /// Whether a service of this kind is sent so far.
 fn is_built(kind: &Kind) -> bool

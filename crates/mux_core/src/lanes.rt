@@ -4,7 +4,7 @@ ghost use Rattle.ts_spec.specs.Packet.{PacketFields};
 ghost use Rattle.stream_spec.specs.Stream.{written};
 ghost use Rattle.stream_spec.specs.Units.{packets_of_kind};
 ghost use Rattle.stream_law.specs.Words.{is_of_units};
-ghost use Rattle.service_plan.specs.Parts.{kind_seen};
+ghost use Rattle.plan.specs.Parts.{kind_seen};
 ghost use Rattle.mux_core.specs.Units.{AreFor, HasPid};
 ghost use Rattle.mux_core.specs.Services.{packets_in};
 
@@ -12,7 +12,7 @@ use crate::units::ends_of;
 use crate::window::Window;
 use ip_datagram::DatagramList;
 use section_codec::SectionForm;
-use service_plan::{Kind, Service};
+use plan::{Kind, Service};
 use std::alloc::{AllocError as OutOfMemory, Global};
 use std::marker::Model;
 use ule_unit::UleForm;
@@ -33,7 +33,7 @@ pub(crate) struct LanePackets<'a, F: UnitForm> {
 impl<'a, F: UnitForm> Model for LanePackets<'a, F> {
     ghost use Rattle.std.specs.Prelude.{List};
     ghost use Rattle.ts_spec.specs.Packet.{PacketFields};
-    ghost use Rattle.service_plan.specs.Parts.{kind_seen};
+    ghost use Rattle.plan.specs.Parts.{kind_seen};
     ghost use Rattle.unit_stream.specs.Packers.{packets_left};
     ghost use Rattle.mux_core.specs.Units.{unit_bytes};
     ghost use Rattle.mux_core.specs.Windows.{IsSending};
@@ -50,7 +50,7 @@ impl<'a, F: UnitForm> LanePackets<'a, F> {
     ghost use Rattle.ts_spec.specs.Packet.{PacketFields};
     ghost use Rattle.stream_spec.specs.Stream.{written};
     ghost use Rattle.stream_law.specs.Words.{is_of_units};
-    ghost use Rattle.service_plan.specs.Parts.{kind_seen};
+    ghost use Rattle.plan.specs.Parts.{kind_seen};
     ghost use Rattle.unit_stream.specs.Packing.{packetized};
     ghost use Rattle.mux_core.specs.Units.{unit_of, AreFor};
 

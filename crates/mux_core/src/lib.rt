@@ -1,6 +1,6 @@
 //! The sender's stream: the packets of all services and of the INT, slot by slot.
 //!
-//! Sending: capture -> pcap_file -> offered_datagrams -> [mux_core] -> Sink.
+//! Sending: capture -> pcap_file -> datagram_routing -> [mux_core] -> Sink.
 //! Begin with `stream`.
 #![tactic(auto)]
 
@@ -19,5 +19,5 @@ mod tests;
 mod units;
 mod window;
 
-pub use offered_datagrams::{Lists, Offered};
+pub use datagram_routing::{Lists, Offered};
 pub use sending::{MuxFault, Sent, stream};

@@ -2,7 +2,7 @@
 ghost use Rattle.std.specs.Prelude.{◌≡◌, ◌≤◌, ◌<◌, ◌++◌, length, drop};
 ghost use Rattle.stream_spec.specs.Stream.{stamp_bytes};
 ghost use Rattle.ts_spec.specs.Recording.{stamped, m2ts};
-ghost use Rattle.service_plan.specs.Parts.{form_of};
+ghost use Rattle.plan.specs.Parts.{form_of};
 
 use ipe_io::Recording;
 

@@ -4,8 +4,8 @@ ghost use Rattle.wire_spec.specs.Causes.{Rose};
 ghost use Rattle.wire_spec.specs.Content.{Stays};
 ghost use Rattle.plan_spec.specs.Plan.{kinds};
 ghost use Rattle.plan_spec.specs.Offered.{Records, offered as offered_to};
-ghost use Rattle.service_plan.specs.PlanView.{plan_fields};
-ghost use Rattle.offered_datagrams.specs.Offering.{IsOffered};
+ghost use Rattle.plan.specs.PlanView.{plan_fields};
+ghost use Rattle.datagram_routing.specs.Offering.{IsOffered};
 ghost use Rattle.mux_core.specs.Sending.{are_built, IsUnderPlan, WritesStream};
 ghost use Rattle.mux_core.specs.declared.sending.MuxFault.TheVariants.{Sink as SinkFault, OutOfMemory as NoMemory};
 
@@ -14,8 +14,8 @@ use crate::services::Services;
 use crate::slots::put_slots;
 use crate::table::TablePackets;
 use ipe_io::{Failed, Sink};
-use offered_datagrams::{Lists, Offered, each_datagram_is_for_its_service, nothing_is_left_out};
-use service_plan::Plan;
+use datagram_routing::{Lists, Offered, each_datagram_is_for_its_service, nothing_is_left_out};
+use plan::Plan;
 use std::alloc::Global;
 use stream_law::there_is_one_stream;
 

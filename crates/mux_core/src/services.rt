@@ -1,12 +1,12 @@
 //! The services in rotation: one packet of the next of them that has packets left.
 ghost use Rattle.std.specs.Prelude.{◌≡◌, ◌-◌, ◌≤◌, ◌^◌, All, map, length, find, IfOk};
 ghost use Rattle.std.specs.List.{range_with_len};
-ghost use Rattle.service_plan.specs.PlanView.{plan_fields};
+ghost use Rattle.plan.specs.PlanView.{plan_fields};
 ghost use Rattle.mux_core.specs.Services.{packets_in, has_packets, packets_from_lists, AreLists};
 
 use crate::lanes::Lane;
-use offered_datagrams::Lists;
-use service_plan::Plan;
+use datagram_routing::Lists;
+use plan::Plan;
 use std::alloc::{AllocError as OutOfMemory, Global};
 use std::marker::Model;
 
@@ -63,7 +63,7 @@ fn lanes_of<'a>(
 
 impl<'a> Services<'a> {
     ghost use Rattle.std.specs.Prelude.{◌≡◌, ◌+◌, ◌≤◌, ◌^◌, nat_lt, is_some, Some, IfOk};
-    ghost use Rattle.service_plan.specs.PlanView.{plan_fields};
+    ghost use Rattle.plan.specs.PlanView.{plan_fields};
     ghost use Rattle.mux_core.specs.Services.{packet_total, turn_of, TakesTurn, packets_from_lists, AreLists};
 
     /// The services of a plan with these datagrams, before the first slot.

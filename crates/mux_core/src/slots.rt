@@ -3,7 +3,7 @@ ghost use Rattle.std.specs.Prelude.{◌≡◌, ◌≤◌, ◌<◌, ◌+◌, ◌^
 ghost use Rattle.wire_spec.specs.Causes.{HasCause};
 ghost use Rattle.wire_spec.specs.Content.{Stays};
 ghost use Rattle.ts_spec.specs.Packet.{PacketFields};
-ghost use Rattle.service_plan.specs.PlanView.{plan_fields};
+ghost use Rattle.plan.specs.PlanView.{plan_fields};
 ghost use Rattle.mux_core.specs.Services.{packet_total, turn_of, AreAt};
 ghost use Rattle.mux_core.specs.Tables.{IsTableAt};
 ghost use Rattle.mux_core.specs.Slots.{turns_in, is_early, TakesSlot, WritesRecord, WritesSlots};
@@ -13,7 +13,7 @@ use crate::records::write_stamp;
 use crate::services::Services;
 use crate::table::TablePackets;
 use ipe_io::{Failed, Sink};
-use service_plan::Plan;
+use plan::Plan;
 
 /// Whether a slot carries a packet of the INT. Without an INT there is nothing to divide, and division is slow.
 fn is_of_table(plan: &Plan, table: &TablePackets, slot: u64) -> bool

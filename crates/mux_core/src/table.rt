@@ -7,8 +7,8 @@ ghost use Rattle.plan_spec.specs.Signalling.{table_of as table_of_plan, table_pa
 ghost use Rattle.plan_spec.specs.Valid.{is_valid_rule};
 ghost use Rattle.stream_spec.specs.Stream.{written, int_packets};
 ghost use Rattle.ts_spec.specs.Packetized.{packet_at};
-ghost use Rattle.service_plan.specs.Parts.{int_seen};
-ghost use Rattle.service_plan.specs.PlanView.{plan_fields};
+ghost use Rattle.plan.specs.Parts.{int_seen};
+ghost use Rattle.plan.specs.PlanView.{plan_fields};
 ghost use Rattle.mux_core.specs.Units.{HoldUnits};
 ghost use Rattle.mux_core.specs.Sending.{are_built};
 ghost use Rattle.mux_core.specs.Slots.{is_early};
@@ -20,7 +20,7 @@ use addr_rules::{Rule, RuleList};
 use int_table::{IntEntry, IntTable};
 use ip_datagram::IpAddress;
 use section_codec::SectionForm;
-use service_plan::{IntPlan, Plan, Service};
+use plan::{IntPlan, Plan, Service};
 use std::alloc::{AllocError as OutOfMemory, Global};
 
 /// The packets of the INT, none without one.
@@ -134,7 +134,7 @@ impl TablePackets {
     ghost use Rattle.std.specs.Prelude.{◌≡◌, ◌≤◌, ◌+◌, ◌%◌, ◌<◌, true, IfOk};
     ghost use Rattle.plan_spec.specs.Plan.{kinds};
     ghost use Rattle.plan_spec.specs.Signalling.{table_packets};
-    ghost use Rattle.service_plan.specs.PlanView.{plan_fields};
+    ghost use Rattle.plan.specs.PlanView.{plan_fields};
     ghost use Rattle.mux_core.specs.Sending.{are_built};
     ghost use Rattle.mux_core.specs.Slots.{is_early};
     ghost use Rattle.mux_core.specs.Tables.{IsTableAt, packet_of_table};

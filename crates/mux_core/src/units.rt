@@ -2,13 +2,13 @@
 ghost use Rattle.std.specs.Prelude.{◌≡◌, ℕ, ◌+◌, ◌*◌, ◌<◌, ◌≤◌, ◌^◌, ◌++◌, List, true, length, take, drop, map, All, IfOk};
 ghost use Rattle.stream_spec.specs.Units.{ether_type_of};
 ghost use Rattle.stream_law.specs.Words.{is_of_units};
-ghost use Rattle.service_plan.specs.Parts.{kind_seen};
+ghost use Rattle.plan.specs.Parts.{kind_seen};
 ghost use Rattle.mux_core.specs.Units.{unit_of, unit_bytes, ends_from, IsFor, AreFor};
 
 use addr_rules::mac_of;
 use ip_datagram::{DatagramList, destination};
 use mpe_section::write_mpe;
-use service_plan::{Kind, Service};
+use plan::{Kind, Service};
 use std::alloc::{AllocError as OutOfMemory, Global};
 
 /// Bytes of a unit beside its datagram at most: the head and the CRC_32 of a datagram_section (EN 301 192 clause 7.1).

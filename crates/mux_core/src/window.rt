@@ -1,12 +1,12 @@
 //! The units of a service, written one after another into a small buffer when they are due.
 ghost use Rattle.std.specs.Prelude.{◌≡◌, ◌+◌, ◌-◌, ◌≤◌, ◌<◌, true, false, length, take, drop, min, IfOk};
-ghost use Rattle.service_plan.specs.Parts.{kind_seen};
+ghost use Rattle.plan.specs.Parts.{kind_seen};
 ghost use Rattle.mux_core.specs.Units.{unit_bytes};
 ghost use Rattle.mux_core.specs.Windows.{IsWindow};
 
 use crate::units::put_unit;
 use ip_datagram::DatagramList;
-use service_plan::Service;
+use plan::Service;
 use std::alloc::{AllocError as OutOfMemory, Global};
 
 /// Bytes that a packet carries at most (ISO/IEC 13818-1 clause 2.4.3.2).
@@ -36,7 +36,7 @@ fn zeros(alloc: Global, count: usize) -> Result<Vec<u8>, OutOfMemory>
 
 impl Window {
     ghost use Rattle.std.specs.Prelude.{◌≡◌, ◌+◌, ◌-◌, ◌≤◌, ◌<◌, true, false, length, take, drop, min, IfOk};
-    ghost use Rattle.service_plan.specs.Parts.{kind_seen};
+    ghost use Rattle.plan.specs.Parts.{kind_seen};
     ghost use Rattle.mux_core.specs.Units.{unit_bytes};
     ghost use Rattle.mux_core.specs.Windows.{IsWindow};
 

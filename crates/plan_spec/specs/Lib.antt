@@ -1,9 +1,6 @@
 pub mod Plan
 pub mod Checks
-pub mod Keys
-pub mod Settings
 pub mod Signalling
-pub mod Refusal
 pub mod Valid
 pub mod Given
 pub mod Route

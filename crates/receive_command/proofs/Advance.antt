@@ -13,7 +13,7 @@ use Rattle.ipe_io.specs.declared.faults.Recording.{Recording}
 use Rattle.ipe_io.specs.declared.faults.Recording.TheVariants.{Plain, Stamped, M2ts}
 use Rattle.ipe_io.proofs.Told.{raised-raised}
 use Rattle.ts_record.specs.Reading.{ReaderState, ReaderOf, ReadsRecord, ReadsEnd, form_of as form_read}
-use Rattle.service_plan.specs.Parts.{form_of as form_planned}
+use Rattle.plan.specs.Parts.{form_of as form_planned}
 use Rattle.reception_spec.specs.Delivered.{delivered_pairs, pairs_of_record}
 use Rattle.demux_core.specs.Receiving.{ReceiverState, HasReceived}
 use Rattle.pcap_file.specs.Capture.{capture_record}

@@ -2,7 +2,7 @@
 ghost use Rattle.std.specs.Prelude.{◌≡◌, ◌≢◌, ◌⊎◌, ℕ, ◌+◌, ◌*◌, ◌^◌, ◌<◌, ◌≤◌, true, false, List, [], length};
 ghost use Rattle.wire_spec.specs.Causes.{Rose, raised};
 ghost use Rattle.ts_spec.specs.Recording.{record_size, Record as ReadRecord};
-ghost use Rattle.service_plan.specs.PlanView.{plan_fields};
+ghost use Rattle.plan.specs.PlanView.{plan_fields};
 ghost use Rattle.demux_core.specs.Receiving.{HasReceived};
 ghost use Rattle.receive_command.specs.Files.{AddsHeads};
 ghost use Rattle.receive_command.specs.Flushes.{Flush};
@@ -14,7 +14,7 @@ use crate::reading::{Ending, read_records};
 use crate::steps::end_reception;
 use demux_core::Receiver;
 use ipe_io::{AddFault, Failed, Rack, Source};
-use service_plan::Plan;
+use plan::Plan;
 use std::alloc::Global;
 
 /// How the captures of a recording ended.

@@ -4,13 +4,13 @@ ghost use Rattle.wire_spec.specs.Causes.{HasCause};
 ghost use Rattle.wire_spec.specs.Content.{Stays, AddsFile};
 ghost use Rattle.ipe_io.specs.Counts.{HasAddCause};
 ghost use Rattle.pcap_file.specs.Capture.{capture_head};
-ghost use Rattle.service_plan.specs.Parts.{service_seen};
+ghost use Rattle.plan.specs.Parts.{service_seen};
 ghost use Rattle.receive_command.specs.Files.{file_name as name_of_file, file_of, AddsPart, AddsCaptures, AddsHeads, AddsHeadsPart, head_of};
 ghost use Rattle.receive_command.specs.Flushes.{Flush};
 
 use ipe_io::{AddFault, Failed, OutOfMemory, Rack, put_file};
 use pcap_file::write_head;
-use service_plan::ServiceList;
+use plan::ServiceList;
 use std::alloc::Global;
 
 /// The name of the file of a service.

@@ -2,14 +2,14 @@
 ghost use Rattle.std.specs.Prelude.{◌≡◌, ◌≢◌, ℕ, ◌+◌, ◌*◌, ◌^◌, ◌<◌, ◌≤◌, true, false, [], length};
 ghost use Rattle.wire_spec.specs.Causes.{Rose, raised};
 ghost use Rattle.ts_spec.specs.Recording.{record_size};
-ghost use Rattle.service_plan.specs.PlanView.{plan_fields};
+ghost use Rattle.plan.specs.PlanView.{plan_fields};
 ghost use Rattle.demux_core.specs.Receiving.{HasReceived};
 ghost use Rattle.receive_command.specs.Reading.{ReadsWhole, ReadsFront, ReadsToLimit, ReadsToStop, most_records};
 
 use crate::steps::take_record;
 use demux_core::Receiver;
 use ipe_io::{Failed, Rack, RecordFault, Source};
-use service_plan::Plan;
+use plan::Plan;
 use ts_record::{Record, RecordReader};
 
 /// How the reading of a recording ended.

@@ -4,7 +4,7 @@ ghost use Rattle.wire_spec.specs.Causes.{Rose, raised};
 ghost use Rattle.wire_spec.specs.Content.{Stays};
 ghost use Rattle.ts_spec.specs.Recording.{record_size, Record as ReadRecord};
 ghost use Rattle.plan_spec.specs.Plan.{ServiceFields};
-ghost use Rattle.service_plan.specs.PlanView.{plan_fields};
+ghost use Rattle.plan.specs.PlanView.{plan_fields};
 ghost use Rattle.ipe_io.specs.Counts.{IsFlushed};
 ghost use Rattle.loss_report.specs.Names.{IsServiceName};
 ghost use Rattle.demux_core.specs.Receiving.{are_built, HasReceived};
@@ -17,7 +17,7 @@ use crate::report::report_of;
 use bumpalo::Bump;
 use demux_core::Receiver;
 use ipe_io::{Failed, Rack, Sink, Source, put_all};
-use service_plan::Plan;
+use plan::Plan;
 use std::alloc::Global;
 
 /// How `receive` ended.

@@ -3,7 +3,7 @@ ghost use Rattle.std.specs.Prelude.{◌≡◌, ℕ, ◌≤◌, ◌++◌, List, f
 ghost use Rattle.ts_spec.specs.Recording.{Record as ReadRecord};
 ghost use Rattle.int_spec.specs.Reading.{carried};
 ghost use Rattle.plan_spec.specs.Plan.{ServiceFields};
-ghost use Rattle.service_plan.specs.PlanView.{plan_fields};
+ghost use Rattle.plan.specs.PlanView.{plan_fields};
 ghost use Rattle.demux_core.specs.Receiving.{HasReceived};
 ghost use Rattle.int_table.specs.Views.{entry_in};
 ghost use Rattle.loss_report.specs.Names.{IsServiceName};
@@ -13,7 +13,7 @@ use demux_core::Receiver;
 use int_table::{IntEntry, IntFault, IntReadFault, IntTable};
 use ipe_io::OutOfMemory;
 use loss_report::Report;
-use service_plan::Plan;
+use plan::Plan;
 use std::alloc::Global;
 
 /// The text of the report of what a receiver was given, with this many bytes after the last record.

@@ -1,6 +1,6 @@
 //! Receptions of small recordings into objects in memory: files, report, and each call that fails.
 ghost use Rattle.std.specs.Prelude.{◌≡◌, true, IfOk};
-ghost use Rattle.service_plan.specs.PlanView.{plan_fields};
+ghost use Rattle.plan.specs.PlanView.{plan_fields};
 ghost use Rattle.demux_core.specs.Receiving.{are_built};
 
 use crate::{ReceiveEnd, UleEnd, receive, ule};

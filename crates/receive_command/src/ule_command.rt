@@ -10,7 +10,7 @@ use crate::captures::{CapturesEnd, write_captures};
 use bumpalo::Bump;
 use demux_core::Receiver;
 use ipe_io::{Rack, Source};
-use service_plan::ule_plan;
+use plan::ule_plan;
 use std::alloc::Global;
 
 /// How `ule` ended.

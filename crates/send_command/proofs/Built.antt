@@ -5,8 +5,8 @@ use Rattle.std.proofs.Math.Seq.{drop-cons}
 use Rattle.std.proofs.lemmas.List.Folds.{list_all-map}
 use Rattle.std.proofs.lemmas.Option.{get_or_from_slice_get, slice_get_within}
 use Rattle.plan_spec.specs.Plan.{ServiceFields}
-use Rattle.service_plan.specs.Parts.{kind_seen, service_seen}
-use Rattle.service_plan.specs.declared.service.Service.{Service}
+use Rattle.plan.specs.Parts.{kind_seen, service_seen}
+use Rattle.plan.specs.declared.service.Service.{Service}
 use Rattle.stream_law.specs.Words.{is_of_units}
 
 abbrev pub is_built : Service → Bool

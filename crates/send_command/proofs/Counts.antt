@@ -3,9 +3,9 @@ use Rattle.std.proofs.Common.{◌≡◌, ℕ, ◌+◌, Bool, true, false, cond, 
 use Rattle.std.proofs.lemmas.List.Sums.{sum_by-cons}
 use Rattle.plan_spec.specs.Plan.{PlanFields}
 use Rattle.plan_spec.specs.Offered.{Records, datagrams, service_of_datagram, fits, is_too_long_for, not_ip_count}
-use Rattle.offered_datagrams.specs.Offering.{IsOffered}
-use Rattle.offered_datagrams.specs.declared.offered.Offered.{Offered}
-use Rattle.offered_datagrams.proofs.Sums.{all_counted}
+use Rattle.datagram_routing.specs.Offering.{IsOffered}
+use Rattle.datagram_routing.specs.declared.offered.Offered.{Offered}
+use Rattle.datagram_routing.proofs.Sums.{all_counted}
 use Rattle.send_command.specs.Tally.{is_taken_by, is_taken, IsTally}
 use Rattle.send_command.specs.declared.ends.Tally.{Tally}
 

@@ -10,7 +10,7 @@ use Rattle.ip_datagram.proofs.Fronts.{IsFront-front_length, ipv6_parts, ipv6_is_
 use Rattle.pcap_file.specs.Captured.{captured_datagram}
 use Rattle.pcap_file.specs.declared.captured.LinkType.{LinkType}
 use Rattle.pcap_file.specs.declared.captured.LinkType.TheVariants.{Ethernet, Raw}
-use Rattle.offered_datagrams.specs.Offering.{HoldDatagrams}
+use Rattle.datagram_routing.specs.Offering.{HoldDatagrams}
 use Rattle.stream_law.specs.Captures.{datagram_in}
 
 taken_front : (b d : List ℕ) (n : ℕ) → front_length b ≡ Some n → take n b ≡ d → IsDatagram d

@@ -15,8 +15,8 @@ use Rattle.pcap_file.proofs.Longest.{Tells-nothing}
 use Rattle.plan_spec.specs.Plan.{PlanFields}
 use Rattle.plan_spec.specs.Offered.{Records}
 use Rattle.stream_law.specs.Captures.{datagram_in, given_by}
-use Rattle.offered_datagrams.specs.Offering.{IsOffered, HasRoom}
-use Rattle.offered_datagrams.specs.declared.offered.Offered.{Offered}
+use Rattle.datagram_routing.specs.Offering.{IsOffered, HasRoom}
+use Rattle.datagram_routing.specs.declared.offered.Offered.{Offered}
 use Rattle.mux_core.specs.Sending.{IsUnderPlan}
 use Rattle.send_command.specs.Gathering.{IsIntake, IsGathered}
 use Rattle.send_command.specs.declared.gather.Gathered.{Gathered}

@@ -8,7 +8,7 @@ use Rattle.pcap_file.specs.Told.{Tells}
 use Rattle.plan_spec.specs.Plan.{PlanFields}
 use Rattle.plan_spec.specs.Offered.{Records, offered}
 use Rattle.stream_law.specs.Captures.{given_by}
-use Rattle.offered_datagrams.specs.Offering.{IsOffered}
+use Rattle.datagram_routing.specs.Offering.{IsOffered}
 use Rattle.mux_core.specs.Sending.{WritesStream}
 use Rattle.mux_core.specs.declared.sending.Sent.{Sent}
 use Rattle.send_command.specs.Gathering.{IsGathered}

@@ -18,8 +18,8 @@ use Rattle.pcap_file.proofs.Shown.{no_fault_behind, read_ahead, shown_behind}
 use Rattle.pcap_file.proofs.Taken.{Takes-trans}
 use Rattle.plan_spec.specs.Plan.{PlanFields}
 use Rattle.plan_spec.specs.Offered.{Records}
-use Rattle.offered_datagrams.specs.Offering.{IsOffered}
-use Rattle.offered_datagrams.specs.declared.offered.Offered.{Offered}
+use Rattle.datagram_routing.specs.Offering.{IsOffered}
+use Rattle.datagram_routing.specs.declared.offered.Offered.{Offered}
 use Rattle.send_command.specs.Gathering.{IsIntake, ReadsAll, ReadsNext, ShowsGathered, ShowsStop, TakesIn}
 use Rattle.send_command.specs.Sending.{OnCapture, Reads, ShowsFault}
 use Rattle.send_command.specs.declared.ends.SendEnd.{SendEnd}

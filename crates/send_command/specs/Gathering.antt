@@ -8,8 +8,8 @@ use Rattle.pcap_file.specs.Known.{ReaderState}
 use Rattle.pcap_file.specs.Reader.{HasRead, IsReadAhead, ShowsNoFault, Takes, rest_of}
 use Rattle.plan_spec.specs.Plan.{PlanFields}
 use Rattle.stream_law.specs.Captures.{given_by}
-use Rattle.offered_datagrams.specs.Offering.{IsOffered}
-use Rattle.offered_datagrams.specs.declared.offered.Offered.{Offered}
+use Rattle.datagram_routing.specs.Offering.{IsOffered}
+use Rattle.datagram_routing.specs.declared.offered.Offered.{Offered}
 use Rattle.send_command.specs.Sending.{ShowsFault}
 use Rattle.send_command.specs.declared.gather.Gathered.{Gathered}
 use Rattle.send_command.specs.declared.gather.Next.{Next}

@@ -5,7 +5,7 @@ ghost use Rattle.wire_spec.specs.Content.{Stays};
 ghost use Rattle.ipe_io.specs.Counts.{IsFlushed};
 ghost use Rattle.plan_spec.specs.Plan.{kinds};
 ghost use Rattle.pcap_file.specs.Reader.{is_cut};
-ghost use Rattle.service_plan.specs.PlanView.{plan_fields};
+ghost use Rattle.plan.specs.PlanView.{plan_fields};
 ghost use Rattle.mux_core.specs.Sending.{are_built, IsUnderPlan};
 ghost use Rattle.send_command.specs.Gathering.{IsGathered};
 ghost use Rattle.send_command.specs.Sending.{Sends, Reads, OnCapture, is_done, is_whole, is_begun};
@@ -14,7 +14,7 @@ use crate::ends::{SendEnd, Tally};
 use crate::gather::{Gathered, ReadFault, gather};
 use ipe_io::{Sink, Source};
 use mux_core::{MuxFault, stream};
-use service_plan::Plan;
+use plan::Plan;
 use std::alloc::Global;
 
 /// Writes the stream of what the services of a plan take of the capture that is read from `input`, and flushes it.

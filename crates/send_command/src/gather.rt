@@ -3,15 +3,15 @@ ghost use Rattle.std.specs.Prelude.{◌≡◌, ℕ, ◌≤◌, List, ◌∷◌, 
 ghost use Rattle.pcap_file.specs.Told.{Tells};
 ghost use Rattle.pcap_file.specs.Reader.{is_cut, rest_of};
 ghost use Rattle.pcap_file.specs.declared.faults.CaptureFault.{CaptureFault as FaultFound};
-ghost use Rattle.service_plan.specs.PlanView.{plan_fields};
-ghost use Rattle.offered_datagrams.specs.Offering.{HasRoom};
+ghost use Rattle.plan.specs.PlanView.{plan_fields};
+ghost use Rattle.datagram_routing.specs.Offering.{HasRoom};
 ghost use Rattle.mux_core.specs.Sending.{IsUnderPlan};
 ghost use Rattle.send_command.specs.Gathering.{HasReadCause, IsIntake, IsGathered, ReadsAll, ReadsNext, TakesIn};
 
 use ipe_io::Source;
-use offered_datagrams::Offered;
+use datagram_routing::Offered;
 use pcap_file::{CaptureFault, CaptureReader, NextFault, OpenFault, datagram_of};
-use service_plan::Plan;
+use plan::Plan;
 use std::alloc::Global;
 
 /// What a capture gave.

@@ -1,12 +1,12 @@
 //! A plan -> whether its stream can be sent.
 ghost use Rattle.std.specs.Prelude.{◌≡◌};
 ghost use Rattle.plan_spec.specs.Plan.{kinds};
-ghost use Rattle.service_plan.specs.PlanView.{plan_fields};
-ghost use Rattle.service_plan.specs.Parts.{kind_seen};
+ghost use Rattle.plan.specs.PlanView.{plan_fields};
+ghost use Rattle.plan.specs.Parts.{kind_seen};
 ghost use Rattle.stream_law.specs.Words.{is_of_units};
 ghost use Rattle.mux_core.specs.Sending.{are_built};
 
-use service_plan::{Kind, Plan};
+use plan::{Kind, Plan};
 
 /// Answers whether all services are of kinds that are sent so far: SNDUs and datagram_sections.
 pub fn can_send(plan: &Plan) -> bool

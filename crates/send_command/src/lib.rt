@@ -1,6 +1,6 @@
 //! The command that sends: a capture in, the stream of what a plan's services take of it out.
 //!
-//! Sending: Source -> pcap_file -> offered_datagrams -> mux_core -> Sink, all of it in [send_command].
+//! Sending: Source -> pcap_file -> datagram_routing -> mux_core -> Sink, all of it in [send_command].
 //! Begin with `send`; `tell_tally` and `tell_fault` write the line that is told of its end.
 #![tactic(auto)]
 

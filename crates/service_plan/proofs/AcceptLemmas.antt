@@ -8,20 +8,20 @@ use Rattle.addr_rules.specs.Texts.{bit_count}
 use Rattle.addr_rules.specs.declared.rules.Rule.{Rule}
 use Rattle.plan_spec.specs.Plan.{KindFields, ServiceFields, PlanFields, services_with, with_rules, rule_lists}
 use Rattle.plan_spec.specs.Checks.{has_wrong_carrier, has_same_name, has_same_pid, has_no_rule, has_too_many_rules, has_wrong_count, needs_stamps, has_wrong_window, has_short_gap, has_long_cycle}
-use Rattle.plan_spec.specs.Keys.{SettingsFault, wrong_carrier, same_name, same_pid, wrong_rules, no_stamps, wrong_window, short_gap, long_cycle, KeyRule, key_fault, keys_fault, unknown_fault, first_of, table_at, tables_at}
-use Rattle.plan_spec.specs.Settings.{top_keys, value_keys, int_key, service_key, int_fault, services_fault, tables_fault, plan_of, rule_texts}
+use Rattle.settings_spec.specs.Keys.{SettingsFault, wrong_carrier, same_name, same_pid, wrong_rules, no_stamps, wrong_window, short_gap, long_cycle, KeyRule, key_fault, keys_fault, unknown_fault, first_of, table_at, tables_at}
+use Rattle.settings_spec.specs.Settings.{top_keys, value_keys, int_key, service_key, int_fault, services_fault, tables_fault, plan_of, rule_texts}
 use Rattle.plan_spec.specs.Signalling.{table_packets}
-use Rattle.plan_spec.specs.Refusal.{AreRules, AreRuleLists, IsPlan, HasNoRule, Fails, whole_checks, IsFirst, NoneFails, IsRefusedTable}
+use Rattle.settings_spec.specs.Refusal.{AreRules, AreRuleLists, IsPlan, HasNoRule, Fails, whole_checks, IsFirst, NoneFails, IsRefusedTable}
 use Rattle.plan_spec.specs.Valid.{is_valid_rule, has_valid_values, is_valid_service, is_in_range, is_consistent, is_plan_of_settings, is_plan}
-use Rattle.service_plan.specs.Parts.{service_seen}
-use Rattle.service_plan.specs.Drafts.{services_seen, rules_seen, HaveRulesOf}
+use Rattle.plan.specs.Parts.{service_seen, services_seen}
+use Rattle.service_plan.specs.Drafts.{rules_seen, HaveRulesOf}
 use Rattle.service_plan.specs.Plans.{parts_fault, draft_seen, IsDraftOf}
 use Rattle.service_plan.specs.Order.{first_met, whole_fault}
-use Rattle.service_plan.specs.declared.service.Service.{Service}
+use Rattle.plan.specs.declared.service.Service.{Service}
 use Rattle.service_plan.specs.declared.tables.Draft.{Draft}
-use Rattle.plan_spec.specs.Keys.{no_document}
-use Rattle.plan_spec.specs.Refusal.{IsDocument, IsNoDocument, IsAccepted, IsRefused}
-use Rattle.plan_spec.proofs.OneAnswer.{acceptance_is_no_refusal}
+use Rattle.settings_spec.specs.Keys.{no_document}
+use Rattle.settings_spec.specs.Refusal.{IsDocument, IsNoDocument, IsAccepted, IsRefused}
+use Rattle.settings_spec.proofs.OneAnswer.{acceptance_is_no_refusal}
 use Rattle.service_plan.specs.Keys.{fault_seen, Faults, OnFault}
 use Rattle.service_plan.specs.Accepted.{IsAcceptedTable}
 use Rattle.service_plan.specs.declared.fault.PlanError.{PlanError}

@@ -5,12 +5,11 @@ use Rattle.std.proofs.lemmas.List.{drop_more, drop_all}
 use Rattle.std.proofs.lemmas.Bool.Decides.{nat_tests}
 use Rattle.plan_spec.specs.Plan.{is_baseband, KindFields, ServiceFields, IntFields, PlanFields, SlicedFields, sliced_of, pid_of, isi_of, table_pids}
 use Rattle.plan_spec.specs.Checks.{has_pair, is_wrong_window, overlaps, is_gse, is_plain, is_between}
-use Rattle.plan_spec.specs.Keys.{holds}
-use Rattle.service_plan.specs.Parts.{kind_seen, int_seen}
-use Rattle.service_plan.specs.Drafts.{services_seen}
+use Rattle.settings_spec.specs.Keys.{holds}
+use Rattle.plan.specs.Parts.{kind_seen, int_seen, services_seen}
 use Rattle.service_plan.specs.Wholes.{has_slices, ids_seen, int_shares, is_small_gap}
-use Rattle.service_plan.specs.declared.service.Service.{Service}
-use Rattle.service_plan.specs.declared.plan.IntPlan.{IntPlan}
+use Rattle.plan.specs.declared.service.Service.{Service}
+use Rattle.plan.specs.declared.plan.IntPlan.{IntPlan}
 use Rattle.ts_spec.specs.Recording.{RecordingForm}
 use Rattle.addr_rules.specs.declared.rules.Rule.{Rule}
 use Rattle.plan_spec.specs.Valid.{has_valid_top, is_valid_frame_size, is_valid_int, most_services}
@@ -152,23 +151,6 @@ not_too_many false false c e = sym e
 between_least : (least most n : ℕ) → is_between least most n ≡ true → least ≤ n
 between_least least most n h = let (low, high) = and_parts (nat_le least n) (nat_le n most) h in grind (arith, nat_tests)
 
-between_most : (least most n : ℕ) → is_between least most n ≡ true → n ≤ most
-between_most least most n h = let (low, high) = and_parts (nat_le least n) (nat_le n most) h in grind (arith, nat_tests)
-
 pub rate_is_some : (plan : PlanFields) → has_valid_top plan ≡ true → 1 ≤ plan.packet_rate
 unfolding has_valid_top
 rate_is_some plan valid = between_least 1 1000000 plan.packet_rate (and_parts (is_between 1 1000000 plan.packet_rate) _ valid).0
-
-most_is_64 : (b : Bool) → most_services b ≤ 64
-most_is_64 true = lit≤ tt
-most_is_64 false = lit≤ tt
-
-pub services_are_few : (plan : PlanFields) → has_valid_top plan ≡ true → length plan.services ≤ 64
-unfolding has_valid_top
-services_are_few plan valid =
-    let rest = (and_parts (is_between 1 1000000 plan.packet_rate) _ valid).1 in
-    let frames = (and_parts (is_between 100 1000000 plan.cycle) _ rest).1 in
-    let ints = (and_parts (is_valid_frame_size plan.frame_bytes) _ frames).1 in
-    let count = (and_parts (is_valid_int plan.table) _ ints).1 in
-    let few = between_most 1 (most_services (is_baseband plan)) (length plan.services) count in
-    omega (arith, most_is_64 (is_baseband plan), few)

@@ -1,12 +1,12 @@
 -- What is wrong with settings, in errors; the carrier and the INT's table.
 use Rattle.std.proofs.Common.{◌≡◌, ℕ, Bool, List, Option, Some, None, bytes_eq, codes, refl}
 use Rattle.toml.specs.Data.{Members}
-use Rattle.plan_spec.specs.Keys.{SettingsFault, first_of, table_fault, text_or}
-use Rattle.plan_spec.specs.Settings.{says_baseband, int_fault, int_keys}
+use Rattle.settings_spec.specs.Keys.{SettingsFault, first_of, table_fault, text_or}
+use Rattle.settings_spec.specs.Settings.{says_baseband, int_fault, int_keys}
 use Rattle.service_plan.specs.Keys.{fault_seen, Faults}
 use Rattle.service_plan.specs.declared.fault.PlanError.{PlanError}
 use Rattle.service_plan.specs.declared.fault.PlanError.TheVariants as error
-pub use Rattle.settings_text.proofs.KeyLemmas.{fault_absent, no_fault_absent, fault_typed, fault_ranged, no_fault_there, number_absent, number_there, flag_absent, flag_there, text_absent, text_there, address_absent, address_there, first_here, first_later, held, natural_there, natural_within, natural_outside, table_absent, table_there, between_both, items_absent, same_text}
+pub use Rattle.settings_keys.proofs.KeyLemmas.{fault_absent, no_fault_absent, fault_typed, fault_ranged, no_fault_there, number_absent, number_there, flag_absent, flag_there, text_absent, text_there, address_absent, address_there, first_here, first_later, held, natural_there, natural_within, natural_outside, table_absent, table_there, between_both, items_absent, same_text}
 
 pub baseband_said : (top : Members) (word : List ℕ) (b : Bool) → word ≡ text_or (codes "ts") (codes "carrier") top → b ≡ bytes_eq word (codes "bb")
     → b ≡ says_baseband top

@@ -6,5 +6,3 @@ pub mod CheckLemmas
 pub mod OrderLemmas
 pub mod AcceptLemmas
 pub mod SizeLemmas
-pub mod RouteLemmas
-pub mod GivenLemmas

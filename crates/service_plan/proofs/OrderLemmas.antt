@@ -2,7 +2,7 @@
 use Rattle.std.proofs.Common.{◌≡◌, ℕ, Bool, true, false, not, ◌||◌, Some, None}
 use Rattle.plan_spec.specs.Plan.{PlanFields, rule_lists}
 use Rattle.plan_spec.specs.Checks.{has_wrong_carrier, has_same_name, has_same_pid, has_wrong_count, needs_stamps, has_wrong_window, has_short_gap, has_long_cycle}
-use Rattle.plan_spec.specs.Keys.{wrong_carrier, same_name, same_pid, wrong_rules, no_stamps, wrong_window, short_gap, long_cycle}
+use Rattle.settings_spec.specs.Keys.{wrong_carrier, same_name, same_pid, wrong_rules, no_stamps, wrong_window, short_gap, long_cycle}
 use Rattle.plan_spec.specs.Signalling.{table_packets}
 use Rattle.service_plan.specs.Order.{first_met, whole_fault}
 

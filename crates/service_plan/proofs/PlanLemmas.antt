@@ -8,18 +8,18 @@ use Rattle.ts_spec.specs.Recording.{RecordingForm}
 use Rattle.addr_rules.specs.declared.rules.Rule.{Rule}
 use Rattle.plan_spec.specs.Plan.{ServiceFields, IntFields, PlanFields, services_with, with_rules}
 use Rattle.plan_spec.specs.Checks.{is_between}
-use Rattle.plan_spec.specs.Keys.{tables, is_table, text_or, number_or, table_at, tables_at}
-use Rattle.plan_spec.specs.Settings.{says_baseband, service_key, recording_of, int_of, services_of, plan_of}
+use Rattle.settings_spec.specs.Keys.{tables, is_table, text_or, number_or, table_at, tables_at}
+use Rattle.settings_spec.specs.Settings.{says_baseband, service_key, recording_of, int_of, services_of, plan_of}
 use Rattle.plan_spec.specs.Valid.{has_valid_top, is_valid_frame_size, is_valid_int, most_services}
 use Rattle.service_plan.specs.Reading.{rule_for}
-use Rattle.plan_spec.specs.Settings.{rule_texts}
+use Rattle.settings_spec.specs.Settings.{rule_texts}
 use Rattle.toml.specs.View.{view}
 use Rattle.toml.specs.declared.value.Value.{Value}
-use Rattle.service_plan.specs.Parts.{service_seen}
-use Rattle.service_plan.specs.Drafts.{HaveRulesOf, texts_of_rules, services_seen}
-use Rattle.service_plan.specs.declared.service.Service.{Service}
-use Rattle.settings_text.specs.Lists.{views, tables_of}
-use Rattle.settings_text.specs.declared.key.Key.TheVariants as key
+use Rattle.plan.specs.Parts.{service_seen, services_seen}
+use Rattle.service_plan.specs.Drafts.{HaveRulesOf, texts_of_rules}
+use Rattle.plan.specs.declared.service.Service.{Service}
+use Rattle.settings_keys.specs.Lists.{views, tables_of}
+use Rattle.settings_keys.specs.declared.key.Key.TheVariants as key
 
 abbrev pub plan_from : RecordingForm → ℕ → ℕ → Option ℕ → Option IntFields → List ServiceFields → PlanFields
 plan_from recording rate cycle frame table services =

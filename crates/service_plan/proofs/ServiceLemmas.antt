@@ -5,15 +5,15 @@ use Rattle.toml.specs.Data.{Data, Members}
 use Rattle.addr_rules.specs.Texts.{mac_of_text}
 use Rattle.plan_spec.specs.Plan.{ServiceFields, ule, mpe, fec, gse}
 use Rattle.plan_spec.specs.Checks.{is_service_name}
-use Rattle.plan_spec.specs.Keys.{SettingsFault, key_fault, table_fault, number_or, flag_or, text_or, items_at, texts_at}
-use Rattle.plan_spec.specs.Settings.{kind_key, mode_key, ule_keys, mpe_keys, indexed_keys, sliced_keys, gse_keys, kind_text, is_sliced_mode, kind_fault, fec_fault, service_fault, kind_of}
+use Rattle.settings_spec.specs.Keys.{SettingsFault, key_fault, table_fault, number_or, flag_or, text_or, items_at, texts_at}
+use Rattle.settings_spec.specs.Settings.{kind_key, mode_key, ule_keys, mpe_keys, indexed_keys, sliced_keys, gse_keys, kind_text, is_sliced_mode, kind_fault, fec_fault, service_fault, kind_of}
 use Rattle.plan_spec.specs.Valid.{is_valid_kind, has_valid_values}
-use Rattle.service_plan.specs.Parts.{kind_seen}
-use Rattle.settings_text.specs.Lists.{macs_of}
+use Rattle.plan.specs.Parts.{kind_seen}
+use Rattle.settings_keys.specs.Lists.{macs_of}
 use Rattle.service_plan.specs.Reading.{AnswersOrWants}
 use Rattle.service_plan.specs.declared.fault.PlanError.{PlanError}
 use Rattle.service_plan.specs.Services.{IsEnded, IsServiceOf}
-use Rattle.service_plan.specs.declared.service.Kind.{Kind}
+use Rattle.plan.specs.declared.service.Kind.{Kind}
 use Rattle.service_plan.specs.declared.draft.ServiceDraft.{ServiceDraft}
 
 -- the kinds

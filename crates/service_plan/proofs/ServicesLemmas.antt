@@ -9,15 +9,15 @@ use Rattle.toml.specs.View.{view}
 use Rattle.toml.specs.declared.value.Value.{Value}
 use Rattle.addr_rules.specs.declared.rules.Rule.{Rule}
 use Rattle.plan_spec.specs.Plan.{ServiceFields, services_with}
-use Rattle.plan_spec.specs.Keys.{first_of, texts_at}
-use Rattle.plan_spec.specs.Settings.{service_fault, services_fault, service_of, services_of}
-use Rattle.plan_spec.specs.Refusal.{AreRules, AreRuleLists}
+use Rattle.settings_spec.specs.Keys.{first_of, texts_at}
+use Rattle.settings_spec.specs.Settings.{service_fault, services_fault, service_of, services_of}
+use Rattle.settings_spec.specs.Refusal.{AreRules, AreRuleLists}
 use Rattle.plan_spec.specs.Valid.{has_valid_values}
-use Rattle.service_plan.specs.Parts.{service_seen}
-use Rattle.settings_text.specs.Lists.{views, tables_of}
+use Rattle.plan.specs.Parts.{service_seen, services_seen}
+use Rattle.settings_keys.specs.Lists.{views, tables_of}
 use Rattle.service_plan.specs.Services.{IsServiceOf, HasRulesOf, ruled}
-use Rattle.service_plan.specs.Drafts.{services_seen, rules_seen, texts_of_rules, AreServicesOf}
-use Rattle.service_plan.specs.declared.service.Service.{Service}
+use Rattle.service_plan.specs.Drafts.{rules_seen, texts_of_rules, AreServicesOf}
+use Rattle.plan.specs.declared.service.Service.{Service}
 use Rattle.service_plan.specs.declared.draft.ServiceDraft.{ServiceDraft}
 use Rattle.service_plan.specs.declared.services.ServicesDraft.{ServicesDraft}
 

@@ -15,10 +15,9 @@ use Rattle.addr_rules.specs.declared.rules.Rule.{Rule}
 use Rattle.int_spec.specs.Table.{EntryFields, TableFields, tag_of, most_rules, goes_into, with_rule, rule_bytes, group_bytes, target_bytes, entry_bytes, table_bytes}
 use Rattle.plan_spec.specs.Plan.{KindFields, ule, mpe, fec, gse, ServiceFields, IntFields, PlanFields}
 use Rattle.plan_spec.specs.Signalling.{entry_of, table_of, table_packets}
-use Rattle.service_plan.specs.Parts.{service_seen}
-use Rattle.service_plan.specs.Drafts.{services_seen}
+use Rattle.plan.specs.Parts.{service_seen, services_seen}
 use Rattle.service_plan.specs.Sizes.{size_from, identifier_size, entry_size}
-use Rattle.service_plan.specs.declared.service.Service.{Service}
+use Rattle.plan.specs.declared.service.Service.{Service}
 
 -- rules after the last but one descriptor leave those before it as they are
 fold-with_rule : (group next : List Rule) (others : List (List Rule)) (rules : List Rule)
@@ -87,12 +86,6 @@ size_end services i past = rw (drop_all i services past)
 
 pub rules_more : (rules : List Rule) (i : ℕ) (r : Rule) → i < length rules → r ≡ get_or rules i r → drop i rules ≡ r ∷ drop (i + 1) rules
 rules_more rules i r within is = rw (drop_more rules i r within, ← is)
-
-pub rules_next : (rules : List Rule) (i : ℕ) (r : Rule) → slice_get rules i ≡ Some r → drop i rules ≡ r ∷ drop (i + 1) rules
-rules_next rules i r found =
-    let within = slice_get_within rules i r found in
-    let is : get_or rules i r ≡ r = get_or_from_slice_get rules i r r found in
-    rw (drop_more rules i r within, is)
 
 pub no_rules_left : (first : Option Rule) (count size total i : ℕ) (rules : List Rule) → length rules ≤ i → size + size_from first count (drop i rules) ≡ total → size ≡ total
 no_rules_left first count size total i rules past far = let h = rw (drop_all i rules past) at far in omega (arith, h)

@@ -2,8 +2,8 @@
 use Rattle.std.specs.Prelude.{◌≡◌, None}
 use Rattle.toml.specs.Data.{Members}
 use Rattle.plan_spec.specs.Plan.{PlanFields}
-use Rattle.plan_spec.specs.Settings.{tables_fault}
-use Rattle.plan_spec.specs.Refusal.{Fails, whole_checks, NoneFails, IsPlan}
+use Rattle.settings_spec.specs.Settings.{tables_fault}
+use Rattle.settings_spec.specs.Refusal.{Fails, whole_checks, NoneFails, IsPlan}
 
 pub record IsAcceptedTable (top : Members) (plan : PlanFields) : Type 0 where
   pub tables : tables_fault top ≡ None

@@ -3,19 +3,16 @@ use Rattle.std.specs.Prelude.{◌≡◌, ℕ, Bool, true, List, length, map, cod
 use Rattle.std.specs.List.{list_all}
 use Rattle.toml.specs.Data.{Members}
 use Rattle.addr_rules.specs.declared.rules.Rule.{Rule}
-use Rattle.plan_spec.specs.Plan.{ServiceFields, services_with}
-use Rattle.plan_spec.specs.Keys.{texts_at}
-use Rattle.plan_spec.specs.Settings.{services_of}
-use Rattle.plan_spec.specs.Refusal.{AreRuleLists}
+use Rattle.plan_spec.specs.Plan.{services_with}
+use Rattle.settings_spec.specs.Keys.{texts_at}
+use Rattle.settings_spec.specs.Settings.{services_of}
+use Rattle.settings_spec.specs.Refusal.{AreRuleLists}
 use Rattle.plan_spec.specs.Valid.{has_valid_values}
-use Rattle.service_plan.specs.Parts.{service_seen}
-use Rattle.service_plan.specs.declared.service.Service.{Service}
+use Rattle.plan.specs.Parts.{services_seen}
+use Rattle.plan.specs.declared.service.Service.{Service}
 use Rattle.service_plan.specs.declared.services.ServicesDraft.{ServicesDraft}
 
--- services as definitions say them, and their rules
-abbrev pub services_seen : List Service → List ServiceFields
-services_seen services = map service_seen services
-
+-- the rules of services
 abbrev pub rules_seen : List Service → List (List Rule)
 rules_seen services = map (λ (service : Service). service.rules) services
 

@@ -1,7 +1,7 @@
 -- Errors as definitions say them.
 use Rattle.std.specs.Prelude.{◌≡◌, Option, Some}
-use Rattle.plan_spec.specs.Keys.{SettingsFault}
-pub use Rattle.settings_text.specs.Keys.{key_text, fault_seen}
+use Rattle.settings_spec.specs.Keys.{SettingsFault}
+pub use Rattle.settings_keys.specs.Keys.{key_text, fault_seen}
 use Rattle.service_plan.specs.declared.fault.PlanError.{PlanError}
 use Rattle.service_plan.specs.declared.fault.PlanError.TheVariants as error
 

@@ -1,5 +1,4 @@
 pub mod Keys
-pub mod Parts
 pub mod Reading
 pub mod Top
 pub mod Services
@@ -7,6 +6,5 @@ pub mod Drafts
 pub mod Plans
 pub mod Wholes
 pub mod Order
-pub mod PlanView
 pub mod Accepted
 pub mod Sizes

@@ -2,7 +2,7 @@
 use Rattle.std.specs.Prelude.{Bool, not, ◌||◌, Option, Some, None, if◌then◌else◌}
 use Rattle.plan_spec.specs.Plan.{PlanFields, rule_lists}
 use Rattle.plan_spec.specs.Checks.{has_wrong_carrier, has_same_name, has_same_pid, has_wrong_count, needs_stamps, has_wrong_window, has_short_gap, has_long_cycle}
-use Rattle.plan_spec.specs.Keys.{SettingsFault, wrong_carrier, same_name, same_pid, wrong_rules, no_stamps, wrong_window, short_gap, long_cycle}
+use Rattle.settings_spec.specs.Keys.{SettingsFault, wrong_carrier, same_name, same_pid, wrong_rules, no_stamps, wrong_window, short_gap, long_cycle}
 use Rattle.plan_spec.specs.Signalling.{table_packets}
 
 -- the first of eight tests that is met names the fault

@@ -3,11 +3,11 @@ use Rattle.std.specs.Prelude.{◌≡◌, true, map, codes, Option}
 use Rattle.std.specs.List.{list_all}
 use Rattle.toml.specs.Data.{Members}
 use Rattle.plan_spec.specs.Plan.{PlanFields, with_rules}
-use Rattle.plan_spec.specs.Keys.{SettingsFault, KeyRule, key_fault, unknown_fault, keys_fault, first_of, table_at, tables_at}
-use Rattle.plan_spec.specs.Settings.{top_keys, value_keys, int_key, service_key, int_fault, services_fault, plan_of, rule_texts}
+use Rattle.settings_spec.specs.Keys.{SettingsFault, KeyRule, key_fault, unknown_fault, keys_fault, first_of, table_at, tables_at}
+use Rattle.settings_spec.specs.Settings.{top_keys, value_keys, int_key, service_key, int_fault, services_fault, plan_of, rule_texts}
 use Rattle.plan_spec.specs.Valid.{has_valid_top, has_valid_values}
-use Rattle.service_plan.specs.Parts.{plan_seen}
-use Rattle.service_plan.specs.Drafts.{services_seen, rules_seen, HaveRulesOf}
+use Rattle.plan.specs.Parts.{plan_seen, services_seen}
+use Rattle.service_plan.specs.Drafts.{rules_seen, HaveRulesOf}
 use Rattle.service_plan.specs.declared.tables.Draft.{Draft}
 
 -- what is wrong with the tables, table by table

@@ -5,13 +5,13 @@ use Rattle.addr_rules.specs.Macs.{broadcast_mac}
 use Rattle.addr_rules.specs.declared.rules.Rule.{Rule}
 use Rattle.plan_spec.specs.Plan.{ServiceFields}
 use Rattle.plan_spec.specs.Checks.{is_between}
-use Rattle.plan_spec.specs.Keys.{number_or, address_or, texts_at}
-use Rattle.plan_spec.specs.Settings.{service_of}
-use Rattle.plan_spec.specs.Refusal.{AreRules}
+use Rattle.settings_spec.specs.Keys.{number_or, address_or, texts_at}
+use Rattle.settings_spec.specs.Settings.{service_of}
+use Rattle.settings_spec.specs.Refusal.{AreRules}
 use Rattle.plan_spec.specs.Valid.{has_valid_values}
-use Rattle.service_plan.specs.Parts.{kind_seen, service_seen}
-use Rattle.settings_text.specs.Lists.{texts_of}
-use Rattle.service_plan.specs.declared.service.Kind.{Kind}
+use Rattle.plan.specs.Parts.{kind_seen, service_seen}
+use Rattle.settings_keys.specs.Lists.{texts_of}
+use Rattle.plan.specs.declared.service.Kind.{Kind}
 use Rattle.service_plan.specs.declared.draft.ServiceDraft.{ServiceDraft}
 
 -- its rules are those of the texts, where each text is a rule

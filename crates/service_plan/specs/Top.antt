@@ -2,9 +2,9 @@
 use Rattle.std.specs.Prelude.{◌≡◌, true, codes}
 use Rattle.toml.specs.Data.{Members}
 use Rattle.plan_spec.specs.Checks.{is_between}
-use Rattle.plan_spec.specs.Keys.{text_or, number_or}
-use Rattle.plan_spec.specs.Settings.{recording_of, says_baseband}
-use Rattle.service_plan.specs.Parts.{form_of}
+use Rattle.settings_spec.specs.Keys.{text_or, number_or}
+use Rattle.settings_spec.specs.Settings.{recording_of, says_baseband}
+use Rattle.plan.specs.Parts.{form_of}
 use Rattle.service_plan.specs.declared.top.TopValues.{TopValues}
 
 pub record AreTopValues (top : Members) (values : TopValues) : Type 0 where

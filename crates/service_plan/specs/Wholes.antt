@@ -2,8 +2,8 @@
 use Rattle.std.specs.Prelude.{ℕ, ◌-◌, ◌*◌, ◌/◌, Bool, true, false, nat_lt, ◌==◌, List, Option, None, Some, is_some}
 use Rattle.std.specs.List.{list_any, filter_map}
 use Rattle.plan_spec.specs.Plan.{KindFields, IntFields, PlanFields, pid_of, isi_of, SlicedFields, sliced_of}
-use Rattle.service_plan.specs.Parts.{kind_seen}
-use Rattle.service_plan.specs.declared.service.Service.{Service}
+use Rattle.plan.specs.Parts.{kind_seen}
+use Rattle.plan.specs.declared.service.Service.{Service}
 use Rattle.service_plan.specs.declared.windows.Sliced.{Sliced}
 
 -- the ISI in baseband frames, the PID in packets

@@ -1,17 +1,17 @@
 //! The end of a service's table: its rules, and the values that every kind has.
 ghost use Rattle.std.specs.Prelude.{◌≡◌, ◌≤◌, Bool, true, false, codes};
 ghost use Rattle.toml.specs.View.{table_view};
-ghost use Rattle.plan_spec.specs.Keys.{keys_fault, key_fault};
-ghost use Rattle.plan_spec.specs.Settings.{last_keys, filter_key};
-ghost use Rattle.plan_spec.specs.Keys.{items_at};
-ghost use Rattle.settings_text.specs.Lists.{views, macs_of};
+ghost use Rattle.settings_spec.specs.Keys.{keys_fault, key_fault};
+ghost use Rattle.settings_spec.specs.Settings.{last_keys, filter_key};
+ghost use Rattle.settings_spec.specs.Keys.{items_at};
+ghost use Rattle.settings_keys.specs.Lists.{views, macs_of};
 ghost use Rattle.service_plan.specs.Reading.{AnswersOrWants};
 ghost use Rattle.service_plan.specs.Services.{IsEnded};
 
 use crate::fault::{PlanError, PlanFault};
-use crate::service::{Kind, Name, Service};
+use plan::{Kind, Name, Service};
 use addr_rules::MacList;
-use settings_text::{Key, addresses, filter_items, number, rules, unicast};
+use settings_keys::{Key, addresses, filter_items, number, rules, unicast};
 use std::alloc::Global;
 use toml::{Table, Value};
 
@@ -38,7 +38,7 @@ pub(crate) fn filter(alloc: Global, table: &Table) -> Result<MacList, PlanError>
 }
 
 /// Reads the last values, and makes the service.
-#[tactic(auto, using(settings_text::proofs::KeyLemmas::first_here, settings_text::proofs::KeyLemmas::first_later))]
+#[tactic(auto, using(settings_keys::proofs::KeyLemmas::first_here, settings_keys::proofs::KeyLemmas::first_later))]
 pub(crate) fn finish(
     alloc: Global,
     place: u8,

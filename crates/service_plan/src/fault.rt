@@ -1,6 +1,6 @@
 //! Why no plan was read.
 
-pub use settings_text::PlanFault;
+pub use settings_keys::PlanFault;
 use std::alloc::AllocError as OutOfMemory;
 
 /// Why no plan was read.

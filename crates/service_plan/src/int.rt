@@ -1,15 +1,15 @@
 //! The table of the INT in settings.
 ghost use Rattle.std.specs.Prelude.{◌≡◌, true, Some, option_map};
 ghost use Rattle.toml.specs.View.{table_view};
-ghost use Rattle.plan_spec.specs.Keys.{table_fault};
-ghost use Rattle.plan_spec.specs.Settings.{int_keys, int_of, int_fault};
+ghost use Rattle.settings_spec.specs.Keys.{table_fault};
+ghost use Rattle.settings_spec.specs.Settings.{int_keys, int_of, int_fault};
 ghost use Rattle.plan_spec.specs.Valid.{is_valid_int};
-ghost use Rattle.service_plan.specs.Parts.{int_seen};
+ghost use Rattle.plan.specs.Parts.{int_seen};
 ghost use Rattle.service_plan.specs.Reading.{Answers};
 
 use crate::fault::PlanFault;
-use crate::plan::IntPlan;
-use settings_text::{Key, number, pid, refuse_unknown};
+use plan::IntPlan;
+use settings_keys::{Key, number, pid, refuse_unknown};
 use toml::Table;
 
 /// The keys of the table.
@@ -22,7 +22,7 @@ const INT_KEYS: [Key; 5] = [
 ];
 
 /// Reads the table.
-#[tactic(auto, using(settings_text::proofs::KeyLemmas::first_here, settings_text::proofs::KeyLemmas::first_later))]
+#[tactic(auto, using(settings_keys::proofs::KeyLemmas::first_here, settings_keys::proofs::KeyLemmas::first_later))]
 fn read_table(int: &Table) -> Result<IntPlan, PlanFault>
     ensures read { Answers result (table_fault int_keys (table_view int.now)) (λ r. (int_seen r ≡ int_of (table_view int.now)) × (is_valid_int (Some (int_seen r)) ≡ true)) }
 {

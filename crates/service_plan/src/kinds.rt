@@ -1,16 +1,16 @@
 //! The table of a service, by its kind.
 ghost use Rattle.std.specs.Prelude.{◌≡◌, ◌≤◌, true, false, codes, None, bytes_eq};
 ghost use Rattle.toml.specs.View.{table_view};
-ghost use Rattle.plan_spec.specs.Keys.{key_fault, table_fault};
-ghost use Rattle.plan_spec.specs.Settings.{kind_key, mode_key, kind_text, is_sliced_mode, ule_keys, mpe_keys, indexed_keys, sliced_keys, gse_keys, fec_fault, service_fault};
+ghost use Rattle.settings_spec.specs.Keys.{key_fault, table_fault};
+ghost use Rattle.settings_spec.specs.Settings.{kind_key, mode_key, kind_text, is_sliced_mode, ule_keys, mpe_keys, indexed_keys, sliced_keys, gse_keys, fec_fault, service_fault};
 ghost use Rattle.service_plan.specs.Reading.{AnswersOrWants};
 ghost use Rattle.service_plan.specs.Services.{IsServiceOf};
 
 use crate::draft::{ServiceDraft, filter, finish};
 use crate::fault::PlanError;
-use crate::service::Kind;
+use plan::Kind;
 use addr_rules::MacList;
-use settings_text::{
+use settings_keys::{
     Key, flag, kind_word, name_text, number, pid, refuse_unknown, rows, rule_items, word,
 };
 use std::alloc::Global;
@@ -86,7 +86,7 @@ const GSE_KEYS: [Key; 9] = [
 ];
 
 /// Reads a ULE service.
-#[tactic(auto, using(settings_text::proofs::KeyLemmas::first_here, settings_text::proofs::KeyLemmas::first_later, crate::proofs::KeyLemmas::error_here, crate::proofs::KeyLemmas::error_later))]
+#[tactic(auto, using(settings_keys::proofs::KeyLemmas::first_here, settings_keys::proofs::KeyLemmas::first_later, crate::proofs::KeyLemmas::error_here, crate::proofs::KeyLemmas::error_later))]
 fn ule(alloc: Global, place: u8, table: &Table) -> Result<ServiceDraft, PlanError>
     requires word { kind_text (table_view table.now) ≡ codes "ule" }
     requires kind { key_fault kind_key (table_view table.now) ≡ None }
@@ -111,7 +111,7 @@ fn ule(alloc: Global, place: u8, table: &Table) -> Result<ServiceDraft, PlanErro
 }
 
 /// Reads an MPE service.
-#[tactic(auto, using(settings_text::proofs::KeyLemmas::first_here, settings_text::proofs::KeyLemmas::first_later, crate::proofs::KeyLemmas::error_here, crate::proofs::KeyLemmas::error_later))]
+#[tactic(auto, using(settings_keys::proofs::KeyLemmas::first_here, settings_keys::proofs::KeyLemmas::first_later, crate::proofs::KeyLemmas::error_here, crate::proofs::KeyLemmas::error_later))]
 fn mpe(alloc: Global, place: u8, table: &Table) -> Result<ServiceDraft, PlanError>
     requires word { kind_text (table_view table.now) ≡ codes "mpe" }
     requires kind { key_fault kind_key (table_view table.now) ≡ None }
@@ -130,7 +130,7 @@ fn mpe(alloc: Global, place: u8, table: &Table) -> Result<ServiceDraft, PlanErro
 }
 
 /// Reads a service with indexed frames.
-#[tactic(auto, using(settings_text::proofs::KeyLemmas::first_here, settings_text::proofs::KeyLemmas::first_later, crate::proofs::KeyLemmas::error_here, crate::proofs::KeyLemmas::error_later))]
+#[tactic(auto, using(settings_keys::proofs::KeyLemmas::first_here, settings_keys::proofs::KeyLemmas::first_later, crate::proofs::KeyLemmas::error_here, crate::proofs::KeyLemmas::error_later))]
 fn indexed(alloc: Global, place: u8, table: &Table) -> Result<ServiceDraft, PlanError>
     requires word { kind_text (table_view table.now) ≡ codes "fec" }
     requires kind { key_fault kind_key (table_view table.now) ≡ None }
@@ -158,7 +158,7 @@ fn indexed(alloc: Global, place: u8, table: &Table) -> Result<ServiceDraft, Plan
 }
 
 /// Reads a service with sliced frames.
-#[tactic(auto, using(settings_text::proofs::KeyLemmas::first_here, settings_text::proofs::KeyLemmas::first_later, crate::proofs::KeyLemmas::error_here, crate::proofs::KeyLemmas::error_later))]
+#[tactic(auto, using(settings_keys::proofs::KeyLemmas::first_here, settings_keys::proofs::KeyLemmas::first_later, crate::proofs::KeyLemmas::error_here, crate::proofs::KeyLemmas::error_later))]
 fn sliced(alloc: Global, place: u8, table: &Table) -> Result<ServiceDraft, PlanError>
     requires word { kind_text (table_view table.now) ≡ codes "fec" }
     requires kind { key_fault kind_key (table_view table.now) ≡ None }
@@ -188,7 +188,7 @@ fn sliced(alloc: Global, place: u8, table: &Table) -> Result<ServiceDraft, PlanE
 }
 
 /// Reads a GSE service.
-#[tactic(auto, using(settings_text::proofs::KeyLemmas::first_here, settings_text::proofs::KeyLemmas::first_later, crate::proofs::KeyLemmas::error_here, crate::proofs::KeyLemmas::error_later))]
+#[tactic(auto, using(settings_keys::proofs::KeyLemmas::first_here, settings_keys::proofs::KeyLemmas::first_later, crate::proofs::KeyLemmas::error_here, crate::proofs::KeyLemmas::error_later))]
 fn gse(alloc: Global, place: u8, table: &Table) -> Result<ServiceDraft, PlanError>
     requires not_ule { bytes_eq (kind_text (table_view table.now)) (codes "ule") ≡ false }
     requires not_mpe { bytes_eq (kind_text (table_view table.now)) (codes "mpe") ≡ false }
@@ -213,7 +213,7 @@ fn gse(alloc: Global, place: u8, table: &Table) -> Result<ServiceDraft, PlanErro
 }
 
 /// Reads a service with frames.
-#[tactic(auto, using(settings_text::proofs::KeyLemmas::first_here))]
+#[tactic(auto, using(settings_keys::proofs::KeyLemmas::first_here))]
 fn fec(alloc: Global, place: u8, table: &Table) -> Result<ServiceDraft, PlanError>
     requires word { kind_text (table_view table.now) ≡ codes "fec" }
     requires kind { key_fault kind_key (table_view table.now) ≡ None }

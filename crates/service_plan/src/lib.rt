@@ -1,19 +1,15 @@
-//! Plans: what settings in TOML say, with every check that they pass; which service takes a datagram.
+//! Settings in TOML -> the plan that they give, or the first check that they fail.
 //!
-//! Settings -> [service_plan] -> plan; what sends and receives stands on plans. TOML 1.1, EN 301 192 clause 8.4 (the INT's packets).
-//! Begin with `read_plan` and `route`.
+//! Settings -> [service_plan] -> plan. TOML 1.1, EN 301 192 clause 8.4 (the INT's packets).
+//! Begin with `read_plan`. The types and calls of `plan` are passed on.
 #![tactic(auto)]
 
 mod draft;
 mod fault;
-mod given;
 mod int;
 mod kinds;
 mod pairs;
-mod plan;
 mod read;
-mod routes;
-mod service;
 mod services;
 mod signalling;
 mod tables;
@@ -24,9 +20,6 @@ mod whole;
 mod windows;
 
 pub use fault::{PlanError, PlanFault};
-pub use given::{sample_plan, ule_plan};
-pub use plan::{IntPlan, Plan};
+pub use plan::{IntPlan, Kind, Name, Plan, Service, ServiceList, longest, route, sample_plan, ule_plan};
 pub use read::read_plan;
-pub use routes::{longest, route};
-pub use service::{Kind, Name, Service, ServiceList};
-pub use settings_text::Key;
+pub use settings_keys::Key;

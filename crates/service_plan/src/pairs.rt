@@ -2,13 +2,13 @@
 ghost use Rattle.std.specs.Prelude.{◌≡◌, ◌+◌, ◌<◌, length, drop, Bool, false, ◌==◌, ◌||◌, bytes_eq, Some, option_map};
 ghost use Rattle.std.specs.List.{list_any, filter_map};
 ghost use Rattle.plan_spec.specs.Checks.{has_pair, has_same_name as has_one_name, has_same_pid as has_one_pid};
-ghost use Rattle.plan_spec.specs.Keys.{holds};
-ghost use Rattle.service_plan.specs.Parts.{kind_seen, int_seen};
+ghost use Rattle.settings_spec.specs.Keys.{holds};
+ghost use Rattle.plan.specs.Parts.{kind_seen, int_seen};
 ghost use Rattle.service_plan.specs.Plans.{draft_seen};
 ghost use Rattle.service_plan.specs.Wholes.{id_seen, ids_seen, int_shares};
 
-use crate::plan::IntPlan;
-use crate::service::{Kind, Service};
+use plan::IntPlan;
+use plan::{Kind, Service};
 use crate::tables::Draft;
 
 /// Whether one of the services has this name.

@@ -2,15 +2,15 @@
 ghost use Rattle.std.specs.Prelude.{◌≡◌, ℕ, List, IfOk, IfErr, MatchResult, IsUtf8, Some, None};
 ghost use Rattle.toml.specs.Parse.{parse_document};
 ghost use Rattle.toml.specs.View.{table_view};
-ghost use Rattle.plan_spec.specs.Keys.{no_document};
+ghost use Rattle.settings_spec.specs.Keys.{no_document};
 ghost use Rattle.plan_spec.specs.Plan.{PlanFields};
-ghost use Rattle.plan_spec.specs.Refusal.{IsDocument, IsNoDocument, IsAccepted, IsRefused, IsRefusedTable};
+ghost use Rattle.settings_spec.specs.Refusal.{IsDocument, IsNoDocument, IsAccepted, IsRefused, IsRefusedTable};
 ghost use Rattle.service_plan.specs.Keys.{OnFault};
-ghost use Rattle.service_plan.specs.PlanView.{plan_fields};
+ghost use Rattle.plan.specs.PlanView.{plan_fields};
 ghost use Rattle.service_plan.specs.Accepted.{IsAcceptedTable};
 
 use crate::fault::{PlanError, PlanFault};
-use crate::plan::Plan;
+use plan::Plan;
 use crate::tables::{Draft, read_tables};
 use crate::whole::check_whole;
 use std::alloc::Global;

@@ -1,13 +1,13 @@
 //! The list of services in settings.
 ghost use Rattle.std.specs.Prelude.{◌≡◌, ◌≤◌, ◌&&◌, length};
-ghost use Rattle.plan_spec.specs.Settings.{services_fault};
-ghost use Rattle.settings_text.specs.Lists.{views, tables_of};
+ghost use Rattle.settings_spec.specs.Settings.{services_fault};
+ghost use Rattle.settings_keys.specs.Lists.{views, tables_of};
 ghost use Rattle.service_plan.specs.Reading.{AnswersOrWants};
 ghost use Rattle.service_plan.specs.Drafts.{AreServicesOf};
 
 use crate::fault::PlanError;
 use crate::kinds::read_service;
-use crate::service::ServiceList;
+use plan::ServiceList;
 use std::alloc::Global;
 use toml::Value;
 

@@ -5,11 +5,11 @@ ghost use Rattle.int_spec.specs.Table.{rule_bytes, tag_of, most_rules, target_by
 ghost use Rattle.plan_spec.specs.Plan.{rule_lists};
 ghost use Rattle.plan_spec.specs.Checks.{has_too_many_rules};
 ghost use Rattle.plan_spec.specs.Signalling.{table_packets as packets_of_plan};
-ghost use Rattle.service_plan.specs.Parts.{kind_seen, service_seen};
+ghost use Rattle.plan.specs.Parts.{kind_seen, service_seen};
 ghost use Rattle.service_plan.specs.Plans.{draft_seen};
 ghost use Rattle.service_plan.specs.Sizes.{opens as opens_descriptor, size_from, identifier_size as size_of_identifier, entry_size};
 
-use crate::service::{Kind, Service};
+use plan::{Kind, Service};
 use crate::tables::Draft;
 use addr_rules::{Rule, RuleList};
 use ip_datagram::IpAddress;

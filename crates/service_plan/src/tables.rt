@@ -7,12 +7,12 @@ ghost use Rattle.service_plan.specs.Plans.{IsDraftOf, parts_fault};
 
 use crate::fault::PlanError;
 use crate::int::read_int;
-use crate::plan::IntPlan;
-use crate::service::ServiceList;
+use plan::IntPlan;
+use plan::ServiceList;
 use crate::services::read_services;
 use crate::top::{int_table, top_values};
 use ipe_io::Recording;
-use settings_text::{Key, refuse_unknown, service_items};
+use settings_keys::{Key, refuse_unknown, service_items};
 use std::alloc::Global;
 use toml::Table;
 
@@ -55,7 +55,7 @@ fn frame_size(baseband: bool, bytes: u32) -> Option<u16>
 }
 
 /// Reads the top table, then that of the INT, then those of the services.
-#[tactic(auto, using(settings_text::proofs::KeyLemmas::first_here, settings_text::proofs::KeyLemmas::first_later))]
+#[tactic(auto, using(settings_keys::proofs::KeyLemmas::first_here, settings_keys::proofs::KeyLemmas::first_later))]
 pub(crate) fn read_tables(alloc: Global, top: &Table) -> Result<Draft, PlanError>
     ensures read { AnswersOrWants result (parts_fault (table_view top.now)) (IsDraftOf (table_view top.now)) }
 {

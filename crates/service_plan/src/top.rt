@@ -1,15 +1,15 @@
 //! The top table of settings.
 ghost use Rattle.std.specs.Prelude.{◌≡◌, false, codes, option_map, bytes_eq, if◌then◌else◌};
 ghost use Rattle.toml.specs.View.{table_view};
-ghost use Rattle.plan_spec.specs.Keys.{keys_fault, one_table, table_at};
-ghost use Rattle.plan_spec.specs.Settings.{value_keys, recording_of};
-ghost use Rattle.service_plan.specs.Parts.{form_of};
+ghost use Rattle.settings_spec.specs.Keys.{keys_fault, one_table, table_at};
+ghost use Rattle.settings_spec.specs.Settings.{value_keys, recording_of};
+ghost use Rattle.plan.specs.Parts.{form_of};
 ghost use Rattle.service_plan.specs.Reading.{Answers, Reads, rule_for};
 ghost use Rattle.service_plan.specs.Top.{AreTopValues};
 
 use crate::fault::PlanFault;
 use ipe_io::Recording;
-use settings_text::{Key, find, number, word};
+use settings_keys::{Key, find, number, word};
 use toml::Table;
 
 /// The values of the top table.
@@ -34,7 +34,7 @@ fn recording_named(word: &str) -> Recording
 }
 
 /// Reads the values of the top table, in the order of their keys.
-#[tactic(auto, using(settings_text::proofs::KeyLemmas::first_here, settings_text::proofs::KeyLemmas::first_later))]
+#[tactic(auto, using(settings_keys::proofs::KeyLemmas::first_here, settings_keys::proofs::KeyLemmas::first_later))]
 pub(crate) fn top_values(top: &Table) -> Result<TopValues, PlanFault>
     ensures read { Answers result (keys_fault value_keys (table_view top.now)) (AreTopValues (table_view top.now)) }
 {

@@ -4,14 +4,14 @@ ghost use Rattle.std.specs.List.{list_all, list_any};
 ghost use Rattle.plan_spec.specs.Plan.{rule_lists};
 ghost use Rattle.plan_spec.specs.Checks.{is_gse as is_gse_kind, has_wrong_carrier as has_bad_carrier, has_wrong_count};
 ghost use Rattle.plan_spec.specs.Valid.{has_valid_top};
-ghost use Rattle.service_plan.specs.Parts.{kind_seen};
+ghost use Rattle.plan.specs.Parts.{kind_seen};
 ghost use Rattle.service_plan.specs.Plans.{draft_seen};
 ghost use Rattle.service_plan.specs.Reading.{Answers, Always};
 ghost use Rattle.service_plan.specs.Order.{whole_fault};
 
 use crate::fault::PlanFault;
 use crate::pairs::{any_of, has_same_name, has_same_pid};
-use crate::service::{Kind, Service};
+use plan::{Kind, Service};
 use crate::signalling::table_packets;
 use crate::tables::Draft;
 use crate::windows::{has_long_cycle, has_short_gap, has_wrong_window, is_plain, needs_stamps};

@@ -3,13 +3,13 @@ ghost use Rattle.std.specs.Prelude.{◌≡◌, ◌≤◌, ◌+◌, ◌-◌, ◌*
 ghost use Rattle.std.specs.List.{list_any, filter_map};
 ghost use Rattle.plan_spec.specs.Plan.{sliced_of};
 ghost use Rattle.plan_spec.specs.Checks.{has_pair, overlaps as overlaps_other, is_wrong_window, is_too_short as is_short, is_too_long as is_long, leaves_cycle as leaves, has_wrong_window as has_bad_window, has_short_gap as has_small_gap, has_long_cycle as has_great_cycle, needs_stamps as needs_times, is_sliced, is_plain as is_plain_form};
-ghost use Rattle.plan_spec.specs.Keys.{holds};
-ghost use Rattle.service_plan.specs.Parts.{kind_seen, form_of};
+ghost use Rattle.settings_spec.specs.Keys.{holds};
+ghost use Rattle.plan.specs.Parts.{kind_seen, form_of};
 ghost use Rattle.service_plan.specs.Plans.{draft_seen};
 ghost use Rattle.service_plan.specs.Wholes.{has_slices, sliced_view, is_small_gap};
 
 use crate::pairs::{any_of, behind};
-use crate::service::{Kind, Service};
+use plan::{Kind, Service};
 use crate::services::both;
 use crate::tables::Draft;
 use ipe_io::Recording;

@@ -4,7 +4,7 @@ use Rattle.std.specs.Option.{unwrap_or, option_and_then}
 use Rattle.toml.specs.Data.{Data, Members, get_member, as_str}
 use Rattle.addr_rules.specs.Texts.{mac_of_text}
 use Rattle.plan_spec.specs.Checks.{is_between, is_service_name}
-use Rattle.plan_spec.specs.Keys.{SettingsFault, missing, wrong_type, out_of_range, Values, range, name_text, address_text, has_type, in_range, as_natural, holds, KeyRule, value_fault, key_fault, unknown_fault, first_of, keys_fault, table_fault, text_or, number_or, address_or}
+use Rattle.settings_spec.specs.Keys.{SettingsFault, missing, wrong_type, out_of_range, Values, range, name_text, address_text, has_type, in_range, as_natural, holds, KeyRule, value_fault, key_fault, unknown_fault, first_of, keys_fault, table_fault, text_or, number_or, address_or}
 use Rattle.carriage_law.proofs.Member.{Member}
 use Rattle.stream_law.specs.Words.{IsMac}
 use Rattle.settings_law.proofs.Addresses.{mac_is}

@@ -10,9 +10,9 @@ use Rattle.addr_rules.specs.declared.rules.Rule.{Rule}
 use Rattle.int_spec.specs.Table.{IsRule}
 use Rattle.plan_spec.specs.Plan.{WindowFields, KindFields, ule, mpe, fec, gse, ServiceFields, services_with}
 use Rattle.plan_spec.specs.Checks.{is_between, is_row_count, is_service_name}
-use Rattle.plan_spec.specs.Keys.{range, row_count, address_text, KeyRule, optional, required, key_fault, table_fault, texts_at, text_or, number_or, flag_or}
-use Rattle.plan_spec.specs.Settings.{name_key, kind_key, pid_key, mode_key, ule_keys, mpe_keys, indexed_keys, sliced_keys, gse_keys, kind_text, is_sliced_mode, fec_fault, kind_fault, service_fault, services_fault, window_of, kind_of, service_of, services_of}
-use Rattle.plan_spec.specs.Refusal.{AreRules, AreRuleLists}
+use Rattle.settings_spec.specs.Keys.{range, row_count, address_text, KeyRule, optional, required, key_fault, table_fault, texts_at, text_or, number_or, flag_or}
+use Rattle.settings_spec.specs.Settings.{name_key, kind_key, pid_key, mode_key, ule_keys, mpe_keys, indexed_keys, sliced_keys, gse_keys, kind_text, is_sliced_mode, fec_fault, kind_fault, service_fault, services_fault, window_of, kind_of, service_of, services_of}
+use Rattle.settings_spec.specs.Refusal.{AreRules, AreRuleLists}
 use Rattle.plan_spec.specs.Valid.{is_valid_window, is_valid_kind, is_valid_rule, has_valid_values, is_valid_service}
 use Rattle.stream_law.specs.Words.{IsMac}
 use Rattle.settings_law.proofs.Addresses.{rule_is}

@@ -16,8 +16,8 @@ use Rattle.addr_rules.proofs.GroupTexts.{groups_or_empty, empty_only, single_col
 use Rattle.addr_rules.proofs.DoubleColons.{no_double, double_at, same_cut}
 use Rattle.addr_rules.proofs.RuleTexts.{no_dot, dotted}
 use Rattle.plan_spec.specs.Plan.{PlanFields, with_rules}
-use Rattle.plan_spec.specs.Refusal.{AreRules, AreRuleLists, IsPlan, IsAccepted}
-use Rattle.plan_spec.specs.Settings.{plan_of, rule_texts}
+use Rattle.settings_spec.specs.Refusal.{AreRules, AreRuleLists, IsPlan, IsAccepted}
+use Rattle.settings_spec.specs.Settings.{plan_of, rule_texts}
 
 -- Decimals.
 

@@ -9,10 +9,10 @@ use Rattle.addr_rules.specs.declared.rules.Rule.{Rule}
 use Rattle.int_spec.specs.Table.{IsRule}
 use Rattle.plan_spec.specs.Plan.{KindFields, ServiceFields, PlanFields, services_with, with_rules, rule_lists}
 use Rattle.plan_spec.specs.Checks.{has_wrong_carrier, has_same_name, has_same_pid, has_no_rule, has_too_many_rules, has_wrong_count, needs_stamps, has_wrong_window, has_short_gap, has_long_cycle}
-use Rattle.plan_spec.specs.Keys.{texts_at, tables_at}
-use Rattle.plan_spec.specs.Settings.{plan_of, rule_texts}
+use Rattle.settings_spec.specs.Keys.{texts_at, tables_at}
+use Rattle.settings_spec.specs.Settings.{plan_of, rule_texts}
 use Rattle.plan_spec.specs.Signalling.{table_packets}
-use Rattle.plan_spec.specs.Refusal.{AreRules, AreRuleLists, HasNoRule, Fails, whole_checks, NoneFails, IsAccepted}
+use Rattle.settings_spec.specs.Refusal.{AreRules, AreRuleLists, HasNoRule, Fails, whole_checks, NoneFails, IsAccepted}
 use Rattle.plan_spec.specs.Valid.{is_valid_service, is_in_range, is_consistent, is_plan_of_settings}
 use Rattle.stream_law.specs.Words.{IsOfBytes}
 use Rattle.settings_law.proofs.Services.{services_hold, lists_are, unicasts_are}

@@ -8,7 +8,7 @@ ghost use Rattle.std.specs.Prelude.{◌≡◌, List, ℕ, true};
 ghost use Rattle.addr_rules.specs.Texts.{IsRuleText};
 ghost use Rattle.addr_rules.specs.declared.rules.Rule.{Rule};
 ghost use Rattle.plan_spec.specs.Plan.{PlanFields};
-ghost use Rattle.plan_spec.specs.Refusal.{IsAccepted};
+ghost use Rattle.settings_spec.specs.Refusal.{IsAccepted};
 ghost use Rattle.plan_spec.specs.Valid.{is_plan_of_settings, is_plan};
 ghost use Rattle.stream_law.specs.Words.{IsOfBytes};
 

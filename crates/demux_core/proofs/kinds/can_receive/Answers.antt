@@ -1,8 +1,8 @@
 use Rattle.std.proofs.Common.{◌+◌, Bool, ◌&&◌, drop, ap, sym, ◌∙◌, arith}
 use Rattle.std.specs.List.{list_all}
 use Rattle.std.proofs.lemmas.List.{drop_all}
-use Rattle.service_plan.specs.Parts.{kind_seen}
-use Rattle.service_plan.specs.declared.service.Service.{Service}
+use Rattle.plan.specs.Parts.{kind_seen}
+use Rattle.plan.specs.declared.service.Service.{Service}
 use Rattle.demux_core.specs.Receiving.{is_built}
 use Rattle.demux_core.proofs.Opened.{built_from, built_seen}
 use Rattle.demux_core.proofs.kinds.can_receive.Goals as goal

@@ -2,8 +2,8 @@ use Rattle.std.proofs.Common.{◌||◌, Option, [], ◌∷◌, ◌++◌, set, ap
 use Rattle.std.specs.Prelude.{option_map}
 use Rattle.std.proofs.lemmas.Option.{slice_get-map}
 use Rattle.ts_spec.specs.Packet.{PacketFields}
-use Rattle.service_plan.specs.Parts.{service_seen}
-use Rattle.service_plan.specs.PlanView.{plan_fields}
+use Rattle.plan.specs.Parts.{service_seen}
+use Rattle.plan.specs.PlanView.{plan_fields}
 use Rattle.service_reception.specs.Reception.{packet_record, added_by}
 use Rattle.demux_core.specs.Services.{HaveAllReceived}
 use Rattle.demux_core.specs.declared.table.TableReceiver.{TableReceiver}

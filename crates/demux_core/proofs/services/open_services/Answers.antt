@@ -1,5 +1,5 @@
 use Rattle.std.proofs.Common.{◌+◌, [], List, map, take, refl, sym, subst}
-use Rattle.service_plan.specs.Parts.{service_seen}
+use Rattle.plan.specs.Parts.{service_seen}
 use Rattle.demux_core.specs.Services.{HaveReceived}
 use Rattle.demux_core.specs.declared.service.ServiceReceiver.{ServiceReceiver}
 use Rattle.demux_core.proofs.Opened.{built_at, have_next}

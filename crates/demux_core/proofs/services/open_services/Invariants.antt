@@ -1,5 +1,5 @@
 use Rattle.std.proofs.Common.{[], map, take}
-use Rattle.service_plan.specs.Parts.{service_seen}
+use Rattle.plan.specs.Parts.{service_seen}
 use Rattle.demux_core.specs.Services.{HaveReceived}
 use Rattle.demux_core.proofs.services.open_services.Given as goal
 

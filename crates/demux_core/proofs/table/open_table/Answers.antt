@@ -1,7 +1,7 @@
 use Rattle.std.proofs.Common.{[], Option, Some, refl, sym, subst}
 use Rattle.std.specs.Prelude.{option_map}
-use Rattle.service_plan.specs.Parts.{int_seen}
-use Rattle.service_plan.specs.declared.plan.IntPlan.{IntPlan}
+use Rattle.plan.specs.Parts.{int_seen}
+use Rattle.plan.specs.declared.plan.IntPlan.{IntPlan}
 use Rattle.demux_core.specs.Services.{HasReceivedInt}
 use Rattle.demux_core.proofs.table.open_table.Goals as goal
 

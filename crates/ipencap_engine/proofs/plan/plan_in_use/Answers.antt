@@ -1,5 +1,5 @@
-use Rattle.service_plan.specs.PlanView.{plan_fields}
-use Rattle.settings_text.specs.Keys.{fault_seen}
+use Rattle.plan.specs.PlanView.{plan_fields}
+use Rattle.settings_keys.specs.Keys.{fault_seen}
 use Rattle.ipencap_engine.proofs.Plans.{refused_for_use, not_unbuilt, not_refused}
 use Rattle.ipencap_engine.proofs.plan.plan_in_use.Goals as goal
 

@@ -1,6 +1,6 @@
 use Rattle.std.proofs.Common.{◌≡◌, refl, ap, sym, ◌∙◌, Err, true, false}
-use Rattle.service_plan.specs.PlanView.{plan_fields}
-use Rattle.settings_file.specs.declared.fault.SettingsError.TheVariants.{ShelfFault}
+use Rattle.plan.specs.PlanView.{plan_fields}
+use Rattle.settings_load.specs.declared.fault.SettingsError.TheVariants.{ShelfFault}
 use Rattle.ipencap_engine.specs.Jobs.{to_send}
 use Rattle.ipencap_engine.proofs.Plans.{told_name}
 use Rattle.ipencap_engine.proofs.Settings.{runs_unsettled, runs_by, keeps}

@@ -2,8 +2,8 @@ use Rattle.std.proofs.Common.{Bool, ◌&&◌, ◌+◌, drop, sym, ap, ◌∙◌}
 use Rattle.std.specs.List.{list_all}
 use Rattle.plan_spec.specs.Plan.{ServiceFields, kinds}
 use Rattle.stream_law.specs.Words.{is_of_units}
-use Rattle.service_plan.specs.Parts.{kind_seen, service_seen}
-use Rattle.service_plan.specs.PlanView.{plan_fields}
+use Rattle.plan.specs.Parts.{kind_seen, service_seen}
+use Rattle.plan.specs.PlanView.{plan_fields}
 use Rattle.mux_core.proofs.Items.{map_at, list_all_next}
 use Rattle.mux_core.proofs.built.can_send.Goals as goal
 

@@ -3,7 +3,7 @@ use Rattle.std.proofs.Common.{◌≡◌, drop}
 use Rattle.std.specs.List.{list_all}
 use Rattle.plan_spec.specs.Plan.{kinds}
 use Rattle.stream_law.specs.Words.{is_of_units}
-use Rattle.service_plan.specs.PlanView.{plan_fields}
+use Rattle.plan.specs.PlanView.{plan_fields}
 use Rattle.mux_core.proofs.built.can_send.Given as goal
 
 abbrev pub invariant-loop-place : goal.invariant-loop-place

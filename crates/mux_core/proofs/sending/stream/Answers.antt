@@ -3,7 +3,7 @@ use Rattle.std.proofs.KnownBytes.{Appends-nil}
 use Rattle.ts_spec.specs.Packet.{PacketFields}
 use Rattle.plan_spec.specs.Plan.{PlanFields}
 use Rattle.plan_spec.specs.Offered.{offered as offered_to}
-use Rattle.service_plan.specs.PlanView.{plan_fields}
+use Rattle.plan.specs.PlanView.{plan_fields}
 use Rattle.stream_spec.specs.Stream.{service_packets, records_of_slots, IsStream}
 use Rattle.stream_law.proofs.Plans.{few_services}
 use Rattle.mux_core.specs.Services.{Serving}

@@ -4,8 +4,8 @@ use Rattle.std.proofs.lemmas.List.{map-append, length-append}
 use Rattle.std.proofs.lemmas.List.Elements.{All-push}
 use Rattle.ts_spec.specs.Packet.{PacketFields}
 use Rattle.plan_spec.specs.Plan.{ServiceFields}
-use Rattle.service_plan.specs.Parts.{service_seen}
-use Rattle.service_plan.specs.PlanView.{plan_fields}
+use Rattle.plan.specs.Parts.{service_seen}
+use Rattle.plan.specs.PlanView.{plan_fields}
 use Rattle.mux_core.specs.Services.{packets_in, IsList}
 use Rattle.mux_core.specs.declared.lanes.Lane.{Lane}
 use Rattle.mux_core.proofs.Items.{map_at}

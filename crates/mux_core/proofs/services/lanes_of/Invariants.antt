@@ -1,7 +1,7 @@
 -- The packets of the services so far.
 use Rattle.std.proofs.Common.{◌≡◌, ◌≤◌, ◌^◌, length, map, take}
 use Rattle.std.specs.Prelude.{All}
-use Rattle.service_plan.specs.PlanView.{plan_fields}
+use Rattle.plan.specs.PlanView.{plan_fields}
 use Rattle.mux_core.specs.Services.{packets_in, packets_from_lists}
 use Rattle.mux_core.proofs.services.lanes_of.Given as goal
 

@@ -1,5 +1,5 @@
 use Rattle.std.proofs.Common.{arith}
-use Rattle.service_plan.specs.PlanView.{plan_fields}
+use Rattle.plan.specs.PlanView.{plan_fields}
 use Rattle.mux_core.proofs.Signalled.{cycle_some}
 use Rattle.mux_core.proofs.slots.is_of_table.Goals as goal
 

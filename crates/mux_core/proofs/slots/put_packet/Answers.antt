@@ -1,6 +1,6 @@
 use Rattle.std.proofs.Common.{drop, sym, subst}
 use Rattle.std.proofs.lemmas.List.{take_at, drop_at}
-use Rattle.service_plan.specs.PlanView.{plan_fields}
+use Rattle.plan.specs.PlanView.{plan_fields}
 use Rattle.mux_core.specs.Slots.{TakesSlot}
 use Rattle.mux_core.proofs.slots.put_packet.Goals as goal
 

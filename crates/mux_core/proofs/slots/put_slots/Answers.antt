@@ -4,7 +4,7 @@ use Rattle.ts_spec.specs.Packet.{PacketFields}
 use Rattle.plan_spec.specs.Plan.{PlanFields}
 use Rattle.stream_spec.specs.Slots.{IsSlotCount}
 use Rattle.stream_spec.specs.Stream.{slot_in}
-use Rattle.service_plan.specs.PlanView.{plan_fields}
+use Rattle.plan.specs.PlanView.{plan_fields}
 use Rattle.mux_core.specs.Slots.{AddsRecord}
 use Rattle.mux_core.specs.Services.{packet_total}
 use Rattle.mux_core.proofs.Ended.{AreHanded, at_start, falls, last_one, added_bytes, none_handed, one_handed, all_handed, part_handed, over_there, slots_end, goes_on}

@@ -3,7 +3,7 @@ use Rattle.std.proofs.Common.{◌≡◌, ℕ, ◌+◌, ◌-◌, ◌*◌, ◌%◌
 use Rattle.wire_spec.specs.Content.{Stays}
 use Rattle.stream_spec.specs.Slots.{is_of_service}
 use Rattle.stream_spec.specs.Stream.{slot_in}
-use Rattle.service_plan.specs.PlanView.{plan_fields}
+use Rattle.plan.specs.PlanView.{plan_fields}
 use Rattle.mux_core.specs.Services.{packet_total, AreAt}
 use Rattle.mux_core.specs.Tables.{IsTableAt}
 use Rattle.mux_core.specs.Slots.{turns_in}

@@ -1,5 +1,5 @@
 use Rattle.std.proofs.Common.{sym, ◌∙◌}
-use Rattle.service_plan.specs.PlanView.{plan_fields}
+use Rattle.plan.specs.PlanView.{plan_fields}
 use Rattle.mux_core.proofs.Signalled.{signalling_passes}
 use Rattle.mux_core.proofs.Stepped.{early_taken, late_taken}
 use Rattle.mux_core.proofs.slots.take_packet.Goals as goal

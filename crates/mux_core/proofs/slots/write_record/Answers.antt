@@ -1,6 +1,6 @@
 use Rattle.std.proofs.Common.{refl, arith}
 use Rattle.stream_law.proofs.Plans.{ranges, at_least}
-use Rattle.service_plan.specs.PlanView.{plan_fields}
+use Rattle.plan.specs.PlanView.{plan_fields}
 use Rattle.mux_core.proofs.Recorded.{record_written}
 use Rattle.mux_core.proofs.slots.write_record.Goals as goal
 

@@ -8,8 +8,8 @@ use Rattle.std.specs.List.{list_all}
 use Rattle.int_spec.specs.Table.{IsRule}
 use Rattle.plan_spec.specs.Plan.{ServiceFields, PlanFields, kinds}
 use Rattle.plan_spec.specs.Signalling.{table_of, entry_of}
-use Rattle.service_plan.specs.Parts.{int_seen, service_seen}
-use Rattle.service_plan.specs.PlanView.{plan_fields}
+use Rattle.plan.specs.Parts.{int_seen, service_seen}
+use Rattle.plan.specs.PlanView.{plan_fields}
 use Rattle.stream_law.specs.Words.{is_of_units}
 use Rattle.int_table.specs.Views.{entry_in}
 use Rattle.mux_core.proofs.Items.{map_at, list_all_at, take_next}

@@ -4,8 +4,8 @@ use Rattle.std.specs.Prelude.{All}
 use Rattle.int_spec.specs.Table.{IsRule}
 use Rattle.plan_spec.specs.Plan.{ServiceFields}
 use Rattle.plan_spec.specs.Signalling.{table_of, entry_of}
-use Rattle.service_plan.specs.Parts.{int_seen}
-use Rattle.service_plan.specs.PlanView.{plan_fields}
+use Rattle.plan.specs.Parts.{int_seen}
+use Rattle.plan.specs.PlanView.{plan_fields}
 use Rattle.mux_core.proofs.table.table_of.Given as goal
 
 abbrev pub invariant-loop-place : goal.invariant-loop-place

@@ -2,9 +2,9 @@ use Rattle.std.proofs.Common.{ℕ, zero, suc, ◌<◌, List, [], ◌∷◌, leng
 use Rattle.wire_spec.specs.Datagram.{IsDatagram}
 use Rattle.plan_spec.specs.Plan.{PlanFields}
 use Rattle.plan_spec.specs.Offered.{Records}
-use Rattle.service_plan.specs.PlanView.{plan_fields}
-use Rattle.offered_datagrams.specs.Offering.{IsOffered, HasRoom, HoldDatagrams}
-use Rattle.offered_datagrams.specs.declared.offered.Offered.{Offered}
+use Rattle.plan.specs.PlanView.{plan_fields}
+use Rattle.datagram_routing.specs.Offering.{IsOffered, HasRoom, HoldDatagrams}
+use Rattle.datagram_routing.specs.declared.offered.Offered.{Offered}
 use Rattle.mux_core.specs.Sending.{IsUnderPlan}
 use Rattle.mux_core.proofs.tests.send.Goals as goal
 

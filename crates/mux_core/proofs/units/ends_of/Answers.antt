@@ -1,5 +1,5 @@
 use Rattle.std.proofs.Common.{ℕ, List, arith, ◌∙◌}
-use Rattle.service_plan.specs.Parts.{kind_seen}
+use Rattle.plan.specs.Parts.{kind_seen}
 use Rattle.mux_core.specs.Units.{unit_of}
 use Rattle.mux_core.proofs.Held.{end_next}
 use Rattle.mux_core.proofs.units.ends_of.Goals as goal

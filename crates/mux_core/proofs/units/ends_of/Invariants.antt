@@ -1,6 +1,6 @@
 -- The ends of the units so far.
 use Rattle.std.proofs.Common.{◌≡◌, ◌*◌, ◌≤◌, length, map, take}
-use Rattle.service_plan.specs.Parts.{kind_seen}
+use Rattle.plan.specs.Parts.{kind_seen}
 use Rattle.mux_core.specs.Units.{unit_of, unit_bytes, ends_from}
 use Rattle.mux_core.proofs.units.ends_of.Given as goal
 

@@ -1,6 +1,6 @@
 use Rattle.std.proofs.Common.{◌≡◌, ℕ, ◌+◌, Bool, cond, List, length, sym, ap, arith, ◌∙◌}
-use Rattle.service_plan.specs.Parts.{kind_seen}
-use Rattle.service_plan.specs.declared.service.Kind.{Kind}
+use Rattle.plan.specs.Parts.{kind_seen}
+use Rattle.plan.specs.declared.service.Kind.{Kind}
 use Rattle.mux_core.specs.Units.{unit_of}
 use Rattle.mux_core.proofs.Windows.{length-sndu_of}
 use Rattle.mux_core.proofs.units.unit_size.Goals as goal

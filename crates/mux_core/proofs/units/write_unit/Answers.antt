@@ -2,8 +2,8 @@ use Rattle.std.proofs.Common.{ℕ, List, ◌++◌, drop, None, sym, ap, ◌∙�
 use Rattle.ip_datagram.specs.declared.address.IpAddress.{IpAddress}
 use Rattle.addr_rules.specs.Macs.{mac_of_address}
 use Rattle.section_spec.specs.Mpe.{mpe_bytes, mpe_to_write}
-use Rattle.service_plan.specs.Parts.{kind_seen}
-use Rattle.service_plan.specs.declared.service.Kind.{Kind}
+use Rattle.plan.specs.Parts.{kind_seen}
+use Rattle.plan.specs.declared.service.Kind.{Kind}
 use Rattle.mux_core.specs.Units.{unit_of}
 use Rattle.mux_core.proofs.units.write_unit.Goals as goal
 

@@ -1,4 +1,4 @@
-use Rattle.service_plan.specs.PlanView.{plan_fields}
+use Rattle.plan.specs.PlanView.{plan_fields}
 use Rattle.receive_command.proofs.captures.end_captures.Goals as goal
 
 pub returns-in-Ok-flush_files-clause-received : goal.returns-in-Ok-flush_files-clause-received

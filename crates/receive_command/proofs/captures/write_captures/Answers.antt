@@ -2,8 +2,8 @@ use Rattle.std.proofs.Common.{◌≡◌, ◌∙◌, ap, sym, refl, arith, length
 use Rattle.std.proofs.lemmas.List.{length-map}
 use Rattle.plan_spec.specs.Plan.{PlanFields}
 use Rattle.receive_command.specs.declared.reading.Ending.TheVariants as ending
-use Rattle.service_plan.specs.Parts.{service_seen}
-use Rattle.service_plan.specs.PlanView.{plan_fields}
+use Rattle.plan.specs.Parts.{service_seen}
+use Rattle.plan.specs.PlanView.{plan_fields}
 use Rattle.receive_command.specs.Reading.{records_in}
 use Rattle.receive_command.proofs.Ends.{sized, ends_in_heads, ends_front, ends_at_limit, ends_in_record, ends_whole, ends_in_flush}
 use Rattle.ipe_io.proofs.Told.{raised-zero}

@@ -6,7 +6,7 @@ use Rattle.std.proofs.lemmas.Bool.{false≢true}
 use Rattle.wire_spec.specs.Content.{AddsFile}
 use Rattle.pcap_file.specs.Capture.{capture_head}
 use Rattle.plan_spec.specs.Plan.{ServiceFields}
-use Rattle.service_plan.specs.Parts.{service_seen}
+use Rattle.plan.specs.Parts.{service_seen}
 use Rattle.receive_command.specs.Files.{file_of, head_of, AddsPart}
 use Rattle.receive_command.proofs.Adding.{adds_none, captures_next, heads_part_of_next, heads_of_next}
 use Rattle.receive_command.proofs.files.add_files.Goals as goal

@@ -3,8 +3,8 @@ use Rattle.std.proofs.lemmas.List.{length-map}
 use Rattle.std.proofs.lemmas.Bool.{false≢true}
 use Rattle.ts_spec.specs.Recording.{RecordingForm, record_size, records_of}
 use Rattle.plan_spec.specs.Plan.{PlanFields}
-use Rattle.service_plan.specs.Parts.{service_seen}
-use Rattle.service_plan.specs.PlanView.{plan_fields}
+use Rattle.plan.specs.Parts.{service_seen}
+use Rattle.plan.specs.PlanView.{plan_fields}
 use Rattle.ts_record.specs.Reading.{ReadsRecord, ReadsEnd, record_seen}
 use Rattle.ipe_io.proofs.Told.{raised-zero}
 use Rattle.receive_command.specs.Reading.{records_in}

@@ -3,7 +3,7 @@ use Rattle.std.specs.Io.KnownBytes.{Consumes}
 use Rattle.wire_spec.specs.Causes.{raised}
 use Rattle.wire_spec.specs.Lists.{joined}
 use Rattle.ts_spec.specs.Recording.{record_size}
-use Rattle.service_plan.specs.PlanView.{plan_fields}
+use Rattle.plan.specs.PlanView.{plan_fields}
 use Rattle.ts_record.specs.Reading.{ReaderOf}
 use Rattle.demux_core.specs.Receiving.{HasReceived}
 use Rattle.receive_command.specs.Growth.{Grow}

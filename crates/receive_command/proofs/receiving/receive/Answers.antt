@@ -1,8 +1,8 @@
 use Rattle.std.proofs.Common.{◌≡◌, ◌∙◌, ap, sym, refl, arith, inl, inr, length, map, subst, ℕ}
 use Rattle.std.proofs.lemmas.List.{length-map}
 use Rattle.plan_spec.specs.Plan.{PlanFields}
-use Rattle.service_plan.specs.Parts.{service_seen}
-use Rattle.service_plan.specs.PlanView.{plan_fields}
+use Rattle.plan.specs.Parts.{service_seen}
+use Rattle.plan.specs.PlanView.{plan_fields}
 use Rattle.receive_command.specs.Reading.{records_in}
 use Rattle.receive_command.specs.Ends.{Reports, ReportsPart}
 use Rattle.receive_command.proofs.Adding.{adds_none}

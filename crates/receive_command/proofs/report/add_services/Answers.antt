@@ -1,8 +1,8 @@
 use Rattle.std.proofs.Common.{◌≡◌, ◌++◌, List, ℕ, ap, sym, ◌∙◌, subst, map, Some, option_map}
 use Rattle.std.specs.List.{slice_get}
 use Rattle.std.proofs.lemmas.Option.{slice_get-map}
-use Rattle.service_plan.specs.Parts.{service_seen}
-use Rattle.service_plan.specs.PlanView.{plan_fields}
+use Rattle.plan.specs.Parts.{service_seen}
+use Rattle.plan.specs.PlanView.{plan_fields}
 use Rattle.loss_report.specs.Counts.{service_lines}
 use Rattle.loss_report.specs.Names.{IsServiceName}
 use Rattle.loss_report.specs.declared.counts.ServiceCounts.{ServiceCounts}

@@ -1,7 +1,7 @@
 use Rattle.std.proofs.Common.{◌≡◌, ◌++◌, List, flat_map, take, map}
 use Rattle.ts_spec.specs.Recording.{Record}
-use Rattle.service_plan.specs.Parts.{service_seen}
-use Rattle.service_plan.specs.PlanView.{plan_fields}
+use Rattle.plan.specs.Parts.{service_seen}
+use Rattle.plan.specs.PlanView.{plan_fields}
 use Rattle.demux_core.specs.Receiving.{HasReceived}
 use Rattle.receive_command.specs.Report.{lines_of_service}
 use Rattle.receive_command.proofs.report.add_services.Given as goal

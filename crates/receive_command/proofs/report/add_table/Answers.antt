@@ -1,6 +1,6 @@
 use Rattle.std.proofs.Common.{ap, ◌∙◌, sym, option_map, Some, option_copied}
-use Rattle.service_plan.specs.Parts.{int_seen}
-use Rattle.service_plan.specs.PlanView.{plan_fields}
+use Rattle.plan.specs.Parts.{int_seen}
+use Rattle.plan.specs.PlanView.{plan_fields}
 use Rattle.receive_command.proofs.Lines.{on_ok, adds_no_section, adds_one_section}
 use Rattle.receive_command.proofs.report.add_table.Goals as goal
 

@@ -1,5 +1,5 @@
 use Rattle.std.proofs.Common.{ap, ◌∙◌, sym}
-use Rattle.service_plan.specs.PlanView.{plan_fields}
+use Rattle.plan.specs.PlanView.{plan_fields}
 use Rattle.receive_command.proofs.Lines.{if_ok, whole_report}
 use Rattle.receive_command.proofs.report.report_of.Goals as goal
 

@@ -1,5 +1,5 @@
 use Rattle.std.proofs.Common.{refl}
-use Rattle.service_plan.specs.PlanView.{plan_fields}
+use Rattle.plan.specs.PlanView.{plan_fields}
 use Rattle.send_command.proofs.Standing.{sends_all, sends_unflushed}
 use Rattle.send_command.proofs.command.write_stream.Goals as goal
 

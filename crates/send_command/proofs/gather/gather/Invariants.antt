@@ -2,7 +2,7 @@ use Rattle.std.proofs.Common.{◌≡◌, ◌-◌, ◌++◌, false, List, ℕ}
 use Rattle.std.specs.Io.KnownBytes.{Consumes}
 use Rattle.pcap_file.specs.Reading.{most_records}
 use Rattle.pcap_file.specs.Reader.{Takes, rest_of}
-use Rattle.service_plan.specs.PlanView.{plan_fields}
+use Rattle.plan.specs.PlanView.{plan_fields}
 use Rattle.send_command.specs.Gathering.{IsIntake}
 use Rattle.send_command.proofs.gather.gather.Given as goal
 

@@ -5,7 +5,7 @@ use Rattle.pcap_file.specs.Reader.{Leaves, rest_of, state_after}
 use Rattle.pcap_file.specs.Captured.{captured_datagram}
 use Rattle.pcap_file.specs.declared.captured.LinkType.{LinkType}
 use Rattle.pcap_file.specs.declared.faults.CaptureFault.{CaptureFault}
-use Rattle.service_plan.specs.PlanView.{plan_fields}
+use Rattle.plan.specs.PlanView.{plan_fields}
 use Rattle.send_command.proofs.Given.{lent_is_datagram}
 use Rattle.send_command.proofs.Intakes.{fault_of}
 use Rattle.send_command.proofs.Taking.{takes_in, reads_record, reads_end, reads_fault, reads_failed}

@@ -1,8 +1,8 @@
 use Rattle.std.proofs.Common.{◌≡◌, drop}
 use Rattle.std.specs.List.{list_all}
 use Rattle.stream_law.specs.Words.{is_of_units}
-use Rattle.service_plan.specs.Parts.{kind_seen}
-use Rattle.service_plan.specs.declared.service.Service.{Service}
+use Rattle.plan.specs.Parts.{kind_seen}
+use Rattle.plan.specs.declared.service.Service.{Service}
 use Rattle.send_command.proofs.kinds.can_send.Given as goal
 
 abbrev pub invariant-loop-k : goal.invariant-loop-k

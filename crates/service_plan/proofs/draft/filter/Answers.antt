@@ -1,9 +1,9 @@
 use Rattle.std.proofs.Common.{refl, ap, sym, ◌∙◌}
-use Rattle.plan_spec.specs.Keys.{is_text, as_list}
-use Rattle.plan_spec.specs.Settings.{filter_key}
-use Rattle.settings_text.specs.Lists.{macs_of}
+use Rattle.settings_spec.specs.Keys.{is_text, as_list}
+use Rattle.settings_spec.specs.Settings.{filter_key}
+use Rattle.settings_keys.specs.Lists.{macs_of}
 use Rattle.service_plan.proofs.KeyLemmas.{no_fault_absent, no_fault_there, fault_ranged, items_absent, held}
-use Rattle.settings_text.proofs.ListLemmas.{listed_items, listed_type, items_there}
+use Rattle.settings_keys.proofs.ListLemmas.{listed_items, listed_type, items_there}
 use Rattle.service_plan.proofs.draft.filter.Goals as goal
 
 pub returns-in-Ok-None : goal.returns-in-Ok-None

@@ -1,7 +1,7 @@
 use Rattle.std.proofs.Common.{◌==◌, false, ◌∙◌, sym}
-use Rattle.service_plan.specs.Parts.{kind_seen}
+use Rattle.plan.specs.Parts.{kind_seen}
 use Rattle.service_plan.specs.Wholes.{id_seen}
-use Rattle.service_plan.specs.declared.service.Service.{Service}
+use Rattle.plan.specs.declared.service.Service.{Service}
 use Rattle.service_plan.proofs.CheckLemmas.{any_found}
 use Rattle.service_plan.proofs.pairs.has_int_pid.Goals as goal
 

@@ -1,7 +1,7 @@
 use Rattle.std.proofs.Common.{◌∙◌, sym, true, false, ◌==◌}
-use Rattle.service_plan.specs.Parts.{kind_seen}
+use Rattle.plan.specs.Parts.{kind_seen}
 use Rattle.service_plan.specs.Wholes.{id_seen}
-use Rattle.service_plan.specs.declared.service.Service.{Service}
+use Rattle.plan.specs.declared.service.Service.{Service}
 use Rattle.service_plan.proofs.CheckLemmas.{pairs_more}
 use Rattle.service_plan.proofs.pairs.has_pair_of_ids.Goals as goal
 

@@ -1,9 +1,9 @@
 use Rattle.std.proofs.Common.{◌≡◌, ◌==◌, drop}
 use Rattle.std.specs.List.{filter_map}
 use Rattle.plan_spec.specs.Checks.{has_pair}
-use Rattle.service_plan.specs.Parts.{kind_seen}
+use Rattle.plan.specs.Parts.{kind_seen}
 use Rattle.service_plan.specs.Wholes.{id_seen}
-use Rattle.service_plan.specs.declared.service.Service.{Service}
+use Rattle.plan.specs.declared.service.Service.{Service}
 use Rattle.service_plan.proofs.pairs.has_pair_of_ids.Given as goal
 
 abbrev pub invariant-loop-i : goal.invariant-loop-i

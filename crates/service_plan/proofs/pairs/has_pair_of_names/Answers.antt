@@ -1,5 +1,5 @@
 use Rattle.std.proofs.Common.{◌∙◌, sym, refl, true, false, bytes_eq, Some}
-use Rattle.service_plan.specs.declared.service.Service.{Service}
+use Rattle.plan.specs.declared.service.Service.{Service}
 use Rattle.service_plan.proofs.CheckLemmas.{pairs_more}
 use Rattle.service_plan.proofs.pairs.has_pair_of_names.Goals as goal
 

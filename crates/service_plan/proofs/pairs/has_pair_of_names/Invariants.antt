@@ -1,7 +1,7 @@
 use Rattle.std.proofs.Common.{◌≡◌, Some, drop, bytes_eq}
 use Rattle.std.specs.List.{filter_map}
 use Rattle.plan_spec.specs.Checks.{has_pair}
-use Rattle.service_plan.specs.declared.service.Service.{Service}
+use Rattle.plan.specs.declared.service.Service.{Service}
 use Rattle.service_plan.proofs.pairs.has_pair_of_names.Given as goal
 
 abbrev pub invariant-loop-i : goal.invariant-loop-i

@@ -1,5 +1,5 @@
 use Rattle.std.proofs.Common.{option_map}
-use Rattle.service_plan.specs.Parts.{int_seen}
+use Rattle.plan.specs.Parts.{int_seen}
 use Rattle.service_plan.proofs.CheckLemmas.{pid_checked}
 use Rattle.service_plan.proofs.pairs.has_same_pid.Goals as goal
 

@@ -1,5 +1,5 @@
 use Rattle.std.proofs.Common.{drop}
-use Rattle.settings_text.specs.Lists.{views, tables_of}
+use Rattle.settings_keys.specs.Lists.{views, tables_of}
 use Rattle.service_plan.proofs.ServicesLemmas.{ServicesSoFar}
 use Rattle.service_plan.proofs.services.read_services.Given as goal
 

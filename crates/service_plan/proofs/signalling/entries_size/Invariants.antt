@@ -1,7 +1,7 @@
 use Rattle.std.proofs.Common.{◌≡◌, ◌+◌, ◌*◌, ◌≤◌, length, drop, sum_by}
-use Rattle.service_plan.specs.Parts.{service_seen}
+use Rattle.plan.specs.Parts.{service_seen}
 use Rattle.service_plan.specs.Sizes.{entry_size}
-use Rattle.service_plan.specs.declared.service.Service.{Service}
+use Rattle.plan.specs.declared.service.Service.{Service}
 use Rattle.service_plan.proofs.signalling.entries_size.Given as goal
 
 abbrev pub invariant-loop-service : goal.invariant-loop-service

@@ -1,5 +1,5 @@
 use Rattle.std.proofs.Common.{refl, ap, option_map}
-use Rattle.service_plan.specs.Parts.{int_seen}
+use Rattle.plan.specs.Parts.{int_seen}
 use Rattle.service_plan.specs.Plans.{draft_seen}
 use Rattle.service_plan.proofs.SizeLemmas.{packets_counted, no_packets}
 use Rattle.service_plan.proofs.signalling.table_packets.Goals as goal

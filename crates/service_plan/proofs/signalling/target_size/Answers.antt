@@ -1,5 +1,6 @@
 use Rattle.std.proofs.Common.{◌∙◌, sym, arith}
-use Rattle.service_plan.proofs.SizeLemmas.{rules_next, no_rules_left, target_sized}
+use Rattle.plan.proofs.RouteLemmas.{rules_next}
+use Rattle.service_plan.proofs.SizeLemmas.{no_rules_left, target_sized}
 use Rattle.service_plan.proofs.signalling.target_size.Goals as goal
 
 pub loop-i-preserved : goal.loop-i-preserved

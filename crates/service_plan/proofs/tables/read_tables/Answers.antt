@@ -1,8 +1,8 @@
 use Rattle.std.proofs.Common.{◌≡◌, None, Some, ◌∙◌, subst, codes}
 use Rattle.toml.specs.Data.{Members}
 use Rattle.toml.specs.View.{table_view}
-use Rattle.plan_spec.specs.Keys.{KeyRule, key_fault, table_at, tables_at}
-use Rattle.plan_spec.specs.Settings.{service_key, int_fault, services_fault}
+use Rattle.settings_spec.specs.Keys.{KeyRule, key_fault, table_at, tables_at}
+use Rattle.settings_spec.specs.Settings.{service_key, int_fault, services_fault}
 use Rattle.service_plan.specs.Keys.{fault_seen}
 use Rattle.service_plan.specs.Drafts.{AreServicesOf}
 use Rattle.service_plan.proofs.KeyLemmas.{first_here, first_later}

@@ -1,6 +1,6 @@
 use Rattle.service_plan.proofs.KeyLemmas.{baseband_said, between_both}
 use Rattle.std.proofs.Common.{◌∙◌, ap}
-use Rattle.plan_spec.specs.Settings.{recording_of}
+use Rattle.settings_spec.specs.Settings.{recording_of}
 use Rattle.service_plan.proofs.top.top_values.Goals as goal
 
 pub returns : goal.returns

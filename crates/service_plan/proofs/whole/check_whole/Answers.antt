@@ -1,8 +1,9 @@
 use Rattle.service_plan.specs.Plans.{draft_seen}
 use Rattle.service_plan.proofs.OrderLemmas.{fault_carrier, fault_name, fault_pid, fault_rules, fault_stamps, fault_window, fault_gap, fault_delta, no_fault}
-use Rattle.service_plan.proofs.CheckLemmas.{not_too_many, rate_is_some, services_are_few}
+use Rattle.plan.proofs.RouteLemmas.{services_are_few}
+use Rattle.service_plan.proofs.CheckLemmas.{not_too_many, rate_is_some}
 use Rattle.std.proofs.lemmas.List.{length-map}
-use Rattle.service_plan.specs.Parts.{service_seen}
+use Rattle.plan.specs.Parts.{service_seen}
 use Rattle.service_plan.proofs.whole.check_whole.Goals as goal
 
 pub returns-then-has_wrong_carrier : goal.returns-then-has_wrong_carrier

@@ -1,5 +1,5 @@
 use Rattle.std.proofs.Common.{◌≡◌, ◌≤◌, ◌+◌, length, drop, sum_by}
-use Rattle.service_plan.specs.declared.service.Service.{Service}
+use Rattle.plan.specs.declared.service.Service.{Service}
 use Rattle.service_plan.proofs.whole.has_too_many_rules.Given as goal
 
 abbrev pub invariant-loop-service : goal.invariant-loop-service

@@ -1,4 +1,4 @@
-use Rattle.service_plan.specs.Parts.{form_of}
+use Rattle.plan.specs.Parts.{form_of}
 use Rattle.service_plan.proofs.CheckLemmas.{frames_checked, packets_checked}
 use Rattle.service_plan.proofs.whole.has_wrong_carrier.Goals as goal
 

@@ -1,8 +1,8 @@
 use Rattle.std.proofs.Common.{◌∙◌, sym, true, false}
 use Rattle.plan_spec.specs.Plan.{sliced_of}
 use Rattle.plan_spec.specs.Checks.{overlaps}
-use Rattle.service_plan.specs.Parts.{kind_seen}
-use Rattle.service_plan.specs.declared.service.Service.{Service}
+use Rattle.plan.specs.Parts.{kind_seen}
+use Rattle.plan.specs.declared.service.Service.{Service}
 use Rattle.service_plan.proofs.CheckLemmas.{pairs_more}
 use Rattle.service_plan.proofs.windows.has_overlap.Goals as goal
 

@@ -2,8 +2,8 @@ use Rattle.std.proofs.Common.{◌≡◌, drop}
 use Rattle.std.specs.List.{filter_map}
 use Rattle.plan_spec.specs.Plan.{sliced_of}
 use Rattle.plan_spec.specs.Checks.{has_pair, overlaps}
-use Rattle.service_plan.specs.Parts.{kind_seen}
-use Rattle.service_plan.specs.declared.service.Service.{Service}
+use Rattle.plan.specs.Parts.{kind_seen}
+use Rattle.plan.specs.declared.service.Service.{Service}
 use Rattle.service_plan.proofs.windows.has_overlap.Given as goal
 
 abbrev pub invariant-loop-i : goal.invariant-loop-i

@@ -1,6 +1,6 @@
 use Rattle.std.proofs.Common.{◌∙◌, [], map, refl}
-use Rattle.service_plan.specs.Parts.{service_seen}
-use Rattle.service_plan.specs.PlanView.{plan_fields}
+use Rattle.plan.specs.Parts.{service_seen}
+use Rattle.plan.specs.PlanView.{plan_fields}
 use Rattle.demux_core.proofs.Opened.{few_services, pids_differ, built_seen, as_many}
 use Rattle.demux_core.proofs.receiver.Receiver.open.Goals as goal
 

@@ -4,7 +4,7 @@ use Rattle.ts_record.specs.Reading.{record_seen}
 use Rattle.std.specs.Vec.{with_items}
 use Rattle.ts_spec.specs.Packet.{PacketFields, fields_of}
 use Rattle.ts_spec.specs.Recording.{Record as ReadRecord}
-use Rattle.service_plan.specs.PlanView.{plan_fields}
+use Rattle.plan.specs.PlanView.{plan_fields}
 use Rattle.reception_spec.specs.Packets.{is_pid_of}
 use Rattle.service_reception.specs.Reception.{packet_record}
 use Rattle.demux_core.specs.Receiving.{ReceiverState, HasReceived}

@@ -1,6 +1,6 @@
 use Rattle.std.proofs.Common.{◌≡◌, ap, sym, ◌∙◌, subst}
 use Rattle.plan_spec.specs.Plan.{KindFields, ule, mpe, pid_of}
-use Rattle.service_plan.specs.Parts.{kind_seen}
+use Rattle.plan.specs.Parts.{kind_seen}
 use Rattle.service_reception.specs.Services.{IsUle, IsMpe}
 use Rattle.demux_core.specs.Services.{IsFresh}
 use Rattle.demux_core.proofs.service.ServiceReceiver.open.Goals as goal

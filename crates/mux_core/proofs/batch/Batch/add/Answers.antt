@@ -1,7 +1,7 @@
 use Rattle.std.proofs.Common.{◌-◌, ◌≤◌, ℕ, List, length, take, drop, length-drop, refl, ap, arith}
 use Rattle.std.proofs.lemmas.List.{length-take-le}
 use Rattle.plan_spec.specs.Plan.{PlanFields}
-use Rattle.service_plan.specs.PlanView.{plan_fields}
+use Rattle.plan.specs.PlanView.{plan_fields}
 use Rattle.mux_core.proofs.Recorded.{record_added, record_kept, rest_written}
 use Rattle.mux_core.proofs.batch.Batch.add.Goals as goal
 

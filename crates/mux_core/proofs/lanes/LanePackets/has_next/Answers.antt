@@ -1,7 +1,7 @@
 use Rattle.std.proofs.Common.{◌∙◌, ℕ, List, length, ltb, ap, arith}
 use Rattle.ts_spec.specs.Packet.{PacketFields}
 use Rattle.unit_stream.specs.Packers.{packets_left}
-use Rattle.service_plan.specs.Parts.{kind_seen}
+use Rattle.plan.specs.Parts.{kind_seen}
 use Rattle.mux_core.specs.Units.{unit_bytes}
 use Rattle.mux_core.proofs.Windows.{last_end}
 use Rattle.mux_core.proofs.lanes.LanePackets.has_next.Goals as goal

@@ -2,7 +2,7 @@ use Rattle.std.proofs.Common.{◌≡◌, ℕ, ◌<◌, List, [], length, true, f
 use Rattle.ts_spec.specs.Packet.{PacketFields}
 use Rattle.unit_stream.specs.Packers.{PackerState, IsOnWay, Writes, packets_left}
 use Rattle.plan_spec.specs.Plan.{KindFields}
-use Rattle.service_plan.specs.Parts.{kind_seen}
+use Rattle.plan.specs.Parts.{kind_seen}
 use Rattle.mux_core.specs.Units.{unit_bytes}
 use Rattle.mux_core.specs.declared.window.Window.{Window}
 use Rattle.mux_core.proofs.Windows.{handed_size, has_next, writes_all}

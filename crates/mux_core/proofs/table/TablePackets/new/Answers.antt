@@ -4,9 +4,9 @@ use Rattle.mux_core.specs.Units.{HoldUnits}
 use Rattle.std.specs.Option.{option_map}
 use Rattle.plan_spec.specs.Plan.{PlanFields}
 use Rattle.plan_spec.specs.Signalling.{table_of}
-use Rattle.service_plan.specs.Parts.{int_seen}
-use Rattle.service_plan.specs.PlanView.{plan_fields}
-use Rattle.service_plan.specs.declared.plan.IntPlan.{IntPlan}
+use Rattle.plan.specs.Parts.{int_seen}
+use Rattle.plan.specs.PlanView.{plan_fields}
+use Rattle.plan.specs.declared.plan.IntPlan.{IntPlan}
 use Rattle.mux_core.proofs.Signalled.{platform_below, no_table_at, table_at, section_ends, few_packets}
 use Rattle.mux_core.proofs.table.TablePackets.new.Goals as goal
 

@@ -1,6 +1,6 @@
 use Rattle.std.proofs.Common.{ℕ, ◌%◌, ap, sym, ◌∙◌, arith, refl, subst, Option}
 use Rattle.plan_spec.specs.Plan.{PlanFields}
-use Rattle.service_plan.specs.PlanView.{plan_fields}
+use Rattle.plan.specs.PlanView.{plan_fields}
 use Rattle.mux_core.specs.Lanes.{OnWay}
 use Rattle.mux_core.specs.Tables.{IsSignalling}
 use Rattle.stream_law.proofs.Plans.{ranges, at_least}

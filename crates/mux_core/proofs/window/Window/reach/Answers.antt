@@ -1,4 +1,4 @@
-use Rattle.service_plan.specs.Parts.{kind_seen}
+use Rattle.plan.specs.Parts.{kind_seen}
 use Rattle.mux_core.proofs.Windows.{window_begun}
 use Rattle.mux_core.proofs.window.Window.reach.Goals as goal
 

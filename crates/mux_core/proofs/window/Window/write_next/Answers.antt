@@ -1,5 +1,5 @@
 use Rattle.std.proofs.Common.{◌≡◌, ℕ, ◌+◌, ◌≤◌, List, ◌++◌, length, take, drop, refl, ap, arith, ◌∙◌}
-use Rattle.service_plan.specs.Parts.{kind_seen}
+use Rattle.plan.specs.Parts.{kind_seen}
 use Rattle.mux_core.specs.Units.{unit_of}
 use Rattle.mux_core.proofs.Held.{put_back}
 use Rattle.mux_core.proofs.Windows.{next_fits, window_more}

@@ -1,5 +1,5 @@
 use Rattle.std.proofs.Common.{◌≡◌, ◌-◌, length}
-use Rattle.service_plan.specs.Parts.{kind_seen}
+use Rattle.plan.specs.Parts.{kind_seen}
 use Rattle.mux_core.specs.Windows.{IsWindow}
 use Rattle.mux_core.proofs.window.Window.write_units.Given as goal
 

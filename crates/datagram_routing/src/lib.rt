@@ -1,0 +1,15 @@
+//! The datagrams of a capture, each in the list of the service that takes it, and the numbers of the others.
+//!
+//! Sending: capture -> pcap_file -> [datagram_routing] -> packets of each service -> stream.
+//! Begin with `Offered::new` and `Offered::offer`.
+#![tactic(auto)]
+
+mod laws;
+mod lists;
+mod offered;
+#[cfg(test)]
+mod tests;
+
+pub use laws::{each_datagram_is_for_its_service, nothing_is_left_out};
+pub use lists::Lists;
+pub use offered::Offered;

@@ -1,0 +1,5 @@
+use Rattle.plan.proofs.GivenLemmas.{pid_is_plan}
+use Rattle.plan.proofs.given.ule_plan.Goals as goal
+
+pub invariant_of-result : goal.invariant_of-result
+invariant_of-result c = record { valid = pid_is_plan c.args.pid c.in_ok-services.services c.requires c.in_ok-services.ensures.written }

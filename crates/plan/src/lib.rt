@@ -1,0 +1,15 @@
+//! Plans: the services of a transmission, which of them takes a datagram, and how long it may be.
+//!
+//! Settings -> service_plan -> [plan]; what sends and receives stands on plans.
+//! Begin with `Plan` and `route`; `ule_plan` and `sample_plan` make plans without settings.
+#![tactic(auto)]
+
+mod given;
+mod plan;
+mod routes;
+mod service;
+
+pub use given::{sample_plan, ule_plan};
+pub use plan::{IntPlan, Plan};
+pub use routes::{longest, route};
+pub use service::{Kind, Name, Service, ServiceList};

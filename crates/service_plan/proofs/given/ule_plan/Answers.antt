@@ -1,5 +1,0 @@
-use Rattle.service_plan.proofs.GivenLemmas.{pid_is_plan}
-use Rattle.service_plan.proofs.given.ule_plan.Goals as goal
-
-pub invariant_of-result : goal.invariant_of-result
-invariant_of-result c = record { valid = pid_is_plan c.args.pid c.in_ok-services.services c.requires c.in_ok-services.ensures.written }

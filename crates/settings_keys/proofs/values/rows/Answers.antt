@@ -1,0 +1,31 @@
+use Rattle.std.proofs.Common.{rules, refl, ap, sym, is_some}
+use Rattle.plan_spec.specs.Checks.{is_row_count}
+use Rattle.settings_keys.proofs.KeyLemmas.{no_fault_absent, fault_typed, fault_ranged, no_fault_there, number_absent, number_there, natural_there, natural_within, natural_outside}
+use Rattle.std.proofs.Common.{w64, SFits}
+use Rattle.std.proofs.lemmas.Int.{to_z-of_z}
+use Rattle.settings_keys.proofs.values.rows.Goals as goal
+
+pub returns-in-None-clause-read : goal.returns-in-None-clause-read
+returns-in-None-clause-read c =
+    let absent = c.in-None.ensures.found in
+    (no_fault_absent _ _ absent refl, number_absent _ _ _ absent)
+
+pub returns-in-None-as_integer-clause-read : goal.returns-in-None-as_integer-clause-read
+returns-in-None-as_integer-clause-read c = fault_typed _ _ _ c.in-Some.ensures.found (ap is_some (sym c.in-None-as_integer.ensures))
+
+pub returns-in-Some-row_number-clause-read : goal.returns-in-Some-row_number-clause-read
+returns-in-Some-row_number-clause-read c =
+    let there = c.in-Some.ensures.found in
+    let is = c.in-Some-as_integer.ensures in
+    let fits : SFits w64 c.in-Some-as_integer.number = search rules in
+    let range = simp to_z-of_z at c.in-Some-row_number.ensures.read in (
+      no_fault_there _ _ _ there (ap is_some (sym is)) (natural_within is_row_count _ _ _ is range),
+      number_there _ _ _ _ _ there (natural_there is_row_count _ _ _ is range),
+    )
+
+pub returns-in-None-row_number-clause-read : goal.returns-in-None-row_number-clause-read
+returns-in-None-row_number-clause-read c =
+    let is = c.in-Some-as_integer.ensures in
+    let fits : SFits w64 c.in-Some-as_integer.number = search rules in
+    let range = simp to_z-of_z at c.in-None-row_number.ensures.read in
+    fault_ranged _ _ _ c.in-Some.ensures.found (ap is_some (sym is)) (natural_outside is_row_count _ _ is range)

@@ -1,0 +1,17 @@
+//! One table of settings, read key by key: what stands there, or what is wrong with it.
+//!
+//! A table of `toml` -> [settings_keys] -> numbers, words, lists; service_plan makes plans of them. TOML 1.1.
+//! Begin with `number`, `word` and `refuse_unknown`.
+#![tactic(auto)]
+
+mod fault;
+mod key;
+mod lists;
+mod unknown;
+mod values;
+
+pub use fault::PlanFault;
+pub use key::Key;
+pub use lists::{addresses, filter_items, rule_items, rules, service_items};
+pub use unknown::refuse_unknown;
+pub use values::{find, flag, kind_word, name_text, number, pid, rows, unicast, word};

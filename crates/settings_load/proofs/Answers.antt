@@ -1,0 +1,25 @@
+-- One answer: a file that is refused gives no plan, and is refused for one thing.
+use Rattle.std.proofs.Common.{◌≡◌, ◌≤◌, List, ℕ, length, ap, refl, arith, Option, None, Some, IfSome}
+use Rattle.ipe_io.specs.Counts.{longest_file}
+use Rattle.plan_spec.specs.Plan.{PlanFields}
+use Rattle.settings_spec.specs.Refusal.{IsAccepted}
+use Rattle.settings_spec.proofs.OneAnswer.{refusal_is_one, acceptance_is_no_refusal}
+use Rattle.settings_load.specs.Settings.{Refusal, too_long, refused, IsRefusedFile, IsAcceptedFile}
+
+pub one_refusal : (bytes : List ℕ) (one other : Refusal) → IsRefusedFile bytes one → IsRefusedFile bytes other → one ≡ other
+one_refusal bytes too_long too_long a b = refl
+one_refusal bytes too_long (refused g) a b = absurd (omega (arith, a, b.0))
+one_refusal bytes (refused f) too_long a b = absurd (omega (arith, a.0, b))
+one_refusal bytes (refused f) (refused g) a b = ap (λ h. refused h) (refusal_is_one bytes f g a.1 b.1)
+
+pub not_both : (bytes : List ℕ) (plan : PlanFields) (refusal : Refusal) → IsAcceptedFile bytes plan → IsRefusedFile bytes refusal → ⊥
+not_both bytes plan too_long a b = omega (arith, a.short, b)
+not_both bytes plan (refused f) a b = acceptance_is_no_refusal bytes plan f a.accepted b.1
+
+-- what was loaded gave a plan, so the file is not refused
+pub gives_a_plan : (file : Option (List ℕ)) (loaded bytes : List ℕ) (plan : PlanFields) (refusal : Refusal) → IfSome file (λ told. loaded ≡ told)
+    → length loaded ≤ longest_file → IsAccepted loaded plan → file ≡ Some bytes → IsRefusedFile bytes refusal → ⊥
+gives_a_plan None loaded bytes plan refusal told short accepted is refuses = cc
+gives_a_plan (Some x) loaded bytes plan refusal told short accepted is refuses =
+    let same : bytes ≡ loaded = cc in
+    not_both bytes plan refusal (record { short = rw same short; accepted = rw same accepted }) refuses

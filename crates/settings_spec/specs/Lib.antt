@@ -1,0 +1,4 @@
+pub mod Keys
+pub mod Settings
+pub mod Refusal
+pub mod Examples

@@ -1,0 +1,36 @@
+//! Definitions of settings: the keys of their tables, which settings are refused and for what, the plan that the others give.
+//!
+//! Words for contracts, and no code but examples of them. They stand on plan_spec and the documents of `toml`. Standard: TOML 1.1.
+#![tactic(auto)]
+
+ghost use Rattle.std.specs.Prelude.{◌≡◌, ℕ, List, codes, negsuc, [], ◌∷◌, Some, None};
+ghost use Rattle.toml.specs.Data.{integer, string, no_members};
+ghost use Rattle.plan_spec.specs.Plan.{PlanFields, rule_lists, with_rules};
+ghost use Rattle.plan_spec.specs.Given.{sample_plan};
+ghost use Rattle.settings_spec.specs.Refusal.{IsRefused, IsAccepted};
+ghost use Rattle.settings_spec.specs.Keys.{SettingsFault, missing, wrong_type, out_of_range, unknown_key};
+ghost use Rattle.settings_spec.specs.Settings.{tables_fault, plan_of};
+ghost use Rattle.settings_spec.specs.Examples.{both, number, with_speed};
+
+/// Settings are refused for one fault, or accepted: never both.
+pub fn settings_have_one_answer()
+    ensures fault { (bytes : List ℕ) (one other : SettingsFault) → IsRefused bytes one → IsRefused bytes other → one ≡ other }
+    ensures either { (bytes : List ℕ) (plan : PlanFields) (fault : SettingsFault) → IsAccepted bytes plan → ¬ IsRefused bytes fault }
+{}
+
+/// What is wrong with the tables of settings, and with those that differ by a value.
+pub fn tables_of_settings()
+    ensures right { tables_fault (both (codes "stamped") 1500 20000 (number 513)) ≡ None }
+    ensures text { tables_fault (both (codes "stamped") 1500 20000 (string (codes "513"))) ≡ Some (wrong_type (codes "pid")) }
+    ensures low { tables_fault (both (codes "stamped") 1500 20000 (number 31)) ≡ Some (out_of_range (codes "pid")) }
+    ensures least { tables_fault (both (codes "stamped") 1500 20000 (number 32)) ≡ None }
+    ensures negative { tables_fault (both (codes "stamped") 1500 20000 (integer (negsuc 0))) ≡ Some (out_of_range (codes "pid")) }
+    ensures word { tables_fault (both (codes "stumped") 1500 20000 (number 513)) ≡ Some (out_of_range (codes "recording")) }
+    ensures unknown { tables_fault (with_speed (both (codes "stamped") 1500 20000 (number 513))) ≡ Some unknown_key }
+    ensures nothing { tables_fault no_members ≡ Some (missing (codes "service")) }
+{}
+
+/// The values of the sample job's settings are those of its plan, whose rules their texts spell.
+pub fn settings_of_the_sample()
+    ensures plan { with_rules (plan_of (both (codes "stamped") 1500 4000 (number 513))) (rule_lists sample_plan) ≡ sample_plan }
+{}

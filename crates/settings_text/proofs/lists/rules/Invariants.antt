@@ -1,7 +1,0 @@
-use Rattle.std.proofs.Common.{drop}
-use Rattle.settings_text.specs.Lists.{views, texts_of}
-use Rattle.settings_text.proofs.ListLemmas.{RulesSoFar}
-use Rattle.settings_text.proofs.lists.rules.Given as goal
-
-abbrev pub invariant-loop-item : goal.invariant-loop-item
-invariant-loop-item l = RulesSoFar (texts_of (views l.items)) (texts_of (views (drop l.item-index l.items))) l.list
