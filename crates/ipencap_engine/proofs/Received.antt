@@ -209,15 +209,15 @@ ule_too_long pid shelf input taken output rack racked same of_shelf of_output en
     (λ bytes pieces tail told cut done. absurd (cc))
 
 pub ule_no_memory : (pid : ℕ) (shelf : ShelfTold) (input taken : InputTold) (output : OutputTold) (rack racked : RackTold) (same : Object → Type 0)
-    → same the_shelf → same the_output → same the_input → racked.count ≡ rack.count → Stays rack.files racked.files → taken.faults ≡ input.faults → racked.faults ≡ rack.faults
+    → same the_shelf → same the_output → same the_input → taken ≡ input → racked.count ≡ rack.count → Stays rack.files racked.files → taken.faults ≡ input.faults → racked.faults ≡ rack.faults
     → Runs (to_ule pid) OutOfMemory (status_line OutOfMemory) (world shelf input output rack) (world shelf taken output racked) same
-ule_no_memory pid shelf input taken output rack racked same of_shelf of_output unread count stays count_in count_rack =
+ule_no_memory pid shelf input taken output rack racked same of_shelf of_output unread told_same count stays count_in count_rack =
     reception (to_ule pid) (plan_of_pid pid) OutOfMemory (status_line OutOfMemory) (world shelf input output rack) (world shelf taken output racked) same
     (one_pid pid shelf) (λ bytes told. told) refl (no_settings pid OutOfMemory (world shelf input output rack) same (λ e. absurd (cc))) (ule_used pid OutOfMemory same of_shelf of_output (inl unread) refl)
     (record { shelf = keeps_same (to_ule pid) shelf; input = count_in; output = refl; rack = count_rack })
     tt
     (λ bytes told. tt)
-    (λ e. in_memory count stays) refl
+    (λ e. in_memory (λ r. told_same) count stays) refl
     (λ bytes pieces tail told cut. parts_stay (capture_of (records_in (plan_of_pid pid) pieces)) (plan_of_pid pid).services rack.files racked.files stays)
     (λ bytes pieces tail told cut done. absurd (cc))
 

@@ -224,7 +224,7 @@ runs_no_memory name plan old new input taken output held rack same shelf is none
   counts = record { shelf = shelf; input = count_in; output = count_out; rack = refl };
   reads = tt;
   stands = λ p bytes given told. tt;
-  memory = λ p given e. in_memory refl (stays-refl rack.files);
+  memory = λ p given e. in_memory (λ r. absurd (cc)) refl (stays-refl rack.files);
   line_is = refl;
   loss = λ p bytes pieces tail sent datagrams carries recorded r given told cut. absurd (cc);
   isolation = λ p bytes pieces tail recordings r given told cut alike e. absurd (cc);

@@ -178,7 +178,7 @@ runs_no_memory job old new input output rack same command shelf of_shelf of_inpu
   counts = record { shelf = shelf; input = refl; output = refl; rack = refl };
   reads = reads (row job).intake;
   stands = λ plan bytes is told. tt;
-  memory = λ plan is e. in_memory refl (stays-refl rack.files);
+  memory = λ plan is e. in_memory (λ r. refl) refl (stays-refl rack.files);
   line_is = refl;
   loss = λ plan bytes pieces tail sent datagrams carries recorded r is told cut.
       arrives plan pieces sent datagrams carries recorded OutOfMemory (world old input output rack) (world new input output rack)

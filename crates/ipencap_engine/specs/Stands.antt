@@ -7,7 +7,7 @@ use Rattle.ipe_io.specs.Counts.{IsFlushed}
 use Rattle.receive_command.specs.Files.{AddsFiles, AddsHeads}
 use Rattle.receive_command.specs.Ends.{EndsWhole, EndsFront, EndsAtLimit, EndsInFiles}
 use Rattle.ipencap_engine.specs.World.{World}
-use Rattle.ipencap_engine.specs.Jobs.{Job, Intake, no_input, a_capture, a_recording, row}
+use Rattle.ipencap_engine.specs.Jobs.{Job, Intake, no_input, a_capture, a_recording, row, is_recording}
 use Rattle.ipencap_engine.specs.Made.{Made, Makes}
 use Rattle.ipencap_engine.specs.declared.status.Status.{Status}
 use Rattle.ipencap_engine.specs.declared.status.Status.TheVariants as status
@@ -53,6 +53,6 @@ Stands job plan bytes status.ShelfFault line before after = ⊤
 -- OutOfMemory: no file was added, and of a recording nothing was read; or a job with an output has whole heads of the first
 -- files and has read nothing; or it has all files, flushed, and the report is missing
 pub data LacksMemory (job : Job) (plan : PlanFields) (before after : World) : Type 0 where
-  in_memory : after.rack.count ≡ before.rack.count → Stays before.rack.files after.rack.files → LacksMemory job plan before after
+  in_memory : (is_recording (row job).intake ≡ true → after.input ≡ before.input) → after.rack.count ≡ before.rack.count → Stays before.rack.files after.rack.files → LacksMemory job plan before after
   in_heads : (row job).has_output ≡ true → after.input ≡ before.input → AddsHeads plan.services before.rack.files after.rack.files → LacksMemory job plan before after
   in_report : (row job).has_output ≡ true → EndsWhole plan before.input.left after.input.left before.rack.files after.rack.files → LacksMemory job plan before after

@@ -1,4 +1,4 @@
-use Rattle.std.proofs.Common.{refl}
+use Rattle.std.proofs.Common.{refl, ap}
 use Rattle.ipencap_engine.proofs.Received.{ule_done, ule_source_fault, ule_rack_fault, ule_too_long, ule_no_memory}
 use Rattle.ipencap_engine.proofs.ule.receive_pid.Goals as goal
 
@@ -30,4 +30,4 @@ pub returns-in-OutOfMemory : goal.returns-in-OutOfMemory
 returns-in-OutOfMemory g c = λ shelf output.
     let e = c.in-OutOfMemory.ensures in
     ule_no_memory c.args.pid shelf (g.I.Source.told c.args.input.now) (g.I.Source.told c.ule.new.input) output (g.R.Rack.told c.args.rack.now) (g.R.Rack.told c.ule.new.rack) _ tt tt
-    (e.memory refl).0 (e.memory refl).1 (e.memory refl).2 (e.input_kept (λ f. absurd (cc))) (e.rack_kept (λ f. absurd (cc)))
+    (e.memory refl).0 (ap g.I.Source.told (e.memory refl).0) (e.memory refl).1 (e.memory refl).2 (e.input_kept (λ f. absurd (cc))) (e.rack_kept (λ f. absurd (cc)))
