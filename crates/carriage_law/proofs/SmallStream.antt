@@ -4,7 +4,7 @@ use Rattle.wire_spec.specs.BitPolynomials.{bits, divided, remainder}
 use Rattle.wire_spec.specs.Crc.{crc_remainder}
 use Rattle.ts_spec.specs.Form.{IsUnit}
 use Rattle.ts_spec.specs.Packet.{PacketFields, fields_of, is_packet, continues, pointer}
-use Rattle.ts_spec.specs.Packetized.{packet_at, unit_at, joined, edge, IsIn, Packetizes}
+use Rattle.ts_spec.specs.Packetized.{packet_at, unit_at, joined_payloads, edge, IsIn, Packetizes}
 use Rattle.ts_spec.specs.Reassembly.{PlacedUnit, accepted_units}
 use Rattle.ts_spec.specs.Sndu.{sndu_form}
 use Rattle.carriage_spec.specs.Carried.{packets_sent}
@@ -93,7 +93,7 @@ packetized = record {
   each = each;
   continuous = continuous;
   from_zero = refl;
-  bytes = four (λ n. take (length (unit_at small_units n)) (drop (small_begin n) (joined small_packets)) ≡ unit_at small_units n) refl refl refl refl;
+  bytes = four (λ n. take (length (unit_at small_units n)) (drop (small_begin n) (joined_payloads small_packets)) ≡ unit_at small_units n) refl refl refl refl;
   next = λ n known. inl (omega (arith, sizes n known));
   to_end = refl;
   starts = λ m n known here. starts m here.within;

@@ -6,10 +6,9 @@ use Rattle.std.proofs.lemmas.List.Sums.{sum_by_push, count_by-le-length}
 use Rattle.ts_spec.specs.Packet.{fields_of, is_packet, lacks_sync, is_marked, has_bad_adaptation, lacks_payload, is_scrambled}
 use Rattle.ts_spec.specs.Recording.{Record}
 use Rattle.plan_spec.specs.Plan.{PlanFields}
-use Rattle.reception_spec.specs.Packets.{is_without_payload, is_pid_of, is_unreadable, lacks_content, is_other}
+use Rattle.reception_spec.specs.Packets.{is_without_payload, is_pid_of, is_unreadable, lacks_content, is_other, is_on}
 use Rattle.reception_spec.specs.Numbers.{stream_numbers}
 use Rattle.reception_spec.specs.Delivered.{pairs_of_record}
-use Rattle.service_reception.specs.Reception.{is_on}
 use Rattle.loss_report.specs.declared.counts.StreamCounts.{StreamCounts}
 use Rattle.demux_core.specs.Counts.{stream_counts_of}
 use Rattle.demux_core.specs.Services.{HaveAllReceived}

@@ -10,7 +10,7 @@ use Rattle.plan_spec.specs.Checks.{has_wrong_carrier, has_same_name, has_same_pi
 use Rattle.plan_spec.specs.Valid.{most_services, is_valid_frame_size, is_valid_int, has_valid_top, is_in_range, is_consistent, is_plan_of_settings, is_plan_of_pid, is_plan}
 use Rattle.plan.specs.Parts.{kind_seen, service_seen}
 use Rattle.plan.specs.declared.service.Service.{Service}
-use Rattle.demux_core.specs.Receiving.{is_built}
+use Rattle.plan_spec.specs.Built.{is_received}
 use Rattle.demux_core.specs.Services.{HasReceivedOne, HaveReceived}
 use Rattle.demux_core.specs.declared.service.ServiceReceiver.{ServiceReceiver}
 
@@ -55,17 +55,17 @@ pids_differ plan valid = not_true (has_same_pid plan) (both (not (has_same_pid p
 
 -- Services.
 
-pub built_at : (services : List Service) (k : ℕ) (it : Service) → list_all (λ (s : Service). is_built (kind_seen s.kind)) services ≡ true → slice_get services k ≡ Some it → is_built (kind_seen it.kind) ≡ true
+pub built_at : (services : List Service) (k : ℕ) (it : Service) → list_all (λ (s : Service). is_received (kind_seen s.kind)) services ≡ true → slice_get services k ≡ Some it → is_received (kind_seen it.kind) ≡ true
 built_at [] k it all found = absurd (cc)
 built_at (s ∷ services) zero it all found =
     let same : s ≡ it = cc in
-    ap (λ (t : Service). is_built (kind_seen t.kind)) (sym same) ∙ (both (is_built (kind_seen s.kind)) (list_all (λ (t : Service). is_built (kind_seen t.kind)) services) all).0
+    ap (λ (t : Service). is_received (kind_seen t.kind)) (sym same) ∙ (both (is_received (kind_seen s.kind)) (list_all (λ (t : Service). is_received (kind_seen t.kind)) services) all).0
 built_at (s ∷ services) (suc k) it all found =
-    built_at services k it (both (is_built (kind_seen s.kind)) (list_all (λ (t : Service). is_built (kind_seen t.kind)) services) all).1 found
+    built_at services k it (both (is_received (kind_seen s.kind)) (list_all (λ (t : Service). is_received (kind_seen t.kind)) services) all).1 found
 
-pub built_seen : (services : List Service) → list_all (λ (s : Service). is_built (kind_seen s.kind)) services ≡ list_all is_built (map (λ (s : ServiceFields). s.kind) (map service_seen services))
+pub built_seen : (services : List Service) → list_all (λ (s : Service). is_received (kind_seen s.kind)) services ≡ list_all is_received (map (λ (s : ServiceFields). s.kind) (map service_seen services))
 built_seen [] = refl
-built_seen (s ∷ services) = ap (λ (b : Bool). is_built (kind_seen s.kind) && b) (built_seen services)
+built_seen (s ∷ services) = ap (λ (b : Bool). is_received (kind_seen s.kind) && b) (built_seen services)
 
 -- one receiver more
 have_push : (services : List ServiceFields) (receivers : List ServiceReceiver) (it : ServiceFields) (receiver : ServiceReceiver) (records : List Record)
@@ -102,8 +102,8 @@ drop_next (s ∷ services) (suc k) it found = drop_next services k it found
 
 -- whether the services from a place on are known
 pub built_from : (services : List Service) (k : ℕ) (it : Service) → slice_get services k ≡ Some it
-    → list_all (λ (s : Service). is_built (kind_seen s.kind)) (drop k services) ≡ (is_built (kind_seen it.kind) && list_all (λ (s : Service). is_built (kind_seen s.kind)) (drop (k + 1) services))
+    → list_all (λ (s : Service). is_received (kind_seen s.kind)) (drop k services) ≡ (is_received (kind_seen it.kind) && list_all (λ (s : Service). is_received (kind_seen s.kind)) (drop (k + 1) services))
 built_from services k it found =
     let number : suc k ≡ k + 1 = omega arith in
-    ap (list_all (λ (s : Service). is_built (kind_seen s.kind))) (drop_next services k it found)
-    ∙ ap (λ (n : ℕ). is_built (kind_seen it.kind) && list_all (λ (s : Service). is_built (kind_seen s.kind)) (drop n services)) number
+    ap (list_all (λ (s : Service). is_received (kind_seen s.kind))) (drop_next services k it found)
+    ∙ ap (λ (n : ℕ). is_received (kind_seen it.kind) && list_all (λ (s : Service). is_received (kind_seen s.kind)) (drop n services)) number

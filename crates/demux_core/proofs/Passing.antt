@@ -3,7 +3,7 @@ use Rattle.std.proofs.Common.{◌≡◌, ℕ, true, false, Option, None, Some, L
 use Rattle.ts_spec.specs.Recording.{Record}
 use Rattle.plan_spec.specs.Plan.{pid_of, ServiceFields, IntFields}
 use Rattle.reception_spec.specs.Delivered.{given_by_record}
-use Rattle.service_reception.specs.Reception.{is_on}
+use Rattle.reception_spec.specs.Packets.{is_on}
 use Rattle.service_reception.proofs.Fronts.{given_last, nothing_added, received_stays, table_stays}
 use Rattle.demux_core.specs.Services.{HasReceivedOne, state_of, HasReceivedInt, is_table_pid}
 use Rattle.demux_core.specs.declared.service.ServiceReceiver.{ServiceReceiver}

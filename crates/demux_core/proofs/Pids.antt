@@ -8,7 +8,7 @@ use Rattle.ts_spec.specs.Packet.{fields_of, is_packet}
 use Rattle.ts_spec.specs.Recording.{Record}
 use Rattle.plan_spec.specs.Plan.{pid_of, ServiceFields}
 use Rattle.plan_spec.specs.Checks.{has_pair}
-use Rattle.service_reception.specs.Reception.{is_on}
+use Rattle.reception_spec.specs.Packets.{is_on}
 use Rattle.demux_core.specs.Services.{HasReceivedOne, HaveReceived, is_service_pid}
 use Rattle.demux_core.specs.declared.service.ServiceReceiver.{ServiceReceiver}
 use Rattle.demux_core.proofs.Passing.{one_passes}

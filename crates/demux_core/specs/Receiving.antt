@@ -1,24 +1,13 @@
 -- A receiver, and the records that it was given.
-use Rattle.std.specs.Prelude.{◌≡◌, Bool, true, false, List, Option}
-use Rattle.std.specs.List.{list_all}
+use Rattle.std.specs.Prelude.{◌≡◌, Bool, List, Option}
 use Rattle.ts_spec.specs.Recording.{Record}
-use Rattle.plan_spec.specs.Plan.{KindFields, ule, mpe, fec, gse, PlanFields, kinds}
+use Rattle.plan_spec.specs.Plan.{PlanFields}
 use Rattle.reception_spec.specs.Numbers.{stream_numbers}
 use Rattle.loss_report.specs.declared.counts.StreamCounts.{StreamCounts}
 use Rattle.demux_core.specs.Counts.{stream_counts_of}
 use Rattle.demux_core.specs.Services.{HaveAllReceived}
 use Rattle.demux_core.specs.declared.service.ServiceReceiver.{ServiceReceiver}
 use Rattle.demux_core.specs.declared.table.TableReceiver.{TableReceiver}
-
--- the kinds of service that a receiver knows
-abbrev pub is_built : KindFields → Bool
-is_built (ule pid address packing) = true
-is_built (mpe pid) = true
-is_built (fec pid rows parity window) = false
-is_built (gse isi address) = false
-
-abbrev pub are_built : PlanFields → Bool
-are_built plan = list_all is_built (kinds plan)
 
 -- a receiver: its plan, whether it may be given records, what it has counted of the stream, the receivers of each service
 -- and of the INT

@@ -18,7 +18,7 @@ use plan::Plan;
 use ts_packet::Packet;
 
 /// Takes a packet, delivers what ends in it, and says whether its PID is one of the plan.
-pub(crate) fn take_packet<T: Outlet>(
+pub(crate) fn receive_packet<T: Outlet>(
     plan: &Plan,
     table: &mut Option<TableReceiver<'_>>,
     receivers: &mut [ServiceReceiver<'_>],

@@ -10,10 +10,11 @@ ghost use Rattle.reception_spec.specs.Delivered.{pairs_of_record};
 ghost use Rattle.reception_spec.specs.Table.{table_section, table_units};
 ghost use Rattle.demux_core.specs.Counts.{stream_counts_of, counts_of_service};
 ghost use Rattle.demux_core.specs.Outlets.{Delivers, DeliversFront};
-ghost use Rattle.demux_core.specs.Receiving.{are_built, HasReceived};
+ghost use Rattle.demux_core.specs.Receiving.{HasReceived};
+ghost use Rattle.plan_spec.specs.Built.{are_received};
 
 use crate::content::{Content, content_of};
-use crate::packet::take_packet;
+use crate::packet::receive_packet;
 use crate::service::ServiceReceiver;
 use crate::services::open_services;
 use crate::table::{TableReceiver, open_table};
@@ -56,7 +57,7 @@ impl<'a> Model for Receiver<'a> {
 impl<'a> Receiver<'a> {
     /// A receiver that was given nothing. All its buffers lie in the arena, and none is taken later.
     pub fn open(arena: &'a Bump, plan: &'a Plan) -> Result<Receiver<'a>, OutOfMemory>
-        requires built { are_built (plan_fields plan.now) ≡ true }
+        requires built { are_received (plan_fields plan.now) ≡ true }
         ensures received { IfOk result (λ receiver. HasReceived (plan_fields plan.now) [] receiver) }
         ensures is_open { IfOk result (λ receiver. receiver.is_open ≡ true) }
         ensures plan { IfOk result (λ receiver. receiver.plan ≡ plan_fields plan.now) }
@@ -112,7 +113,7 @@ impl<'a> Receiver<'a> {
             }
         };
         let services = self.services.as_mut_slice();
-        match take_packet(
+        match receive_packet(
             self.plan,
             &mut self.table,
             services,

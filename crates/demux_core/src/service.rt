@@ -8,7 +8,7 @@ ghost use Rattle.service_reception.specs.Reception.{packet_record, added_by};
 ghost use Rattle.service_reception.specs.Telling.{Told, StopsWithin};
 ghost use Rattle.service_reception.specs.Counting.{on_pid, of_units};
 ghost use Rattle.demux_core.specs.Contents.{IsRead};
-ghost use Rattle.demux_core.specs.Receiving.{is_built};
+ghost use Rattle.plan_spec.specs.Built.{is_received};
 ghost use Rattle.service_reception.specs.Services.{IsUle, IsMpe};
 ghost use Rattle.demux_core.specs.Services.{HasReceivedOne, IsReceivingOne, IsFresh, state_of};
 
@@ -70,7 +70,7 @@ fn mpe_reception(arena: &Bump) -> Result<ByKind<'_>, OutOfMemory>
 impl<'a> ServiceReceiver<'a> {
     /// The receiver of a service that was given nothing.
     pub(crate) fn open(arena: &'a Bump, kind: &Kind) -> Result<ServiceReceiver<'a>, OutOfMemory>
-        requires { is_built (kind_seen kind.now) ≡ true }
+        requires { is_received (kind_seen kind.now) ≡ true }
         ensures received { IfOk result (λ receiver. (it : ServiceFields) → it.kind ≡ kind_seen kind.now → HasReceivedOne it receiver []) }
     {
         match *kind {

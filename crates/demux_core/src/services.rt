@@ -3,7 +3,7 @@ ghost use Rattle.std.specs.Prelude.{◌≡◌, ◌==◌, ℕ, ◌<◌, true, Lis
 ghost use Rattle.std.specs.List.{list_all, position};
 ghost use Rattle.plan.specs.Parts.{kind_seen, service_seen};
 ghost use Rattle.plan.specs.declared.service.Service.{Service};
-ghost use Rattle.demux_core.specs.Receiving.{is_built};
+ghost use Rattle.plan_spec.specs.Built.{is_received};
 ghost use Rattle.demux_core.specs.Services.{HaveReceived};
 
 use crate::service::ServiceReceiver;
@@ -16,7 +16,7 @@ pub(crate) fn open_services<'a>(
     arena: &'a Bump,
     list: &ServiceList,
 ) -> Result<Vec<ServiceReceiver<'a>, &'a Bump>, OutOfMemory>
-    requires { list_all (λ (it : Service). is_built (kind_seen it.kind)) list.now ≡ true }
+    requires { list_all (λ (it : Service). is_received (kind_seen it.kind)) list.now ≡ true }
     ensures received { IfOk result (λ receivers. HaveReceived (map service_seen list.now) receivers.items []) }
 {
     let mut receivers = Vec::with_capacity(arena, list.len())?;

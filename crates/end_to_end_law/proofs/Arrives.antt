@@ -11,7 +11,8 @@ use Rattle.reception_spec.specs.Units.{delivered_by_unit}
 use Rattle.stream_law.proofs.Units.{IsTaken, AreTaken}
 use Rattle.carriage_law.proofs.Member.{contains_member}
 use Rattle.loss_law.specs.Loss.{wanted_datagrams, DeliversIntact}
-use Rattle.end_to_end_law.specs.Units.{unit_of, wants_datagram}
+use Rattle.end_to_end_law.specs.Units.{wants_datagram}
+use Rattle.stream_spec.specs.Units.{unit_of}
 use Rattle.end_to_end_law.specs.Sent.{DeliversNumbered}
 use Rattle.end_to_end_law.proofs.Numbered.{taken_at, all_chosen, numbered_chosen}
 

@@ -10,12 +10,14 @@ use Rattle.plan_spec.specs.Route.{longest_of}
 use Rattle.plan_spec.specs.Offered.{datagrams as datagrams_of}
 use Rattle.stream_spec.specs.Services.{kind_at}
 use Rattle.reception_spec.specs.Units.{delivered_by_unit}
-use Rattle.stream_law.specs.Words.{is_of_units, IsMac, IsByteDatagram}
+use Rattle.stream_law.specs.Words.{IsMac, IsByteDatagram}
+use Rattle.plan_spec.specs.Built.{is_sent}
 use Rattle.stream_law.specs.Captures.{given_by}
 use Rattle.stream_law.proofs.Units.{IsTaken, AreTaken, offered_taken}
 use Rattle.loss_law.specs.Loss.{service_at}
 use Rattle.loss_law.proofs.Plan.{kind_of_service}
-use Rattle.end_to_end_law.specs.Units.{unit_of, wants_datagram}
+use Rattle.end_to_end_law.specs.Units.{wants_datagram}
+use Rattle.stream_spec.specs.Units.{unit_of}
 use Rattle.end_to_end_law.specs.Sent.{offered_by, IsSent}
 use Rattle.end_to_end_law.proofs.Services.{service_kind_is, unicast_mac}
 
@@ -33,12 +35,12 @@ module _ (plan : PlanFields) (capture : List ℕ) (told records : List (List ℕ
       (offered_taken plan (given_by capture told) k (are capture told sent.fault sent.capture_bytes sent.tells))
 
   -- and that of what a unit gives
-  pub gives : ((service : ServiceFields) (datagram : List ℕ) → is_of_units service.kind ≡ true → IsMac service.unicast → IsDatagram datagram → AreBytes datagram
+  pub gives : ((service : ServiceFields) (datagram : List ℕ) → is_sent service.kind ≡ true → IsMac service.unicast → IsDatagram datagram → AreBytes datagram
       → length datagram ≤ longest_of service.kind
       → delivered_by_unit service (unit_of service.kind service.unicast datagram) ≡ cond (wants_datagram service datagram) (datagram ∷ []) [])
       → (datagram : List ℕ) → IsTaken (service_at plan k).kind datagram
       → delivered_by_unit (service_at plan k) (unit_of (service_at plan k).kind (service_at plan k).unicast datagram)
       ≡ cond (wants_datagram (service_at plan k) datagram) (datagram ∷ []) []
   gives each datagram taken =
-      each (service_at plan k) datagram (ap is_of_units (kind_of_service plan k known) ∙ service_kind_is plan sent.of_units k known)
+      each (service_at plan k) datagram (ap is_sent (kind_of_service plan k known) ∙ service_kind_is plan sent.of_units k known)
       (unicast_mac plan sent.of_bytes k known) taken.is taken.bytes taken.size

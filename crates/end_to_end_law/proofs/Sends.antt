@@ -7,11 +7,10 @@ use Rattle.ts_spec.specs.Packetized.{unit_at, Packetizes}
 use Rattle.unit_stream.specs.Packing.{packetized}
 use Rattle.carriage_spec.specs.Carried.{packets_sent}
 use Rattle.plan_spec.specs.Plan.{KindFields, ule, mpe, fec, gse}
-use Rattle.stream_spec.specs.Units.{packets_of_kind}
+use Rattle.stream_spec.specs.Units.{packets_of_kind, unit_of}
 use Rattle.stream_spec.specs.Services.{form_of_kind, carried_by_unit, CarriesOn}
-use Rattle.stream_law.specs.Words.{is_of_units}
+use Rattle.plan_spec.specs.Built.{is_sent}
 use Rattle.stream_law.proofs.Units.{IsTaken, AreTaken}
-use Rattle.end_to_end_law.specs.Units.{unit_of}
 use Rattle.end_to_end_law.proofs.Units.{IsOwnUnit}
 
 module _ (kind : KindFields) (unicast : List ℕ) (own : (datagram : List ℕ) → IsTaken kind datagram → IsOwnUnit kind unicast datagram) where
@@ -50,7 +49,7 @@ module _ (kind : KindFields) (unicast : List ℕ) (own : (datagram : List ℕ) �
 -- the packets of a service, by its kind
 pub carries_own_units : ((form : UnitForm) (packing : Bool) (pid counter : ℕ) (units : List (List ℕ)) → IsLawful form
     → ((n : ℕ) → n < length units → IsUnit form (unit_at units n)) → (begin : ℕ → ℕ) × Packetizes form units (packetized form packing pid counter units) begin)
-    → (kind : KindFields) (unicast : List ℕ) → is_of_units kind ≡ true → ((datagram : List ℕ) → IsTaken kind datagram → IsOwnUnit kind unicast datagram)
+    → (kind : KindFields) (unicast : List ℕ) → is_sent kind ≡ true → ((datagram : List ℕ) → IsTaken kind datagram → IsOwnUnit kind unicast datagram)
     → IsLawful (form_of_kind kind) → (pid : ℕ) (sent : List Record) (datagrams : List (List ℕ)) → AreTaken kind datagrams → packets_sent pid sent ≡ packets_of_kind kind unicast datagrams
     → (carries : CarriesOn kind pid sent datagrams) × (carries.units ≡ map (unit_of kind unicast) datagrams)
 carries_own_units packetizes (ule at address packing) unicast of_units own lawful pid sent datagrams taken sent_are =

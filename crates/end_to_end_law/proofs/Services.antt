@@ -4,24 +4,25 @@ use Rattle.std.specs.List.{list_all}
 use Rattle.std.proofs.lemmas.List.{get_or-map, length-map}
 use Rattle.plan_spec.specs.Plan.{KindFields, mpe, ServiceFields, PlanFields, kinds}
 use Rattle.stream_spec.specs.Services.{kind_at}
-use Rattle.stream_law.specs.Words.{is_of_units, IsMac, IsOfBytes}
+use Rattle.stream_law.specs.Words.{IsMac, IsOfBytes}
+use Rattle.plan_spec.specs.Built.{is_sent}
 use Rattle.loss_law.specs.Loss.{no_service, service_at}
 
 -- its kind is one of SNDUs or datagram_sections
-pub kind_is : (ks : List KindFields) (k : ℕ) → list_all is_of_units ks ≡ true → k < length ks → is_of_units (get_or ks k (mpe 0)) ≡ true
+pub kind_is : (ks : List KindFields) (k : ℕ) → list_all is_sent ks ≡ true → k < length ks → is_sent (get_or ks k (mpe 0)) ≡ true
 kind_is [] k all less = absurd (omega (arith, less))
-kind_is (kind ∷ ks) zero all less = first (is_of_units kind) (list_all is_of_units ks) all
+kind_is (kind ∷ ks) zero all less = first (is_sent kind) (list_all is_sent ks) all
   where
     first : (a b : Bool) → (a && b) ≡ true → a ≡ true
     first true b e = refl
     first false b e = absurd (cc)
-kind_is (kind ∷ ks) (suc k) all less = kind_is ks k (second (is_of_units kind) (list_all is_of_units ks) all) (omega (arith, less))
+kind_is (kind ∷ ks) (suc k) all less = kind_is ks k (second (is_sent kind) (list_all is_sent ks) all) (omega (arith, less))
   where
     second : (a b : Bool) → (a && b) ≡ true → b ≡ true
     second true b e = e
     second false b e = absurd (cc)
 
-pub service_kind_is : (plan : PlanFields) → list_all is_of_units (kinds plan) ≡ true → (k : ℕ) → k < length plan.services → is_of_units (kind_at plan k) ≡ true
+pub service_kind_is : (plan : PlanFields) → list_all is_sent (kinds plan) ≡ true → (k : ℕ) → k < length plan.services → is_sent (kind_at plan k) ≡ true
 service_kind_is plan all k known = kind_is (kinds plan) k all (omega (arith, known, length-map plan.services (λ (s : ServiceFields). s.kind)))
 
 -- the address of its receivers

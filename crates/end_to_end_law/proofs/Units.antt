@@ -13,13 +13,14 @@ use Rattle.addr_rules.specs.Filter.{is_wanted}
 use Rattle.addr_rules.specs.declared.filter.Label.{Label}
 use Rattle.addr_rules.specs.declared.filter.Label.TheVariants.{Six, Broadcast}
 use Rattle.plan_spec.specs.Plan.{KindFields, ule, mpe, fec, gse, ServiceFields}
-use Rattle.stream_spec.specs.Units.{mac_for, ether_type_of, sndu_of, section_of}
+use Rattle.stream_spec.specs.Units.{mac_for, ether_type_of, sndu_of, section_of, unit_of}
 use Rattle.stream_spec.specs.Services.{carried_by_unit, form_of_kind}
 use Rattle.reception_spec.specs.Units.{label_of_npa, label_of, delivered_by_unit}
-use Rattle.stream_law.specs.Words.{IsMac, is_of_units}
+use Rattle.stream_law.specs.Words.{IsMac}
+use Rattle.plan_spec.specs.Built.{is_sent}
 use Rattle.stream_law.proofs.Datagrams.{type_below, chain_gives, mac_for_is}
 use Rattle.stream_law.proofs.Units.{IsTaken}
-use Rattle.end_to_end_law.specs.Units.{unit_of, label_for, wants_datagram}
+use Rattle.end_to_end_law.specs.Units.{label_for, wants_datagram}
 
 -- what the unit of a datagram is
 pub record IsOwnUnit (kind : KindFields) (unicast datagram : List ℕ) : Type 0 where
@@ -105,7 +106,7 @@ module _ (sndu_units : (unit : List ℕ) → (is_sndu unit ≡ true) ↔ IsUnit 
       read = mpe_read m writable
 
   -- either
-  pub own_unit : (kind : KindFields) (unicast datagram : List ℕ) → is_of_units kind ≡ true → IsMac unicast → IsTaken kind datagram → IsOwnUnit kind unicast datagram
+  pub own_unit : (kind : KindFields) (unicast datagram : List ℕ) → is_sent kind ≡ true → IsMac unicast → IsTaken kind datagram → IsOwnUnit kind unicast datagram
   own_unit (ule pid address packing) unicast datagram of_units is_mac taken = own_sndu pid address packing unicast datagram is_mac taken
   own_unit (mpe pid) unicast datagram of_units is_mac taken = own_section pid unicast datagram is_mac taken
   own_unit (fec pid rows parity window) unicast datagram of_units is_mac taken = absurd (cc)

@@ -13,10 +13,12 @@ use Rattle.plan_spec.specs.Valid.{is_plan}
 use Rattle.plan_spec.specs.Offered.{offered}
 use Rattle.stream_spec.specs.Stream.{IsStream}
 use Rattle.stream_spec.specs.Services.{kind_at, Carries}
-use Rattle.stream_law.specs.Words.{is_of_units, IsOfBytes}
+use Rattle.stream_law.specs.Words.{IsOfBytes}
+use Rattle.plan_spec.specs.Built.{is_sent}
 use Rattle.stream_law.specs.Captures.{given_by}
 use Rattle.loss_law.specs.Loss.{service_at, IsRecorded}
-use Rattle.end_to_end_law.specs.Units.{unit_of, wants_datagram}
+use Rattle.end_to_end_law.specs.Units.{wants_datagram}
+use Rattle.stream_spec.specs.Units.{unit_of}
 
 -- the datagrams of a capture that are offered to each service, in order
 abbrev pub offered_by : PlanFields → List ℕ → List (List ℕ) → ℕ → List (List ℕ)
@@ -26,7 +28,7 @@ offered_by plan capture told = offered plan (given_by capture told)
 pub record IsSent (plan : PlanFields) (capture : List ℕ) (told : List (List ℕ)) (records : List (List ℕ)) : Type 0 where
   pub accepted : is_plan plan ≡ true
   pub of_bytes : IsOfBytes plan
-  pub of_units : list_all is_of_units (kinds plan) ≡ true
+  pub of_units : list_all is_sent (kinds plan) ≡ true
   pub capture_bytes : AreBytes capture
   pub fault : Option CaptureFault
   pub tells : Tells capture told fault

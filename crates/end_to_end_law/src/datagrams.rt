@@ -8,9 +8,11 @@ ghost use Rattle.plan_spec.specs.Route.{longest_of};
 ghost use Rattle.stream_spec.specs.Services.{kind_at, Carries};
 ghost use Rattle.reception_spec.specs.Units.{delivered_by_unit};
 ghost use Rattle.reception_spec.specs.Delivered.{delivered_datagrams};
-ghost use Rattle.stream_law.specs.Words.{is_of_units, IsMac};
+ghost use Rattle.stream_law.specs.Words.{IsMac};
+ghost use Rattle.plan_spec.specs.Built.{is_sent};
 ghost use Rattle.loss_law.specs.Loss.{service_at, IsRecorded};
-ghost use Rattle.end_to_end_law.specs.Units.{unit_of, wants_datagram};
+ghost use Rattle.end_to_end_law.specs.Units.{wants_datagram};
+ghost use Rattle.stream_spec.specs.Units.{unit_of};
 ghost use Rattle.end_to_end_law.specs.Sent.{offered_by, IsSent, sent_records, SendsOneUnitEach, DeliversOfEach};
 
 use mpe_section::{a_written_datagram_section_reads_back, an_address_or_parameters_can_be_written};
@@ -38,7 +40,7 @@ pub fn each_datagram_is_sent_in_a_unit()
 
 /// A receiver gives of the unit of a datagram this datagram, unchanged, where its filter wants it, and else nothing.
 pub fn a_unit_gives_its_datagram()
-    ensures gives { (service : ServiceFields) (datagram : List ℕ) → is_of_units service.kind ≡ true → IsMac service.unicast
+    ensures gives { (service : ServiceFields) (datagram : List ℕ) → is_sent service.kind ≡ true → IsMac service.unicast
         → IsDatagram datagram → AreBytes datagram → length datagram ≤ longest_of service.kind
         → delivered_by_unit service (unit_of service.kind service.unicast datagram) ≡ (if wants_datagram service datagram then datagram ∷ [] else []) }
 {

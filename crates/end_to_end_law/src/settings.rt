@@ -6,7 +6,7 @@ ghost use Rattle.pcap_file.specs.Told.{Tells};
 ghost use Rattle.pcap_file.specs.declared.faults.CaptureFault.{CaptureFault};
 ghost use Rattle.plan_spec.specs.Plan.{PlanFields, kinds};
 ghost use Rattle.settings_spec.specs.Refusal.{IsAccepted};
-ghost use Rattle.stream_law.specs.Words.{is_of_units};
+ghost use Rattle.plan_spec.specs.Built.{is_sent};
 ghost use Rattle.end_to_end_law.specs.Sent.{IsSent};
 
 use pcap_file::a_capture_tells_one_thing;
@@ -20,7 +20,7 @@ pub fn each_capture_tells_records()
 
 /// For all settings that are accepted, of services of SNDUs and datagram_sections, and all captures there is a stream, and one alone.
 pub fn each_capture_is_sent()
-    ensures is { (settings : List ℕ) (plan : PlanFields) → IsAccepted settings plan → list_all is_of_units (kinds plan) ≡ true
+    ensures is { (settings : List ℕ) (plan : PlanFields) → IsAccepted settings plan → list_all is_sent (kinds plan) ≡ true
         → (capture : List ℕ) → AreBytes capture → (told records : List (List ℕ)) × IsSent plan capture told records }
     ensures one { (plan : PlanFields) (capture : List ℕ) (told others a b : List (List ℕ)) → IsSent plan capture told a → IsSent plan capture others b
         → (told ≡ others) × (a ≡ b) }

@@ -7,6 +7,6 @@ pieces_from from bytes [] = []
 pieces_from from bytes (end ∷ ends) = take (end - from) (drop from bytes) ∷ pieces_from end bytes ends
 
 -- each piece ends after the one before, or there, and the last at the end of so many bytes
-abbrev pub AreEnds : ℕ → ℕ → List ℕ → Type 0
-AreEnds from size [] = from ≡ size
-AreEnds from size (end ∷ ends) = (from ≤ end) × AreEnds end size ends
+abbrev pub AreEndsFrom : ℕ → ℕ → List ℕ → Type 0
+AreEndsFrom from size [] = from ≡ size
+AreEndsFrom from size (end ∷ ends) = (from ≤ end) × AreEndsFrom end size ends

@@ -1,6 +1,6 @@
 //! Datagrams, copied into a list in order and lent out of it.
 ghost use Rattle.std.specs.Prelude.{◌≡◌, ℕ, ◌+◌, ◌<◌, ◌≤◌, List, [], ◌∷◌, ◌++◌, length, Some, OnOk, OnErr, slice_get, slice_index};
-ghost use Rattle.ip_datagram.specs.Held.{pieces_from, AreEnds};
+ghost use Rattle.ip_datagram.specs.Held.{pieces_from, AreEndsFrom};
 
 use std::alloc::{AllocError as OutOfMemory, Global};
 use std::marker::Model;
@@ -17,13 +17,13 @@ pub struct DatagramList {
 
 impl Model for DatagramList {
     ghost use Rattle.std.specs.Prelude.{ℕ, List, length};
-    ghost use Rattle.ip_datagram.specs.Held.{pieces_from, AreEnds};
+    ghost use Rattle.ip_datagram.specs.Held.{pieces_from, AreEndsFrom};
 
     ghost Value = { List (List ℕ) };
 
     ghost view = { λ list. pieces_from 0 list.bytes.items list.ends.items };
 
-    ghost invariant = { λ list. AreEnds 0 (length list.bytes.items) list.ends.items };
+    ghost invariant = { λ list. AreEndsFrom 0 (length list.bytes.items) list.ends.items };
 }
 
 /// Where the piece at a place begins, of pieces that end at these places.
@@ -37,7 +37,7 @@ fn begin_of(ends: &[usize], place: usize) -> usize
 /// The piece at a place, of pieces that end at these places.
 #[tactic(auto, using(crate::proofs::Held::piece_is, crate::proofs::Held::piece_ordered, crate::proofs::Held::piece_within))]
 fn piece<'a>(bytes: &'a [u8], ends: &[usize], place: usize) -> &'a [u8]
-    requires ends { AreEnds 0 (length bytes.now) ends.now }
+    requires ends { AreEndsFrom 0 (length bytes.now) ends.now }
     requires place { place < length ends.now }
     ensures read { slice_get (pieces_from 0 bytes.now ends.now) place ≡ Some result.now }
 {

@@ -7,8 +7,7 @@ use Rattle.settings_spec.specs.Keys.{SettingsFault}
 use Rattle.ipe_io.specs.Told.{ShelfTold}
 use Rattle.settings_load.specs.Settings.{Refusal, refused, IsAcceptedFile, IsRefusedFile}
 use Rattle.settings_law.proofs.Spellings.{one_plan}
-use Rattle.stream_law.specs.Words.{is_of_units}
-use Rattle.demux_core.specs.Receiving.{is_built}
+use Rattle.plan_spec.specs.Built.{is_sent, is_received}
 use Rattle.ipencap_engine.specs.Built.{unbuilt_fault, IsRefusedForUse, gives_none, gives_unbuilt}
 use Rattle.ipencap_engine.specs.Jobs.{Job, row, TellsSettings}
 
@@ -45,7 +44,7 @@ not_refused file bytes refusal plan accepted e none is (gives_unbuilt other faul
     none-some fault (e ∙ ap unbuilt_fault (one_given file bytes plan other is accepted gives) ∙ unbuilt)
 
 -- what can be sent can be received
-pub built_both : (kinds : List KindFields) → list_all is_of_units kinds ≡ true → list_all is_built kinds ≡ true
+pub built_both : (kinds : List KindFields) → list_all is_sent kinds ≡ true → list_all is_received kinds ≡ true
 built_both [] all = refl
 built_both (ule pid address packing ∷ kinds) all = built_both kinds all
 built_both (mpe pid ∷ kinds) all = built_both kinds all

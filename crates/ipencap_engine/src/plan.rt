@@ -6,7 +6,7 @@ ghost use Rattle.plan.specs.PlanView.{plan_fields};
 ghost use Rattle.settings_keys.specs.Keys.{fault_seen};
 ghost use Rattle.settings_load.specs.Settings.{Refusal, IsAcceptedFile};
 ghost use Rattle.settings_load.specs.Faults.{refusal_of};
-ghost use Rattle.mux_core.specs.Sending.{are_built};
+ghost use Rattle.plan_spec.specs.Built.{are_sent};
 ghost use Rattle.ipencap_engine.specs.Statuses.{outcome_after};
 ghost use Rattle.ipencap_engine.specs.Built.{unbuilt_fault, IsRefusedForUse, IsPlanInUse};
 
@@ -24,7 +24,7 @@ pub(crate) fn plan_in_use<S: Shelf>(
     shelf: &mut S,
 ) -> Result<Plan, SettingsError>
     ensures read { IfOk result (λ plan. IsPlanInUse ((S.told shelf.old).file name.now) (plan_fields plan)) }
-    ensures kinds { IfOk result (λ plan. are_built (kinds (plan_fields plan)) ≡ true) }
+    ensures kinds { IfOk result (λ plan. are_sent (plan_fields plan) ≡ true) }
     ensures refused { IfErr result (λ e. IfSome (refusal_of e) (λ refusal. IfSome ((S.told shelf.old).file name.now) (λ bytes. IsRefusedForUse bytes refusal))) }
     ensures only { (bytes : List ℕ) (plan : PlanFields) → (S.told shelf.old).file name.now ≡ Some bytes → IsAcceptedFile bytes plan → unbuilt_fault plan ≡ None
         → IfErr result (λ e. refusal_of e ≡ None) }
@@ -59,7 +59,7 @@ pub(crate) fn outcome_of(error: SettingsError) -> Outcome
 /// What of a plan is not built yet: its carrier, or the kind of a service.
 fn unbuilt(plan: &Plan) -> Option<PlanFault>
     ensures read { option_map fault_seen result ≡ unbuilt_fault (plan_fields plan.now) }
-    ensures built { IfNone result (are_built (kinds (plan_fields plan.now)) ≡ true) }
+    ensures built { IfNone result (are_sent (plan_fields plan.now) ≡ true) }
 {
     if plan.frame_bytes.is_some() {
         return Some(PlanFault::Range(Key::Carrier));

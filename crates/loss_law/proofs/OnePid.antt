@@ -16,7 +16,8 @@ use Rattle.reception_spec.specs.Numbers.{gaps_behind, gaps_in, is_unit, is_bad_c
 use Rattle.reception_spec.specs.Delivered.{delivered_datagrams}
 use Rattle.carriage_law.specs.Words.{timed_packet, timed_unit}
 use Rattle.carriage_law.proofs.Isolation.{accepted_same, events_same}
-use Rattle.loss_law.specs.Isolation.{SamePackets, is_on}
+use Rattle.loss_law.specs.Isolation.{SamePackets}
+use Rattle.reception_spec.specs.Packets.{is_on}
 
 -- Packets by their moments and bytes.
 

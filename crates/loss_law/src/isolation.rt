@@ -6,7 +6,8 @@ ghost use Rattle.plan_spec.specs.Plan.{ServiceFields, IntFields, PlanFields, pid
 ghost use Rattle.reception_spec.specs.Numbers.{pid_numbers, service_pid_numbers, units_of};
 ghost use Rattle.reception_spec.specs.Delivered.{delivered_datagrams};
 ghost use Rattle.reception_spec.specs.Table.{table_sections};
-ghost use Rattle.loss_law.specs.Isolation.{SamePackets, is_on};
+ghost use Rattle.loss_law.specs.Isolation.{SamePackets};
+ghost use Rattle.reception_spec.specs.Packets.{is_on};
 
 /// Two recordings with the same readable packets of its PID give the same datagrams, units and numbers of a service.
 pub fn a_service_is_received_by_itself()

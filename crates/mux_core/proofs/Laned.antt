@@ -6,11 +6,10 @@ use Rattle.ts_spec.specs.Sndu.{sndu_form}
 use Rattle.section_spec.specs.Section.{section_form}
 use Rattle.unit_stream.specs.Packing.{packetized}
 use Rattle.plan_spec.specs.Plan.{ServiceFields}
-use Rattle.stream_spec.specs.Units.{packets_of, packets_of_kind}
+use Rattle.stream_spec.specs.Units.{packets_of, packets_of_kind, unit_of}
 use Rattle.plan.specs.Parts.{kind_seen}
 use Rattle.plan.specs.declared.service.Kind.{Kind}
 use Rattle.plan.specs.declared.service.Kind.TheVariants.{Ule, Mpe}
-use Rattle.mux_core.specs.Units.{unit_of}
 use Rattle.mux_core.specs.Services.{packets_from_lists}
 use Rattle.mux_core.proofs.Held.{sndus_least, sections_least}
 

@@ -14,11 +14,11 @@ use Rattle.plan_spec.specs.Valid.{is_valid_window, is_valid_kind, is_valid_servi
 use Rattle.stream_spec.specs.Units.{packets_of}
 use Rattle.stream_spec.specs.Stream.{packets_from, service_packets, slot_in, record_of_slot, records_of_slots, IsStream}
 use Rattle.stream_spec.specs.Slots.{IsSlotCount}
-use Rattle.stream_law.specs.Words.{is_of_units}
+use Rattle.plan_spec.specs.Built.{is_sent, are_sent}
 use Rattle.stream_law.proofs.Plans.{both, at_most, ranges, has_ranges, few_services}
 use Rattle.datagram_routing.specs.Offering.{IsOffered}
 use Rattle.datagram_routing.specs.declared.offered.Offered.{Offered}
-use Rattle.mux_core.specs.Sending.{are_built, IsUnderPlan}
+use Rattle.mux_core.specs.Sending.{IsUnderPlan}
 use Rattle.mux_core.specs.Units.{AreFor, HasPid}
 use Rattle.mux_core.specs.Services.{packets_from_lists, IsList, AreLists}
 use Rattle.mux_core.proofs.Items.{list_all_at, map_at}
@@ -32,7 +32,7 @@ pid_fits least (fec pid rows parity window) e =
 pid_fits least (gse isi address) e = tt
 
 -- what was offered, as it is asked of lists
-module _ (plan : PlanFields) (accepted : is_plan plan ≡ true) (built : are_built (kinds plan) ≡ true) (offer : Offered) (under : IsUnderPlan plan offer)
+module _ (plan : PlanFields) (accepted : is_plan plan ≡ true) (built : are_sent plan ≡ true) (offer : Offered) (under : IsUnderPlan plan offer)
     (are : (k : ℕ) → All IsDatagram (offered plan under.records k))
     (short : (k : ℕ) → All (λ (datagram : List ℕ). length datagram ≤ longest_of (slice_index_or (kinds plan) k (mpe 0))) (offered plan under.records k))
     (few : (k : ℕ) → length (offered plan under.records k) ≤ length under.records) where
@@ -53,7 +53,7 @@ module _ (plan : PlanFields) (accepted : is_plan plan ≡ true) (built : are_bui
           let list_is : datagrams ≡ offered plan under.records k
           = some_eq datagrams (offered plan under.records k) (sym listed ∙ under.stands.each k (slice_get_within plan.services k service found)) in
           record {
-            built = list_all_at is_of_units (kinds plan) k service.kind kind built;
+            built = list_all_at is_sent (kinds plan) k service.kind kind built;
             pid = pid_fits (ranges plan accepted).least service.kind
                 (has_ranges (ranges plan accepted).least service (list_all_at (is_valid_service (ranges plan accepted).least) plan.services k service found (ranges plan accepted).services)).kind;
             datagrams_are = subst (λ (ds : List (List ℕ)). AreFor service.kind ds) (sym list_is)

@@ -13,12 +13,12 @@ use Rattle.plan_spec.specs.Plan.{KindFields, ule, mpe, fec, gse}
 use Rattle.section_spec.specs.Mpe.{mpe_to_write, mpe_body}
 use Rattle.section_codec.proofs.Written.{length-section_bytes}
 use Rattle.ule_unit.proofs.Written.{length-sndu_bytes}
-use Rattle.stream_spec.specs.Units.{mac_for, ether_type_of, sndu_of, section_of}
-use Rattle.stream_law.specs.Words.{is_of_units}
+use Rattle.stream_spec.specs.Units.{mac_for, ether_type_of, sndu_of, section_of, unit_of}
+use Rattle.plan_spec.specs.Built.{is_sent}
 use Rattle.ts_spec.specs.Form.{UnitForm}
 use Rattle.unit_stream.specs.Packing.{packetized}
 use Rattle.unit_stream.specs.Packers.{PackerState, AreRising, IsOnWay, HasNext, StandAt, Writes, end_of, packets_left, units_of}
-use Rattle.mux_core.specs.Units.{unit_of, unit_bytes, ends_from, IsFor, AreFor}
+use Rattle.mux_core.specs.Units.{unit_bytes, ends_from, IsFor, AreFor}
 use Rattle.mux_core.specs.Windows.{IsWindow, IsSending}
 use Rattle.mux_core.specs.declared.window.Window.{Window}
 use Rattle.mux_core.proofs.Items.{all_at}
@@ -48,7 +48,7 @@ pub length-section_of : (unicast datagram : List ℕ) → length (section_of uni
 length-section_of unicast datagram = omega (arith, length-section_bytes 0x3E 0xB0 (mpe_body (mpe_to_write (mac_for unicast datagram) None datagram)))
 
 -- a datagram of a service of units is no longer than an SNDU allows
-pub short_for : (kind : KindFields) (datagram : List ℕ) → is_of_units kind ≡ true → IsFor kind datagram → length datagram ≤ 32757
+pub short_for : (kind : KindFields) (datagram : List ℕ) → is_sent kind ≡ true → IsFor kind datagram → length datagram ≤ 32757
 short_for (ule pid address packing) datagram built is = is.short
 short_for (mpe pid) datagram built is = omega (arith, is.short)
 short_for (fec pid rows parity window) datagram built is = absurd (cc)
@@ -191,7 +191,7 @@ moved items new out fill le fits is =
     ∙ ap (λ (n : ℕ). drop out (take n items)) whole
 
 -- before the first unit
-pub window_first : (kind : KindFields) (unicast : List ℕ) (datagrams : List (List ℕ)) (window : Window) → is_of_units kind ≡ true → AreFor kind datagrams → length datagrams < 2 ^ 32
+pub window_first : (kind : KindFields) (unicast : List ℕ) (datagrams : List (List ℕ)) (window : Window) → is_sent kind ≡ true → AreFor kind datagrams → length datagrams < 2 ^ 32
     → window.from ≡ 0 → window.fill ≡ 0 → window.count ≡ 0 → length window.buffer.items ≡ 32957 → IsWindow kind unicast datagrams window
 window_first kind unicast datagrams window built are few from_is fill_is count_is size = record {
   built = built;

@@ -1,20 +1,14 @@
 -- What is sent of what was offered.
-use Rattle.std.specs.Prelude.{◌≡◌, ℕ, ◌<◌, ◌^◌, Bool, List, length, Option, Result, IfOk}
-use Rattle.std.specs.List.{list_all}
+use Rattle.std.specs.Prelude.{◌≡◌, ℕ, ◌<◌, ◌^◌, List, length, Option, Result, IfOk}
 use Rattle.wire_spec.specs.Lists.{joined}
 use Rattle.wire_spec.specs.Content.{Puts}
-use Rattle.plan_spec.specs.Plan.{KindFields, PlanFields}
+use Rattle.plan_spec.specs.Plan.{PlanFields}
 use Rattle.plan_spec.specs.Offered.{Records}
 use Rattle.datagram_routing.specs.Offering.{HoldDatagrams, IsOffered}
 use Rattle.datagram_routing.specs.declared.offered.Offered.{Offered}
 use Rattle.stream_spec.specs.Stream.{IsStream}
-use Rattle.stream_law.specs.Words.{is_of_units}
 use Rattle.mux_core.specs.declared.sending.Sent.{Sent}
 use Rattle.mux_core.specs.declared.sending.MuxFault.{MuxFault}
-
--- the kinds of service that are sent so far: those of SNDUs and of datagram_sections
-abbrev pub are_built : List KindFields → Bool
-are_built kinds = list_all is_of_units kinds
 
 -- what was offered under the plan is of fewer than 2^32 records, which have datagrams or nothing
 pub record IsUnderPlan (plan : PlanFields) (offer : Offered) : Type 0 where

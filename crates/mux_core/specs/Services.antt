@@ -5,7 +5,7 @@ use Rattle.stream_spec.specs.Slots.{Turns, asked}
 use Rattle.plan_spec.specs.Plan.{ServiceFields, PlanFields}
 use Rattle.stream_spec.specs.Units.{packets_of}
 use Rattle.stream_spec.specs.Stream.{written, packet_counts}
-use Rattle.stream_law.specs.Words.{is_of_units}
+use Rattle.plan_spec.specs.Built.{is_sent}
 use Rattle.mux_core.specs.Units.{HasPid, AreFor}
 use Rattle.mux_core.specs.declared.lanes.Lane.{Lane}
 use Rattle.mux_core.specs.declared.lanes.Lane.TheVariants.{Ule, Mpe}
@@ -62,7 +62,7 @@ packets_from_lists (service ∷ services) (datagrams ∷ lists) = packets_of ser
 
 -- a service that is built, with the datagrams that it takes
 pub record IsList (service : ServiceFields) (datagrams : List (List ℕ)) : Type 0 where
-  pub built : is_of_units service.kind ≡ true
+  pub built : is_sent service.kind ≡ true
   pub pid : HasPid service.kind
   pub datagrams_are : AreFor service.kind datagrams
   pub few : length datagrams < 2 ^ 32

@@ -4,14 +4,7 @@ use Rattle.wire_spec.specs.Datagram.{IsDatagram}
 use Rattle.wire_spec.specs.Lists.{joined}
 use Rattle.plan_spec.specs.Plan.{KindFields, ule, mpe, fec, gse}
 use Rattle.plan_spec.specs.Route.{longest_of}
-use Rattle.stream_spec.specs.Units.{sndu_of, section_of}
-
--- the unit of a datagram; the other kinds have none so far
-abbrev pub unit_of : KindFields → List ℕ → List ℕ → List ℕ
-unit_of (ule pid address packing) unicast datagram = sndu_of address unicast datagram
-unit_of (mpe pid) unicast datagram = section_of unicast datagram
-unit_of (fec pid rows parity window) unicast datagram = []
-unit_of (gse isi address) unicast datagram = []
+use Rattle.stream_spec.specs.Units.{unit_of}
 
 -- the units of these datagrams, one after another
 abbrev pub unit_bytes : KindFields → List ℕ → List (List ℕ) → List ℕ

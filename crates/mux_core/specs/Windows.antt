@@ -2,14 +2,15 @@
 use Rattle.std.specs.Prelude.{◌≡◌, ℕ, ◌+◌, ◌*◌, ◌≤◌, ◌<◌, ◌^◌, true, List, ◌++◌, length, map, take}
 use Rattle.unit_stream.specs.Packers.{PackerState, AreRising, IsOnWay}
 use Rattle.plan_spec.specs.Plan.{KindFields}
-use Rattle.stream_law.specs.Words.{is_of_units}
-use Rattle.mux_core.specs.Units.{unit_of, unit_bytes, ends_from, AreFor}
+use Rattle.plan_spec.specs.Built.{is_sent}
+use Rattle.mux_core.specs.Units.{unit_bytes, ends_from, AreFor}
+use Rattle.stream_spec.specs.Units.{unit_of}
 use Rattle.mux_core.specs.declared.window.Window.{Window}
 
 -- the units of the first so many datagrams end with what the buffer has, after what was forgotten; the longest unit has room
 -- after the bytes of a packet
 pub record IsWindow (kind : KindFields) (unicast : List ℕ) (datagrams : List (List ℕ)) (window : Window) : Type 0 where
-  pub built : is_of_units kind ≡ true
+  pub built : is_sent kind ≡ true
   pub datagrams_are : AreFor kind datagrams
   pub few : length datagrams < 2 ^ 32
   pub room : 32957 ≤ length window.buffer.items

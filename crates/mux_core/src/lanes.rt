@@ -3,7 +3,7 @@ ghost use Rattle.std.specs.Prelude.{◌≡◌, ℕ, ◌<◌, ◌≤◌, ◌^◌,
 ghost use Rattle.ts_spec.specs.Packet.{PacketFields};
 ghost use Rattle.stream_spec.specs.Stream.{written};
 ghost use Rattle.stream_spec.specs.Units.{packets_of_kind};
-ghost use Rattle.stream_law.specs.Words.{is_of_units};
+ghost use Rattle.plan_spec.specs.Built.{is_sent};
 ghost use Rattle.plan.specs.Parts.{kind_seen};
 ghost use Rattle.mux_core.specs.Units.{AreFor, HasPid};
 ghost use Rattle.mux_core.specs.Services.{packets_in};
@@ -49,10 +49,11 @@ impl<'a, F: UnitForm> LanePackets<'a, F> {
     ghost use Rattle.std.specs.Prelude.{◌≡◌, ℕ, ◌<◌, ◌≤◌, ◌^◌, ◌∷◌, List, true, length, map, nat_lt, IfOk, All};
     ghost use Rattle.ts_spec.specs.Packet.{PacketFields};
     ghost use Rattle.stream_spec.specs.Stream.{written};
-    ghost use Rattle.stream_law.specs.Words.{is_of_units};
+    ghost use Rattle.plan_spec.specs.Built.{is_sent};
     ghost use Rattle.plan.specs.Parts.{kind_seen};
     ghost use Rattle.unit_stream.specs.Packing.{packetized};
-    ghost use Rattle.mux_core.specs.Units.{unit_of, AreFor};
+    ghost use Rattle.mux_core.specs.Units.{AreFor};
+    ghost use Rattle.stream_spec.specs.Units.{unit_of};
 
     /// The packets of these datagrams, with counters from 0; the PID is 0 to 8191.
     fn new(
@@ -62,7 +63,7 @@ impl<'a, F: UnitForm> LanePackets<'a, F> {
         pid: u16,
         packing: bool,
     ) -> Result<LanePackets<'a, F>, OutOfMemory>
-        requires built { is_of_units (kind_seen service.now.kind) ≡ true }
+        requires built { is_sent (kind_seen service.now.kind) ≡ true }
         requires datagrams { AreFor (kind_seen service.now.kind) datagrams.now }
         requires few { length datagrams.now < 2 ^ 32 }
         requires pid { pid ≤ 8191 }
@@ -121,7 +122,7 @@ impl<'a> Lane<'a> {
         service: &'a Service,
         datagrams: &'a DatagramList,
     ) -> Result<Lane<'a>, OutOfMemory>
-        requires built { is_of_units (kind_seen service.now.kind) ≡ true }
+        requires built { is_sent (kind_seen service.now.kind) ≡ true }
         requires pid { HasPid (kind_seen service.now.kind) }
         requires datagrams { AreFor (kind_seen service.now.kind) datagrams.now }
         requires few { length datagrams.now < 2 ^ 32 }

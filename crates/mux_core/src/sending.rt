@@ -6,7 +6,8 @@ ghost use Rattle.plan_spec.specs.Plan.{kinds};
 ghost use Rattle.plan_spec.specs.Offered.{Records, offered as offered_to};
 ghost use Rattle.plan.specs.PlanView.{plan_fields};
 ghost use Rattle.datagram_routing.specs.Offering.{IsOffered};
-ghost use Rattle.mux_core.specs.Sending.{are_built, IsUnderPlan, WritesStream};
+ghost use Rattle.mux_core.specs.Sending.{IsUnderPlan, WritesStream};
+ghost use Rattle.plan_spec.specs.Built.{are_sent};
 ghost use Rattle.mux_core.specs.declared.sending.MuxFault.TheVariants.{Sink as SinkFault, OutOfMemory as NoMemory};
 
 use crate::batch::Batch;
@@ -61,7 +62,7 @@ pub fn stream<K: Sink>(
     offered: &Offered,
     sink: &mut K,
 ) -> Result<Sent, MuxFault>
-    requires built { are_built (kinds (plan_fields plan.now)) ≡ true }
+    requires built { are_sent (plan_fields plan.now) ≡ true }
     requires offered { IsUnderPlan (plan_fields plan.now) offered.now }
     ensures written { (gives : Records) → IsOffered (plan_fields plan.now) gives offered.now
         → WritesStream (plan_fields plan.now) (offered_to (plan_fields plan.now) gives) result (K.told sink.old).held (K.told sink.new).held }

@@ -24,7 +24,7 @@ fn is_of_table(plan: &Plan, table: &TablePackets, slot: u64) -> bool
 }
 
 /// Writes the packet of a slot: that of the INT in the first slots of a cycle, else that of the service whose turn it is.
-fn take_packet(
+fn packet_for_slot(
     plan: &Plan,
     services: &mut Services<'_>,
     turn: usize,
@@ -71,7 +71,7 @@ fn put_packet(
     let Some(packet) = into.first_chunk_mut::<188>() else {
         unreachable!();
     };
-    take_packet(plan, services, turn, table, slot, packet);
+    packet_for_slot(plan, services, turn, table, slot, packet);
 }
 
 /// Writes the record of a slot to the front of `into`, its stamp and its packet; answers its length, 188, 192 or 196 bytes.

@@ -10,7 +10,7 @@ ghost use Rattle.ts_spec.specs.Packetized.{packet_at};
 ghost use Rattle.plan.specs.Parts.{int_seen};
 ghost use Rattle.plan.specs.PlanView.{plan_fields};
 ghost use Rattle.mux_core.specs.Units.{HoldUnits};
-ghost use Rattle.mux_core.specs.Sending.{are_built};
+ghost use Rattle.plan_spec.specs.Built.{are_sent};
 ghost use Rattle.mux_core.specs.Slots.{is_early};
 ghost use Rattle.wire_spec.specs.Bytes.{AreBytes};
 ghost use Rattle.mux_core.specs.Tables.{IsTableAt, packet_of_table};
@@ -93,7 +93,7 @@ fn entry_of(alloc: Global, service: &Service) -> Result<IntEntry, OutOfMemory>
 
 /// The INT of a plan without frames.
 fn table_of(alloc: Global, plan: &Plan, int: &IntPlan) -> Result<IntTable, OutOfMemory>
-    requires built { are_built (kinds (plan_fields plan.now)) ≡ true }
+    requires built { are_sent (plan_fields plan.now) ≡ true }
     requires int { (plan_fields plan.now).table ≡ Some (int_seen int.now) }
     ensures written { IfOk result (λ table. table ≡ table_of_plan (plan_fields plan.now) (int_seen int.now)) }
     ensures fits { IfOk result (λ table. length (table_bytes table) ≤ 4096) }
@@ -135,13 +135,13 @@ impl TablePackets {
     ghost use Rattle.plan_spec.specs.Plan.{kinds};
     ghost use Rattle.plan_spec.specs.Signalling.{table_packets};
     ghost use Rattle.plan.specs.PlanView.{plan_fields};
-    ghost use Rattle.mux_core.specs.Sending.{are_built};
+    ghost use Rattle.plan_spec.specs.Built.{are_sent};
     ghost use Rattle.mux_core.specs.Slots.{is_early};
     ghost use Rattle.mux_core.specs.Tables.{IsTableAt, packet_of_table};
 
     /// The packets of the INT of a plan, before the first slot.
     pub(crate) fn new(alloc: Global, plan: &Plan) -> Result<TablePackets, OutOfMemory>
-        requires built { are_built (kinds (plan_fields plan.now)) ≡ true }
+        requires built { are_sent (plan_fields plan.now) ≡ true }
         ensures at { IfOk result (IsTableAt (plan_fields plan.now) 0) }
         ensures few { IfOk result (λ table. table.count ≤ 23) }
     {

@@ -1,9 +1,10 @@
 //! A datagram of a service -> its unit.
 ghost use Rattle.std.specs.Prelude.{◌≡◌, ℕ, ◌+◌, ◌*◌, ◌<◌, ◌≤◌, ◌^◌, ◌++◌, List, true, length, take, drop, map, All, IfOk};
 ghost use Rattle.stream_spec.specs.Units.{ether_type_of};
-ghost use Rattle.stream_law.specs.Words.{is_of_units};
+ghost use Rattle.plan_spec.specs.Built.{is_sent};
 ghost use Rattle.plan.specs.Parts.{kind_seen};
-ghost use Rattle.mux_core.specs.Units.{unit_of, unit_bytes, ends_from, IsFor, AreFor};
+ghost use Rattle.mux_core.specs.Units.{unit_bytes, ends_from, IsFor, AreFor};
+ghost use Rattle.stream_spec.specs.Units.{unit_of};
 
 use addr_rules::mac_of;
 use ip_datagram::{DatagramList, destination};
@@ -32,7 +33,7 @@ fn ether_type(datagram: &[u8]) -> u16
 
 /// Writes the unit of a datagram to the front of `into`; answers its length.
 fn write_unit(service: &Service, datagram: &[u8], into: &mut [u8]) -> usize
-    requires built { is_of_units (kind_seen service.now.kind) ≡ true }
+    requires built { is_sent (kind_seen service.now.kind) ≡ true }
     requires datagram { IsFor (kind_seen service.now.kind) datagram.now }
     requires room { length datagram.now + 16 ≤ length into.old }
     ensures size { result ≡ length (unit_of (kind_seen service.now.kind) service.now.unicast datagram.now) }
@@ -52,7 +53,7 @@ fn write_unit(service: &Service, datagram: &[u8], into: &mut [u8]) -> usize
 
 /// Writes the unit of a datagram to a place of `into`; answers its length.
 pub(crate) fn put_unit(service: &Service, datagram: &[u8], at: usize, into: &mut [u8]) -> usize
-    requires built { is_of_units (kind_seen service.now.kind) ≡ true }
+    requires built { is_sent (kind_seen service.now.kind) ≡ true }
     requires datagram { IsFor (kind_seen service.now.kind) datagram.now }
     requires room { at + (length datagram.now + 16) ≤ length into.old }
     ensures size { result ≡ length (unit_of (kind_seen service.now.kind) service.now.unicast datagram.now) }
@@ -72,7 +73,7 @@ fn address_size(unicast: &[u8; 6]) -> usize
 
 /// Bytes of the unit of a datagram.
 fn unit_size(service: &Service, datagram: &[u8]) -> usize
-    requires built { is_of_units (kind_seen service.now.kind) ≡ true }
+    requires built { is_sent (kind_seen service.now.kind) ≡ true }
     requires datagram { IsFor (kind_seen service.now.kind) datagram.now }
     ensures size { result ≡ length (unit_of (kind_seen service.now.kind) service.now.unicast datagram.now) }
     ensures most { result ≤ 32773 }
@@ -93,7 +94,7 @@ pub(crate) fn ends_of(
     service: &Service,
     datagrams: &DatagramList,
 ) -> Result<Vec<usize>, OutOfMemory>
-    requires built { is_of_units (kind_seen service.now.kind) ≡ true }
+    requires built { is_sent (kind_seen service.now.kind) ≡ true }
     requires datagrams { AreFor (kind_seen service.now.kind) datagrams.now }
     requires few { length datagrams.now < 2 ^ 32 }
     ensures written { IfOk result (λ ends. ends.items ≡ ends_from 0 (map (unit_of (kind_seen service.now.kind) service.now.unicast) datagrams.now)) }

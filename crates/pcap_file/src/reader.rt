@@ -5,7 +5,7 @@ ghost use Rattle.std.specs.Io.KnownBytes.{Consumes};
 ghost use Rattle.std.specs.Borrow.{sem};
 ghost use Rattle.pcap_file.specs.Reading.{head_fault, is_least_first, link_at, record_fault};
 ghost use Rattle.pcap_file.specs.Told.{Tells};
-ghost use Rattle.pcap_file.specs.Reader.{FindsHead, HasNextCause, HasOpenCause, HasRead, Leaves, OnNextFault, OnOpenFault, Opens, is_cut, rest_of, state_after, with_record};
+ghost use Rattle.pcap_file.specs.Reader.{FindsHead, HasNextCause, HasOpenCause, HasReadRecords, Leaves, OnNextFault, OnOpenFault, Opens, is_cut, rest_of, state_after, with_record};
 
 use crate::ahead::Ahead;
 use crate::captured::LinkType;
@@ -74,9 +74,9 @@ impl CaptureReader {
     /// Lends the bytes of the next record; None at the end of the input. After an Err the reader is closed.
     pub fn next<S: Source>(&mut self, source: &mut S) -> Result<Option<&[u8]>, NextFault>
         requires { self.old.is_open ≡ true }
-        ensures read { (front : List ℕ) (records : List (List ℕ)) → HasRead self.old front records → IfOk result (λ o. IfSome o (λ r. (head : List ℕ) × (length head ≡ 16) × IfSome (rest_of self.old.held (S.told source.old).left) (λ rest. StartsWith rest (head ++ r.now)) × HasRead (with_record self.old r.now) (front ++ (head ++ r.now)) (records ++ r.now ∷ []))) }
-        ensures end { (front : List ℕ) (records : List (List ℕ)) → HasRead self.old front records → IfOk result (λ o. IfNone o (Consumes (rest_of self.old.held (S.told source.old).left) (rest_of self.old.held (S.told source.new).left) [] × IfSome (rest_of self.old.held (S.told source.old).left) (λ rest. Tells (front ++ rest) records None))) }
-        ensures refused { (front : List ℕ) (records : List (List ℕ)) → HasRead self.old front records → IfErr result (λ e. OnNextFault e (λ fault. IfSome (rest_of self.old.held (S.told source.old).left) (λ rest. Tells (front ++ rest) records (Some fault)))) }
+        ensures read { (front : List ℕ) (records : List (List ℕ)) → HasReadRecords self.old front records → IfOk result (λ o. IfSome o (λ r. (head : List ℕ) × (length head ≡ 16) × IfSome (rest_of self.old.held (S.told source.old).left) (λ rest. StartsWith rest (head ++ r.now)) × HasReadRecords (with_record self.old r.now) (front ++ (head ++ r.now)) (records ++ r.now ∷ []))) }
+        ensures end { (front : List ℕ) (records : List (List ℕ)) → HasReadRecords self.old front records → IfOk result (λ o. IfNone o (Consumes (rest_of self.old.held (S.told source.old).left) (rest_of self.old.held (S.told source.new).left) [] × IfSome (rest_of self.old.held (S.told source.old).left) (λ rest. Tells (front ++ rest) records None))) }
+        ensures refused { (front : List ℕ) (records : List (List ℕ)) → HasReadRecords self.old front records → IfErr result (λ e. OnNextFault e (λ fault. IfSome (rest_of self.old.held (S.told source.old).left) (λ rest. Tells (front ++ rest) records (Some fault)))) }
         ensures idle { 16 ≤ length self.old.held → record_fault self.old.least_first self.old.records self.old.bytes self.old.held ≢ Some CaptureFault.CutRecord → source.new ≡ source.old }
         ensures ended { IfOk result (λ o. IfNone o ((self.old.held ≡ []) × ((S.told source.new).ended ≡ true))) }
         ensures cut { IfErr result (λ e. OnNextFault e (λ fault. is_cut fault ≡ true → (S.told source.new).ended ≡ true)) }

@@ -3,6 +3,7 @@ pub mod Checks
 pub mod Signalling
 pub mod Valid
 pub mod Given
+pub mod Built
 pub mod Route
 pub mod Offered
 pub mod Examples

@@ -2,7 +2,7 @@
 use Rattle.std.proofs.Common.{◌≡◌, ◌⊎◌, inl, inr, ℕ, ◌<◌, ◌≤◌, Bool, true, false, cond, ◌||◌, leb, eqb, List, [], ◌++◌, length, take, refl, ap, ◌∙◌, arith, length-append, append_assoc}
 use Rattle.std.proofs.lemmas.List.{append-nil, take-append-le}
 use Rattle.ts_spec.specs.Form.{UnitForm, Span, more, stuffing, whole, bad, IsLawful}
-use Rattle.ts_spec.specs.Reassembly.{Given, all_of, with_payload, Outcome, candidate, bad_length, no_outcome, is_complete, incomplete, outcome_by, outcome_of}
+use Rattle.ts_spec.specs.Reassembly.{Given, all_given, with_payload, Outcome, candidate, bad_length, no_outcome, is_complete, incomplete, outcome_by, outcome_of}
 use Rattle.reassembly_law.specs.UnderWay.{is_told, nothing_given}
 
 abbrev pub told_by : Span → List ℕ → Outcome
@@ -48,10 +48,10 @@ told_more form lawful x z t =
 pub told_outcome : (form : UnitForm) → IsLawful form → (bytes : List ℕ) (g : Given) → is_told (form.span bytes) (length bytes) ≡ true → outcome_of form (with_payload bytes g) ≡ told_by (form.span bytes) bytes
 told_outcome form lawful bytes g t = ap (λ (s : Span). outcome_by s (with_payload bytes g)) same ∙ by_span (form.span bytes) t
   where
-    all : all_of (with_payload bytes g) ≡ bytes ++ (g.payloads ++ g.rest)
+    all : all_given (with_payload bytes g) ≡ bytes ++ (g.payloads ++ g.rest)
     all = append_assoc bytes g.payloads g.rest
 
-    same : form.span (all_of (with_payload bytes g)) ≡ form.span bytes
+    same : form.span (all_given (with_payload bytes g)) ≡ form.span bytes
     same = ap form.span all ∙ span_more form lawful bytes (g.payloads ++ g.rest) (told_not_more (form.span bytes) (length bytes) t)
 
     by_span : (s : Span) → is_told s (length bytes) ≡ true → outcome_by s (with_payload bytes g) ≡ told_by s bytes
@@ -61,7 +61,7 @@ told_outcome form lawful bytes g t = ap (λ (s : Span). outcome_by s (with_paylo
     by_span (whole n) e =
         let le : n ≤ length bytes = true_leb n (length bytes) e in
         let front : leb n (length (bytes ++ g.payloads)) ≡ true = leb_true n (length (bytes ++ g.payloads)) (omega (arith, length-append bytes g.payloads)) in
-        ap (λ (b : Bool). cond (b || eqb n (length (all_of (with_payload bytes g)))) (candidate (take n (all_of (with_payload bytes g)))) (incomplete (with_payload bytes g))) front
+        ap (λ (b : Bool). cond (b || eqb n (length (all_given (with_payload bytes g)))) (candidate (take n (all_given (with_payload bytes g)))) (incomplete (with_payload bytes g))) front
         ∙ ap candidate (ap (take n) all ∙ take-append-le n bytes (g.payloads ++ g.rest) le)
 
 pub not_complete : (n : ℕ) (bytes : List ℕ) → length bytes < n → is_complete n (with_payload bytes nothing_given) ≡ false
@@ -86,4 +86,4 @@ untold_outcome form bytes t = ap (λ (s : Span). outcome_by s (with_payload byte
     by_span stuffing e = refl
     by_span bad e = absurd (cc)
     by_span (whole n) e =
-        ap (λ (b : Bool). cond b (candidate (take n (all_of (with_payload bytes nothing_given)))) (incomplete (with_payload bytes nothing_given))) (not_complete n bytes (false_leb n (length bytes) e))
+        ap (λ (b : Bool). cond b (candidate (take n (all_given (with_payload bytes nothing_given)))) (incomplete (with_payload bytes nothing_given))) (not_complete n bytes (false_leb n (length bytes) e))

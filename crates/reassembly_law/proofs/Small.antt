@@ -3,7 +3,7 @@ use Rattle.std.proofs.Common.{◌≡◌, ◌⊎◌, inl, inr, ℕ, zero, suc, �
 use Rattle.std.specs.Prelude.{slice_index}
 use Rattle.ts_spec.specs.Form.{more, stuffing, whole, bad, IsLawful, IsUnit}
 use Rattle.ts_spec.specs.Packet.{continues, pointer}
-use Rattle.ts_spec.specs.Packetized.{packet_at, unit_at, joined, edge, IsIn, IsStuffed, IsFirstIn, Packetizes}
+use Rattle.ts_spec.specs.Packetized.{packet_at, unit_at, joined_payloads, edge, IsIn, IsStuffed, IsFirstIn, Packetizes}
 use Rattle.reassembly_law.specs.Examples.{small_span, small_form, small_units, small_packets, small_begin, SmallStream}
 
 -- The kind of unit.
@@ -83,7 +83,7 @@ continuous zero lt = refl
 continuous (suc zero) lt = refl
 continuous (suc (suc m)) lt = absurd (omega arith)
 
-bytes_at : (n : ℕ) → n < 2 → take (length (unit_at small_units n)) (drop (small_begin n) (joined small_packets)) ≡ unit_at small_units n
+bytes_at : (n : ℕ) → n < 2 → take (length (unit_at small_units n)) (drop (small_begin n) (joined_payloads small_packets)) ≡ unit_at small_units n
 bytes_at zero lt = refl
 bytes_at (suc zero) lt = refl
 bytes_at (suc (suc n)) lt = absurd (omega arith)
@@ -104,16 +104,16 @@ edge-0 : edge small_packets 0 ≡ 0
 unfolding edge
 edge-0 = refl
 
-stuffed_first : (k : ℕ) → 4 ≤ k → k < 6 → slice_index (joined small_packets) k ≡ 0xFF
+stuffed_first : (k : ℕ) → 4 ≤ k → k < 6 → slice_index (joined_payloads small_packets) k ≡ 0xFF
 stuffed_first k from below = by_number (k - 4) (omega arith)
   where
-    by_number : (d : ℕ) → k ≡ 4 + d → slice_index (joined small_packets) k ≡ 0xFF
-    by_number zero e = ap (slice_index (joined small_packets)) e
-    by_number (suc zero) e = ap (slice_index (joined small_packets)) e
+    by_number : (d : ℕ) → k ≡ 4 + d → slice_index (joined_payloads small_packets) k ≡ 0xFF
+    by_number zero e = ap (slice_index (joined_payloads small_packets)) e
+    by_number (suc zero) e = ap (slice_index (joined_payloads small_packets)) e
     by_number (suc (suc d)) e = absurd (omega arith)
 
-stuffed_last : (k : ℕ) → 9 ≤ k → k < 10 → slice_index (joined small_packets) k ≡ 0xFF
-stuffed_last k from below = let e : k ≡ 9 = omega arith in ap (slice_index (joined small_packets)) e
+stuffed_last : (k : ℕ) → 9 ≤ k → k < 10 → slice_index (joined_payloads small_packets) k ≡ 0xFF
+stuffed_last k from below = let e : k ≡ 9 = omega arith in ap (slice_index (joined_payloads small_packets)) e
 
 next : (n : ℕ) → n < 2 → (small_begin (n + 1) ≡ small_begin n + length (unit_at small_units n)) ⊎ IsStuffed small_packets (small_begin n + length (unit_at small_units n)) (small_begin (n + 1))
 next zero lt = inr (record { last = 1; within = omega arith; ends_in = omega (arith, edge-1); before = omega arith; up_to = omega (arith, edge-2); stuffed = stuffed_first })

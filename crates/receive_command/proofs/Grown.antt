@@ -8,7 +8,7 @@ use Rattle.std.proofs.Math.Seq.{drop-append_seam}
 use Rattle.wire_spec.specs.Content.{File, ChangesFile, grown, no_file}
 use Rattle.pcap_file.specs.Capture.{capture_record}
 use Rattle.ipe_io.proofs.Told.{IsThere}
-use Rattle.receive_command.specs.Growth.{GrowEach, Grow, StayTold, EndsWith, text_in, record_at, records_at, records_and}
+use Rattle.receive_command.specs.Growth.{GrowEach, Grow, StayTold, EndsWith, text_in, record_in_file, records_at, records_and}
 
 -- one file with other bytes
 file_bytes : (f : File) (x y : List ℕ) → x ≡ y → grown f x ≡ grown f y
@@ -85,10 +85,10 @@ pub records-push : (first : ℕ) (pairs : List (ℕ × List ℕ)) (k : ℕ) (d :
     → records_at first pairs at ++ text_in first k (capture_record d) at ≡ records_at first (pairs ++ (k, d) ∷ []) at
 records-push first pairs k d at =
     ap (λ (t : List ℕ). records_at first pairs at ++ t) (sym (append-nil (text_in first k (capture_record d) at)))
-    ∙ sym (flat_map-append (record_at first at) pairs ((k, d) ∷ []))
+    ∙ sym (flat_map-append (record_in_file first at) pairs ((k, d) ∷ []))
 
 pub records-append : (first : ℕ) (ps qs : List (ℕ × List ℕ)) (at : ℕ) → records_at first ps at ++ records_at first qs at ≡ records_at first (ps ++ qs) at
-records-append first ps qs at = sym (flat_map-append (record_at first at) ps qs)
+records-append first ps qs at = sym (flat_map-append (record_in_file first at) ps qs)
 
 pub records_and-append : (first service : ℕ) (text : List ℕ) (ps qs : List (ℕ × List ℕ)) (at : ℕ)
     → records_at first ps at ++ records_and first service text qs at ≡ records_and first service text (ps ++ qs) at

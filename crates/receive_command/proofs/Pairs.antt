@@ -10,7 +10,7 @@ use Rattle.pcap_file.specs.Capture.{capture_record}
 use Rattle.reception_spec.specs.Delivered.{delivered_datagrams, delivered_pairs, pairs_of_record}
 use Rattle.reception_law.specs.Words.{datagram_of, datagrams_of}
 use Rattle.reception_law.proofs.Pairs.{pairs_more, nothing_delivered, part_is}
-use Rattle.receive_command.specs.Growth.{text_in, record_at, records_at}
+use Rattle.receive_command.specs.Growth.{text_in, record_in_file, records_at}
 
 pub pairs_none : (plan : PlanFields) → delivered_pairs plan [] ≡ []
 pairs_none plan = refl
@@ -20,7 +20,7 @@ pub pairs_next : (plan : PlanFields) (records : List Record) (r : Record)
 pairs_next plan records r = pairs_more plan records r
 
 -- one pair: its record stands in the file of its service
-one_record : (first k : ℕ) (pair : ℕ × List ℕ) → record_at first (first + k) pair ≡ flat_map capture_record (datagram_of k pair)
+one_record : (first k : ℕ) (pair : ℕ × List ℕ) → record_in_file first (first + k) pair ≡ flat_map capture_record (datagram_of k pair)
 one_record first k pair = elim (cases_eq pair.0 k) [
   | inl same ↦
       ap (λ (b : Bool). cond b (capture_record pair.1) []) (eq-eqb (first + pair.0) (first + k) (omega (arith, same)))

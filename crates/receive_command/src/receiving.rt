@@ -7,7 +7,8 @@ ghost use Rattle.plan_spec.specs.Plan.{ServiceFields};
 ghost use Rattle.plan.specs.PlanView.{plan_fields};
 ghost use Rattle.ipe_io.specs.Counts.{IsFlushed};
 ghost use Rattle.loss_report.specs.Names.{IsServiceName};
-ghost use Rattle.demux_core.specs.Receiving.{are_built, HasReceived};
+ghost use Rattle.demux_core.specs.Receiving.{HasReceived};
+ghost use Rattle.plan_spec.specs.Built.{are_received};
 ghost use Rattle.receive_command.specs.Files.{AddsHeads};
 ghost use Rattle.receive_command.specs.Reading.{most_records};
 ghost use Rattle.receive_command.specs.Ends.{EndsWhole, EndsFront, EndsAtLimit, EndsInFiles, EndsReported, EndsInReport, Reports, ReportsPart};
@@ -48,7 +49,7 @@ pub fn receive<I: Source, O: Sink, R: Rack>(
     output: &mut O,
     rack: &mut R,
 ) -> ReceiveEnd
-    requires built { are_built (plan_fields plan.now) ≡ true }
+    requires built { are_received (plan_fields plan.now) ≡ true }
     ensures done { result ≡ ReceiveEnd.Done → EndsReported (plan_fields plan.now) (I.told input.old).left (I.told input.new).left (R.told rack.old).files (R.told rack.new).files (O.told output.old).held (O.told output.new).held }
     ensures flushed { result ≡ ReceiveEnd.Done → IsFlushed (O.told output.new).held (O.told output.new).flushed }
     ensures read { result ≡ ReceiveEnd.Done → (I.told input.new).ended ≡ true }

@@ -1,7 +1,7 @@
 //! Receptions of small recordings into objects in memory: files, report, and each call that fails.
 ghost use Rattle.std.specs.Prelude.{◌≡◌, true, IfOk};
 ghost use Rattle.plan.specs.PlanView.{plan_fields};
-ghost use Rattle.demux_core.specs.Receiving.{are_built};
+ghost use Rattle.plan_spec.specs.Built.{are_received};
 
 use crate::{ReceiveEnd, UleEnd, receive, ule};
 use demux_core::can_receive;
@@ -143,7 +143,7 @@ fn recording(alloc: Global, section: &[u8; 67], tail: usize) -> Result<Vec<u8>, 
 
 /// The plan of both services.
 fn plan_of(alloc: Global) -> Result<Plan, Fail>
-    ensures { IfOk result (λ plan. are_built (plan_fields plan) ≡ true) }
+    ensures { IfOk result (λ plan. are_received (plan_fields plan) ≡ true) }
 {
     match read_plan(alloc, SETTINGS.as_bytes()) {
         Ok(plan) => {
@@ -167,7 +167,7 @@ struct Ended {
 
 /// Receives under a plan, 100 bytes a read, with room for so many bytes in each file.
 fn received(alloc: Global, plan: &Plan, bytes: &[u8], fails: [&[u32]; 3]) -> Result<Ended, Fail>
-    requires { are_built (plan_fields plan.now) ≡ true }
+    requires { are_received (plan_fields plan.now) ≡ true }
 {
     let mut input = MemSource::new(alloc, bytes, 100, fails[0])?;
     let mut output = MemSink::new(alloc, 2000, fails[1])?;

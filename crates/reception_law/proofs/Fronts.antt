@@ -28,17 +28,17 @@ pub units_on_pid : (service : ServiceFields) (pid : ℕ) (records : List Record)
 units_on_pid service pid records on = ap (λ (p : Option ℕ). units_on (form_of_kind service.kind) p records) on
 
 -- a list with others after it
-abbrev pub IsFront : {X : Type 0} → List X → List X → Type 0
-IsFront {X} front whole = (added : List X) × (whole ≡ front ++ added)
+abbrev pub IsPrefix : {X : Type 0} → List X → List X → Type 0
+IsPrefix {X} front whole = (added : List X) × (whole ≡ front ++ added)
 
-front_through : {X : Type 0} (xs ys zs : List X) → IsFront xs ys → IsFront ys zs → IsFront xs zs
+front_through : {X : Type 0} (xs ys zs : List X) → IsPrefix xs ys → IsPrefix ys zs → IsPrefix xs zs
 front_through xs ys zs one other =
     (one.0 ++ other.0, other.1 ∙ ap (λ t. t ++ other.0) one.1 ∙ append_assoc xs one.0 other.0)
 
-front_map : {X Y : Type 0} (f : X → Y) (xs ys : List X) → IsFront xs ys → IsFront (map f xs) (map f ys)
+front_map : {X Y : Type 0} (f : X → Y) (xs ys : List X) → IsPrefix xs ys → IsPrefix (map f xs) (map f ys)
 front_map f xs ys front = (map f front.0, ap (map f) front.1 ∙ map-append f xs front.0)
 
-front_flat : {X Y : Type 0} (f : X → List Y) (xs ys : List X) → IsFront xs ys → IsFront (flat_map f xs) (flat_map f ys)
+front_flat : {X Y : Type 0} (f : X → List Y) (xs ys : List X) → IsPrefix xs ys → IsPrefix (flat_map f xs) (flat_map f ys)
 front_flat f xs ys front = (flat_map f front.0, ap (flat_map f) front.1 ∙ flat_map-append f xs front.0)
 
 -- all units of a service are of a lawful kind
@@ -49,7 +49,7 @@ kind_lawful (fec pid rows parity window) = section_lawful
 kind_lawful (gse isi address) = section_lawful
 
 -- more packets, more events
-events_front : (form : UnitForm) → IsLawful form → (xs ys : List Arrival) → IsFront (events_of form xs) (events_of form (xs ++ ys))
+events_front : (form : UnitForm) → IsLawful form → (xs ys : List Arrival) → IsPrefix (events_of form xs) (events_of form (xs ++ ys))
 events_front form lawful xs [] = ([], ap (events_of form) (append-nil xs) ∙ sym (append-nil (events_of form xs)))
 events_front form lawful xs (y ∷ ys) =
     let rest = events_front form lawful (xs ++ y ∷ []) ys in
@@ -68,20 +68,20 @@ units_are form pid records =
     ∙ map-map (λ (timed : ℕ × List ℕ). timed.1) (λ (x : PlacedUnit). (x.moment, x.unit)) (accepted_units form pid records))
 
 -- more records, more units
-units_front : (form : UnitForm) → IsLawful form → (pid : Option ℕ) (records : List Record) (r : Record) → IsFront (units_on form pid records) (units_on form pid (records ++ r ∷ []))
+units_front : (form : UnitForm) → IsLawful form → (pid : Option ℕ) (records : List Record) (r : Record) → IsPrefix (units_on form pid records) (units_on form pid (records ++ r ∷ []))
 units_front form lawful None records r = ([], refl)
 units_front form lawful (Some pid) records r =
     let before : List Arrival = received_packets pid records in
     let more : List Arrival = received_after (last_bytes None before) (arrival_of pid (length records) r.moment r.bytes) in
     let events = events_front form lawful before more in
-    let all : IsFront (events_of form before) (events_of form (received_packets pid (records ++ r ∷ []))) =
+    let all : IsPrefix (events_of form before) (events_of form (received_packets pid (records ++ r ∷ []))) =
     (events.0, ap (events_of form) (one_more pid records r).received ∙ events.1) in
     let units = front_map (λ (timed : ℕ × List ℕ). timed.1) (flat_map unit_of_event (events_of form before)) (flat_map unit_of_event (events_of form (received_packets pid (records ++ r ∷ []))))
     (front_flat unit_of_event (events_of form before) (events_of form (received_packets pid (records ++ r ∷ []))) all) in
     (units.0, units_are form pid (records ++ r ∷ []) ∙ units.1 ∙ ap (λ t. t ++ units.0) (sym (units_are form pid records)))
 
 -- more records, more datagrams
-delivered_front : (service : ServiceFields) (records : List Record) (r : Record) → IsFront (delivered_datagrams service records) (delivered_datagrams service (records ++ r ∷ []))
+delivered_front : (service : ServiceFields) (records : List Record) (r : Record) → IsPrefix (delivered_datagrams service records) (delivered_datagrams service (records ++ r ∷ []))
 delivered_front service records r =
     front_flat (delivered_by_unit service) (units_of service records) (units_of service (records ++ r ∷ []))
     (units_front (form_of_kind service.kind) (kind_lawful service.kind) (pid_of service.kind) records r)

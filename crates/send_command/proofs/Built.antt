@@ -7,15 +7,15 @@ use Rattle.std.proofs.lemmas.Option.{get_or_from_slice_get, slice_get_within}
 use Rattle.plan_spec.specs.Plan.{ServiceFields}
 use Rattle.plan.specs.Parts.{kind_seen, service_seen}
 use Rattle.plan.specs.declared.service.Service.{Service}
-use Rattle.stream_law.specs.Words.{is_of_units}
+use Rattle.plan_spec.specs.Built.{is_sent}
 
 abbrev pub is_built : Service → Bool
-is_built service = is_of_units (kind_seen service.kind)
+is_built service = is_sent (kind_seen service.kind)
 
-pub kinds_built : (services : List Service) → list_all is_of_units (map (λ (s : ServiceFields). s.kind) (map service_seen services)) ≡ list_all is_built services
+pub kinds_built : (services : List Service) → list_all is_sent (map (λ (s : ServiceFields). s.kind) (map service_seen services)) ≡ list_all is_built services
 kinds_built services =
-    list_all-map is_of_units (λ (s : ServiceFields). s.kind) (map service_seen services)
-    ∙ list_all-map (λ (s : ServiceFields). is_of_units s.kind) service_seen services
+    list_all-map is_sent (λ (s : ServiceFields). s.kind) (map service_seen services)
+    ∙ list_all-map (λ (s : ServiceFields). is_sent s.kind) service_seen services
 
 pub built_next : (services : List Service) (k : ℕ) (s : Service) (b : Bool) → slice_get services k ≡ Some s → b ≡ is_built s
     → list_all is_built (drop k services) ≡ (b && list_all is_built (drop (k + 1) services))

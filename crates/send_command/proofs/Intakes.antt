@@ -6,7 +6,7 @@ use Rattle.std.proofs.lemmas.List.{map_push, length-map, length_push}
 use Rattle.pcap_file.specs.Reading.{head_fault, link_at, most_records}
 use Rattle.pcap_file.specs.Told.{Tells, place_of_fault}
 use Rattle.pcap_file.specs.Known.{ReaderState}
-use Rattle.pcap_file.specs.Reader.{HasRead, rest_of}
+use Rattle.pcap_file.specs.Reader.{HasReadRecords, rest_of}
 use Rattle.pcap_file.specs.Captured.{captured_datagram}
 use Rattle.pcap_file.specs.declared.captured.LinkType.{LinkType}
 use Rattle.pcap_file.specs.declared.faults.CaptureFault.{CaptureFault}
@@ -41,7 +41,7 @@ given_by-push front piece captured bytes link whole is =
 
 -- one record more was read and offered
 pub intake_more : (plan : PlanFields) (old new : ReaderState) (before offer : Offered) (front piece : List ℕ) (captured : List (List ℕ)) (bytes : List ℕ) (given : Option (List ℕ))
-    → IsIntake plan old before front captured → HasRead new (front ++ piece) (captured ++ bytes ∷ []) → new.is_open ≡ true
+    → IsIntake plan old before front captured → HasReadRecords new (front ++ piece) (captured ++ bytes ∷ []) → new.is_open ≡ true
     → given ≡ captured_datagram old.link bytes → ((records : Records) → IsOffered plan records before → IsOffered plan (records ++ given ∷ []) offer)
     → IsIntake plan new offer (front ++ piece) (captured ++ bytes ∷ [])
 intake_more plan old new before offer front piece captured bytes given intake read is_open is offers =
@@ -83,7 +83,7 @@ nothing_under plan offer stands = record {
 }
 
 -- the reader's first state
-pub intake_none : (plan : PlanFields) (reader : ReaderState) (offer : Offered) (head : List ℕ) → HasRead reader head [] → reader.is_open ≡ true → IsOffered plan [] offer
+pub intake_none : (plan : PlanFields) (reader : ReaderState) (offer : Offered) (head : List ℕ) → HasReadRecords reader head [] → reader.is_open ≡ true → IsOffered plan [] offer
     → IsIntake plan reader offer head []
 intake_none plan reader offer head read is_open stands = record { has_read = read; is_open = is_open; offered = stands }
 
@@ -93,7 +93,7 @@ consumed_none a b head held took none =
     subst (λ (l : List ℕ). Consumes a (rest_of l b) head) (sym none) (subst (λ (o : Option (List ℕ)). Consumes a o head) (sym (prepend_known-nil b)) took)
 
 -- what a reader stands for is not in the bytes that it holds
-pub has_read_held : (reader : ReaderState) (held front : List ℕ) (captured : List (List ℕ)) → HasRead reader front captured → HasRead (record reader { held = held }) front captured
+pub has_read_held : (reader : ReaderState) (held front : List ℕ) (captured : List (List ℕ)) → HasReadRecords reader front captured → HasReadRecords (record reader { held = held }) front captured
 has_read_held reader held front captured read = record { capture = read.capture; order = read.order; link = read.link; count = read.count; size = read.size }
 
 -- what holds of all bytes, by those that were read and the rest
@@ -148,7 +148,7 @@ gathered_none plan fault offer a stands head =
     head
 
 -- the place of a fault after the records
-pub place_behind : (reader : ReaderState) (front : List ℕ) (captured : List (List ℕ)) (place : ℕ) → HasRead reader front captured → place ≡ reader.records + 1
+pub place_behind : (reader : ReaderState) (front : List ℕ) (captured : List (List ℕ)) (place : ℕ) → HasReadRecords reader front captured → place ≡ reader.records + 1
     → place ≡ length captured + 1
 place_behind reader front captured place read e = e ∙ ap (λ n. n + 1) read.count
 

@@ -5,7 +5,7 @@ use Rattle.ipe_io.specs.Told.{InputTold}
 use Rattle.pcap_file.specs.Reading.{head_fault, record_fault}
 use Rattle.pcap_file.specs.Told.{Tells, place_of_fault}
 use Rattle.pcap_file.specs.Known.{ReaderState}
-use Rattle.pcap_file.specs.Reader.{HasRead, IsReadAhead, Leaves, ShowsNoFault, Takes, most_held, state_after, with_record}
+use Rattle.pcap_file.specs.Reader.{HasReadRecords, IsReadAhead, Leaves, ShowsNoFault, Takes, most_held, state_after, with_record}
 use Rattle.pcap_file.specs.Captured.{captured_datagram}
 use Rattle.pcap_file.specs.declared.faults.CaptureFault.{CaptureFault}
 use Rattle.pcap_file.specs.declared.faults.NextFault.{NextFault}
@@ -34,11 +34,11 @@ use Rattle.send_command.proofs.Intakes.{has_read_held, intake_more, place_behind
 
 -- one record more was read
 read_more : (old new : ReaderState) (front : List ℕ) (captured : List (List ℕ)) (lent : Bor (List ℕ)) (a b : InputTold)
-    → HasRead old front captured → new ≡ state_after old (Ok (Some lent)) new.held → (left : Leaves old (Ok (Some lent)) new.held a b)
-    → HasRead new (front ++ (left.shows.head ++ lent.now)) (captured ++ lent.now ∷ [])
+    → HasReadRecords old front captured → new ≡ state_after old (Ok (Some lent)) new.held → (left : Leaves old (Ok (Some lent)) new.held a b)
+    → HasReadRecords new (front ++ (left.shows.head ++ lent.now)) (captured ++ lent.now ∷ [])
 read_more old new front captured lent a b read state left =
     let next = left.shows in
-    subst (λ (r : ReaderState). HasRead r (front ++ (next.head ++ lent.now)) (captured ++ lent.now ∷ [])) (sym state)
+    subst (λ (r : ReaderState). HasReadRecords r (front ++ (next.head ++ lent.now)) (captured ++ lent.now ∷ [])) (sym state)
     (has_read_held (with_record old lent.now) new.held (front ++ (next.head ++ lent.now)) (captured ++ lent.now ∷ [])
     (HasRead-more old front captured next.head lent.now read next.head_size next.size next.short next.few next.small))
 
@@ -63,7 +63,7 @@ takes_in plan old new before offer front captured given lent a b intake state le
 
 -- the bytes that were read, where a record was
 pub reads_record : (old new : ReaderState) (front : List ℕ) (captured : List (List ℕ)) (lent : Bor (List ℕ)) (a b : InputTold) (r : Result Next ReadFault)
-    → HasRead old front captured → new ≡ state_after old (Ok (Some lent)) new.held → Leaves old (Ok (Some lent)) new.held a b
+    → HasReadRecords old front captured → new ≡ state_after old (Ok (Some lent)) new.held → Leaves old (Ok (Some lent)) new.held a b
     → ((bytes : List ℕ) → ShowsStop captured r bytes) → ReadsNext old.held front captured r a b
 reads_record old new front captured lent a b r read state left shows =
     let next = left.shows in
@@ -77,7 +77,7 @@ reads_record old new front captured lent a b r read state left shows =
     }
 
 -- at the end
-pub reads_end : (old : ReaderState) (held front : List ℕ) (captured : List (List ℕ)) (a b : InputTold) → HasRead old front captured → Leaves old (Ok None) held a b
+pub reads_end : (old : ReaderState) (held front : List ℕ) (captured : List (List ℕ)) (a b : InputTold) → HasReadRecords old front captured → Leaves old (Ok None) held a b
     → ReadsNext old.held front captured (Ok next.End) a b
 reads_end old held front captured a b read left = record {
   more = left.more;
@@ -87,7 +87,7 @@ reads_end old held front captured a b read left = record {
 }
 
 -- at a fault of the capture
-pub reads_fault : (old : ReaderState) (held front : List ℕ) (captured : List (List ℕ)) (fault : CaptureFault) (a b : InputTold) → HasRead old front captured
+pub reads_fault : (old : ReaderState) (held front : List ℕ) (captured : List (List ℕ)) (fault : CaptureFault) (a b : InputTold) → HasReadRecords old front captured
     → Leaves old (Err (next_fault.Capture fault)) held a b → ReadsNext old.held front captured (Ok (next.Fault fault)) a b
 reads_fault old held front captured fault a b read left = record {
   more = left.more;
@@ -97,7 +97,7 @@ reads_fault old held front captured fault a b read left = record {
 }
 
 -- at a fault of the source
-pub reads_failed : (old : ReaderState) (held front : List ℕ) (captured : List (List ℕ)) (a b : InputTold) → HasRead old front captured
+pub reads_failed : (old : ReaderState) (held front : List ℕ) (captured : List (List ℕ)) (a b : InputTold) → HasReadRecords old front captured
     → Leaves old (Err next_fault.Failed) held a b → ReadsNext old.held front captured (Err read_fault.Source) a b
 reads_failed old held front captured a b read left = record {
   more = left.more;

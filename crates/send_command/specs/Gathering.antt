@@ -5,7 +5,7 @@ use Rattle.wire_spec.specs.Causes.{Rose}
 use Rattle.ipe_io.specs.Told.{InputTold}
 use Rattle.pcap_file.specs.Told.{Tells, place_of_fault}
 use Rattle.pcap_file.specs.Known.{ReaderState}
-use Rattle.pcap_file.specs.Reader.{HasRead, IsReadAhead, ShowsNoFault, Takes, rest_of}
+use Rattle.pcap_file.specs.Reader.{HasReadRecords, IsReadAhead, ShowsNoFault, Takes, rest_of}
 use Rattle.plan_spec.specs.Plan.{PlanFields}
 use Rattle.stream_law.specs.Captures.{given_by}
 use Rattle.datagram_routing.specs.Offering.{IsOffered}
@@ -19,7 +19,7 @@ use Rattle.send_command.specs.declared.gather.ReadFault.TheVariants as read
 
 -- these bytes were read, a capture of these records, and what they give was offered
 pub record IsIntake (plan : PlanFields) (reader : ReaderState) (offer : Offered) (front : List ℕ) (captured : List (List ℕ)) : Type 0 where
-  pub has_read : HasRead reader front captured
+  pub has_read : HasReadRecords reader front captured
   pub is_open : reader.is_open ≡ true
   pub offered : IsOffered plan (given_by front captured) offer
 

@@ -3,14 +3,14 @@ ghost use Rattle.std.specs.Prelude.{◌≡◌};
 ghost use Rattle.plan_spec.specs.Plan.{kinds};
 ghost use Rattle.plan.specs.PlanView.{plan_fields};
 ghost use Rattle.plan.specs.Parts.{kind_seen};
-ghost use Rattle.stream_law.specs.Words.{is_of_units};
-ghost use Rattle.mux_core.specs.Sending.{are_built};
+ghost use Rattle.plan_spec.specs.Built.{is_sent};
+ghost use Rattle.plan_spec.specs.Built.{are_sent};
 
 use plan::{Kind, Plan};
 
 /// Answers whether all services are of kinds that are sent so far: SNDUs and datagram_sections.
 pub fn can_send(plan: &Plan) -> bool
-    ensures read { result ≡ are_built (kinds (plan_fields plan.now)) }
+    ensures read { result ≡ are_sent (plan_fields plan.now) }
 {
     for k in 0..plan.services.len() {
         if !has_units(&plan.services.at(k).kind) {
@@ -22,7 +22,7 @@ pub fn can_send(plan: &Plan) -> bool
 
 /// Whether each datagram has a unit of its own.
 fn has_units(kind: &Kind) -> bool
-    ensures read { result ≡ is_of_units (kind_seen kind.now) }
+    ensures read { result ≡ is_sent (kind_seen kind.now) }
 {
     match kind {
         Kind::Ule { .. } => true,

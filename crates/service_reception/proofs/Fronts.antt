@@ -21,7 +21,8 @@ use Rattle.reception_spec.specs.Units.{delivered_by_unit}
 use Rattle.reception_spec.specs.Numbers.{PidNumbers, pid_numbers, gaps_in, is_unit, is_bad_check, is_delimit, is_bad_length, unit_numbers, units_on, units_of}
 use Rattle.reception_spec.specs.Delivered.{delivered_datagrams, given_by_record}
 use Rattle.service_reception.specs.Taking.{delivered_of}
-use Rattle.service_reception.specs.Reception.{ReceptionState, HasReceived, added_by, is_on}
+use Rattle.service_reception.specs.Reception.{ReceptionState, HasTaken, added_by}
+use Rattle.reception_spec.specs.Packets.{is_on}
 use Rattle.service_reception.specs.Table.{TableState, HasReceivedTable, kept_of}
 use Rattle.service_reception.proofs.Records.{packet_in, received_more, none_arrived, none_received}
 use Rattle.service_reception.proofs.Counted.{delivered_of-append}
@@ -120,7 +121,7 @@ nothing_added it pid records r pid_is off =
 
 -- what was received stays
 pub received_stays : (it : ServiceFields) (pid : ℕ) (state : ReceptionState) (records : List Record) (r : Record) → pid_of it.kind ≡ Some pid → is_on pid r ≡ false
-    → HasReceived it state records → HasReceived it state (records ++ r ∷ [])
+    → HasTaken it state records → HasTaken it state (records ++ r ∷ [])
 received_stays it pid state records r pid_is off received =
     let form : UnitForm = form_of_kind it.kind in
     let same : received.pid ≡ pid = same_pid received.pid pid (pid_of it.kind) received.pid_is pid_is in

@@ -4,7 +4,7 @@ use Rattle.std.proofs.lemmas.List.{length-take-le}
 use Rattle.std.proofs.lemmas.Bool.{leb-true}
 use Rattle.ts_spec.specs.Form.{UnitForm, IsLawful, Span, more, stuffing, whole, bad}
 use Rattle.ts_spec.specs.Received.{Arrival, packet_of}
-use Rattle.ts_spec.specs.Reassembly.{Given, all_of, Outcome, candidate, bad_length, delimit, no_outcome, incomplete, is_complete, outcome_by, outcome_of, bytes_from, unit_starts}
+use Rattle.ts_spec.specs.Reassembly.{Given, all_given, Outcome, candidate, bad_length, delimit, no_outcome, incomplete, is_complete, outcome_by, outcome_of, bytes_from, unit_starts}
 use Rattle.ts_spec.specs.Events.{Event, unit_event, bad_check_event, delimit_event, event_by, event_at, misfit_events, events_of}
 use Rattle.service_reception.specs.Taking.{IsProper}
 
@@ -18,7 +18,7 @@ module _ (form : UnitForm) (lawful : IsLawful form) where
   proper_append (event ∷ first) second one two = (one.0, proper_append first second one.1 two)
 
   -- a candidate has the length that its bytes tell
-  candidate_sized : (given : Given) (span : Span) (unit : List ℕ) → form.span (all_of given) ≡ span → outcome_by span given ≡ candidate unit → form.span unit ≡ whole (length unit)
+  candidate_sized : (given : Given) (span : Span) (unit : List ℕ) → form.span (all_given given) ≡ span → outcome_by span given ≡ candidate unit → form.span unit ≡ whole (length unit)
   candidate_sized given more unit told e = absurd (not_candidate given.is_ended e)
     where
       not_candidate : (b : Bool) → cond b delimit no_outcome ≡ candidate unit → ⊥
@@ -36,19 +36,19 @@ module _ (form : UnitForm) (lawful : IsLawful form) where
       not_candidate true e = cc
       not_candidate false e = cc
 
-      within : is_complete n given ≡ true → n ≤ length (all_of given)
+      within : is_complete n given ≡ true → n ≤ length (all_given given)
       within c = first (nat_le n (length given.payloads)) refl
         where
-          first : (b : Bool) → nat_le n (length given.payloads) ≡ b → n ≤ length (all_of given)
+          first : (b : Bool) → nat_le n (length given.payloads) ≡ b → n ≤ length (all_given given)
           first true h = omega (arith, leb-true n (length given.payloads) h, length-append given.payloads given.rest)
           first false h = grind (arith, c, h)
 
-      by_test : (b : Bool) → is_complete n given ≡ b → cond b (candidate (take n (all_of given))) (incomplete given) ≡ candidate unit → form.span unit ≡ whole (length unit)
+      by_test : (b : Bool) → is_complete n given ≡ b → cond b (candidate (take n (all_given given))) (incomplete given) ≡ candidate unit → form.span unit ≡ whole (length unit)
       by_test false c e = absurd (not_candidate given.is_ended e)
       by_test true c e =
-          let unit_is : take n (all_of given) ≡ unit = cc in
-          let size : length unit ≡ n = ap length (sym unit_is) ∙ length-take-le n (all_of given) (within c) in
-          ap form.span (sym unit_is) ∙ lawful.of_unit (all_of given) n told ∙ ap whole (sym size)
+          let unit_is : take n (all_given given) ≡ unit = cc in
+          let size : length unit ≡ n = ap length (sym unit_is) ∙ length-take-le n (all_given given) (within c) in
+          ap form.span (sym unit_is) ∙ lawful.of_unit (all_given given) n told ∙ ap whole (sym size)
 
   proper_outcome : (moment : ℕ) (told : Outcome) → ((unit : List ℕ) → told ≡ candidate unit → form.span unit ≡ whole (length unit)) → AllProper (event_by form moment told)
   proper_outcome moment bad_length sized = (tt, tt)
@@ -65,7 +65,7 @@ module _ (form : UnitForm) (lawful : IsLawful form) where
   proper_starts arrival behind (start ∷ starts) =
       let given : Given = bytes_from start (packet_of arrival) behind in
       proper_append (event_at form arrival behind start) (flat_map (event_at form arrival behind) starts)
-      (proper_outcome arrival.moment (outcome_of form given) (λ unit e. candidate_sized given (form.span (all_of given)) unit refl e))
+      (proper_outcome arrival.moment (outcome_of form given) (λ unit e. candidate_sized given (form.span (all_given given)) unit refl e))
       (proper_starts arrival behind starts)
 
   proper_misfit : (b : Bool) → AllProper (cond {A = List Event} b (delimit_event ∷ []) [])

@@ -11,7 +11,8 @@ use Rattle.ts_packet.specs.declared.continuity.Link.{Link}
 use Rattle.ts_packet.specs.declared.continuity.Link.TheVariants.{Next, Repeat, Gap}
 use Rattle.ts_packet.specs.Links.{link_of}
 use Rattle.unit_stream.specs.Joining.{packets_with}
-use Rattle.service_reception.specs.Reception.{packet_record, is_on}
+use Rattle.service_reception.specs.Reception.{packet_record}
+use Rattle.reception_spec.specs.Packets.{is_on}
 
 -- the packet that the record is, as a list of at most one
 abbrev pub packet_in : ℕ → List Record → Record → List Arrival

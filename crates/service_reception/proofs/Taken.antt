@@ -18,7 +18,7 @@ use Rattle.service_reception.specs.declared.counts.Counts.{Counts}
 use Rattle.service_reception.specs.Counting.{on_pid, of_units, counted_link, units_in}
 use Rattle.service_reception.specs.Taking.{IsTaking, HasTaken, TakesAll, TakesPart, delivered_of}
 use Rattle.service_reception.specs.Telling.{Told, StopsWithin}
-use Rattle.service_reception.specs.Reception.{ReceptionState, HasReceived, packet_record, added_by}
+use Rattle.service_reception.specs.Reception.{ReceptionState, HasTaken, packet_record, added_by}
 use Rattle.service_reception.proofs.Counted.{delivered_of-append}
 use Rattle.service_reception.proofs.Few.{few_in_all}
 use Rattle.service_reception.proofs.Records.{packet_at, received_with, last_with}
@@ -40,7 +40,7 @@ pub same_pid : (p q : ℕ) (o : Option ℕ) → o ≡ Some p → o ≡ Some q �
 same_pid p q o is_p is_q = cc
 
 pub has_on : (form : UnitForm) (pid : ℕ) (it : ServiceFields) (last : Option (List ℕ)) (joiner : JoinerState) (counts : Counts) (records : List Record)
-    → form_of_kind it.kind ≡ form → pid_of it.kind ≡ Some pid → HasReceived it (state_of last joiner counts) records → HasOn form pid it last joiner counts records
+    → form_of_kind it.kind ≡ form → pid_of it.kind ≡ Some pid → HasTaken it (state_of last joiner counts) records → HasOn form pid it last joiner counts records
 has_on form pid it last joiner counts records form_is pid_is received =
     let same : received.pid ≡ pid = same_pid received.pid pid (pid_of it.kind) received.pid_is pid_is in
     record {
@@ -52,7 +52,7 @@ has_on form pid it last joiner counts records form_is pid_is received =
     }
 
 pub has_received : (form : UnitForm) (pid : ℕ) (it : ServiceFields) (last : Option (List ℕ)) (joiner : JoinerState) (counts : Counts) (records : List Record)
-    → form_of_kind it.kind ≡ form → pid_of it.kind ≡ Some pid → HasOn form pid it last joiner counts records → HasReceived it (state_of last joiner counts) records
+    → form_of_kind it.kind ≡ form → pid_of it.kind ≡ Some pid → HasOn form pid it last joiner counts records → HasTaken it (state_of last joiner counts) records
 has_received form pid it last joiner counts records form_is pid_is on = record {
   pid = pid;
   pid_is = pid_is;
@@ -94,7 +94,7 @@ added_of form pid it records r events form_is pid_is told =
 pub record_received : (form : UnitForm) (pid : ℕ) (it : ServiceFields) (records : List Record) (moment : ℕ) (bytes : List ℕ) (last now_last : Option (List ℕ)) (joiner now : JoinerState) (before after : Counts)
     → form_of_kind it.kind ≡ form → pid_of it.kind ≡ Some pid → HasOn form pid it last joiner before records → is_of pid bytes ≡ true → now_last ≡ Some bytes
     → HasTaken form it now (received_packets pid (records ++ packet_record moment bytes ∷ [])) (pid_numbers form pid (records ++ packet_record moment bytes ∷ [])) after
-    → HasReceived it (state_of now_last now after) (records ++ packet_record moment bytes ∷ [])
+    → HasTaken it (state_of now_last now after) (records ++ packet_record moment bytes ∷ [])
 record_received form pid it records moment bytes last now_last joiner now before after form_is pid_is on of_pid seen taken =
     has_received form pid it now_last now after (records ++ packet_record moment bytes ∷ []) form_is pid_is (record {
       last_is = seen ∙ last_with pid records moment bytes last on.last_is of_pid;

@@ -1,7 +1,7 @@
 -- What a reception of one service stands for.
-use Rattle.std.specs.Prelude.{◌≡◌, ℕ, ◌^◌, ◌<◌, Bool, ◌&&◌, List, [], ◌∷◌, ◌++◌, drop, length, Option, Some, None, is_some}
+use Rattle.std.specs.Prelude.{◌≡◌, ℕ, ◌^◌, ◌<◌, List, [], ◌∷◌, ◌++◌, drop, length, Option, Some, None}
 use Rattle.ts_spec.specs.Recording.{Record}
-use Rattle.ts_spec.specs.Received.{is_of, received_packets}
+use Rattle.ts_spec.specs.Received.{received_packets}
 use Rattle.reassembly_law.specs.Records.{last_bytes}
 use Rattle.plan_spec.specs.Plan.{KindFields, ServiceFields, pid_of}
 use Rattle.stream_spec.specs.Services.{form_of_kind}
@@ -18,7 +18,7 @@ pub record ReceptionState : Type 0 where
   pub of_units : UnitNumbers
 
 -- these records were received of a service
-pub record HasReceived (service : ServiceFields) (state : ReceptionState) (records : List Record) : Type 0 where
+pub record HasTaken (service : ServiceFields) (state : ReceptionState) (records : List Record) : Type 0 where
   pub pid : ℕ
   pub pid_is : pid_of service.kind ≡ Some pid
   pub last_is : state.last ≡ last_bytes None (received_packets pid records)
@@ -31,7 +31,7 @@ pub record IsReceiving (IsOfKind : KindFields → Type 0) (filter : List (List �
   pub served : IsServed IsOfKind filter service
   pub of_pid : pid_of service.kind ≡ Some pid
   pub few : length records < 2 ^ 32
-  pub received : HasReceived service state records
+  pub received : HasTaken service state records
 
 -- the record of a packet
 abbrev pub packet_record : ℕ → List ℕ → Record
@@ -40,7 +40,3 @@ packet_record moment bytes = record { moment = Some moment; bytes = bytes }
 -- the datagrams that one record more delivers
 abbrev pub added_by : ServiceFields → List Record → Record → List (List ℕ)
 added_by service records r = drop (length (delivered_datagrams service records)) (delivered_datagrams service (records ++ r ∷ []))
-
--- the record has a moment and is a packet of this PID
-abbrev pub is_on : ℕ → Record → Bool
-is_on pid r = is_some r.moment && is_of pid r.bytes

@@ -5,7 +5,8 @@ ghost use Rattle.std.specs.Prelude.{◌≡◌, ℕ, false, List, [], ◌∷◌, 
 ghost use Rattle.ts_spec.specs.Recording.{Record};
 ghost use Rattle.plan_spec.specs.Plan.{ServiceFields, pid_of};
 ghost use Rattle.reception_spec.specs.Delivered.{delivered_datagrams, given_by_record};
-ghost use Rattle.service_reception.specs.Reception.{ReceptionState, HasReceived, added_by, is_on};
+ghost use Rattle.service_reception.specs.Reception.{ReceptionState, HasTaken, added_by};
+ghost use Rattle.reception_spec.specs.Packets.{is_on};
 ghost use Rattle.service_reception.specs.Table.{TableState, HasReceivedTable};
 
 /// The datagrams that some records deliver stand before those that one record more adds, which that record gives.

@@ -42,14 +42,14 @@ impl<K: UnitReader, A: Allocator> Reception<K, A> {
     ghost use Rattle.ts_spec.specs.Recording.{Record};
     ghost use Rattle.plan_spec.specs.Plan.{ServiceFields, pid_of};
     ghost use Rattle.ts_packet.specs.Fields.{fields_in};
-    ghost use Rattle.service_reception.specs.Reception.{HasReceived, IsReceiving, packet_record, added_by};
+    ghost use Rattle.service_reception.specs.Reception.{HasTaken, IsReceiving, packet_record, added_by};
     ghost use Rattle.service_reception.specs.Counting.{on_pid, of_units};
     ghost use Rattle.service_reception.specs.Telling.{Told, StopsWithin};
 
     /// A reception of nothing, over a buffer of LONGEST bytes. It takes no memory afterwards.
     pub fn over(buffer: Vec<u8, A>) -> Reception<K, A>
         requires { vec_len buffer ≡ K.LONGEST }
-        ensures received { (it : ServiceFields) (pid : ℕ) → pid_of it.kind ≡ Some pid → HasReceived it result [] }
+        ensures received { (it : ServiceFields) (pid : ℕ) → pid_of it.kind ≡ Some pid → HasTaken it result [] }
     {
         Reception {
             continuity: Continuity::new(),

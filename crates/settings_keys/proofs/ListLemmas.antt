@@ -11,7 +11,7 @@ use Rattle.plan_spec.specs.Checks.{is_between}
 use Rattle.settings_spec.specs.Keys.{list_of, as_list, holds, is_address, items_at}
 use Rattle.settings_spec.specs.Refusal.{AreRules}
 use Rattle.settings_keys.specs.Lists.{views, texts_of, macs_of}
-use Rattle.settings_keys.specs.Reading.{all_of}
+use Rattle.settings_keys.specs.Reading.{items_where}
 
 -- items, seen as a list
 listed : (ds : List Data) → list_of (items_of ds) ≡ ds
@@ -30,14 +30,14 @@ tested test [] = refl
 tested test (v ∷ s) = rw (tested test s)
 
 pub all_there : (test : Data → Bool) (v : Vec Value Global) (d : Data) (s : List Value) (b : Bool) → Some (array_view v) ≡ as_array d
-    → s ≡ v.items → b ≡ list_all (λ x. test (view x)) s → (if b then Some (views s) else None) ≡ all_of test (as_list d)
+    → s ≡ v.items → b ≡ list_all (λ x. test (view x)) s → (if b then Some (views s) else None) ≡ items_where test (as_list d)
 all_there test v d s b is same passed = rw (as_list_of v d is, ← same, tested test s, ← passed)
 
-pub none_there : (test : Data → Bool) (d : Data) → None ≡ as_array d → None ≡ all_of test (as_list d)
+pub none_there : (test : Data → Bool) (d : Data) → None ≡ as_array d → None ≡ items_where test (as_list d)
 none_there test d is = rw (no_list_of d is)
 
 -- what the test of all says of the list
-all_some : (test : Data → Bool) (o : Option (List Data)) (items : List Data) → Some items ≡ all_of test o → (o ≡ Some items) × (holds (list_all test) o ≡ true)
+all_some : (test : Data → Bool) (o : Option (List Data)) (items : List Data) → Some items ≡ items_where test o → (o ≡ Some items) × (holds (list_all test) o ≡ true)
 all_some test None items e = absurd (let h = e in cc)
 all_some test (Some ds) items e = chosen (list_all test ds) refl e
   where
@@ -45,16 +45,16 @@ all_some test (Some ds) items e = chosen (list_all test ds) refl e
     chosen true t h = (sym h, t)
     chosen false t h = absurd (let g = h in cc)
 
-pub listed_items : (test : Data → Bool) (o : Option (List Data)) (items : List Data) → Some items ≡ all_of test o → o ≡ Some items
+pub listed_items : (test : Data → Bool) (o : Option (List Data)) (items : List Data) → Some items ≡ items_where test o → o ≡ Some items
 listed_items test o items e = (all_some test o items e).0
 
-pub listed_type : (test : Data → Bool) (o : Option (List Data)) (items : List Data) → Some items ≡ all_of test o → holds (list_all test) o ≡ true
+pub listed_type : (test : Data → Bool) (o : Option (List Data)) (items : List Data) → Some items ≡ items_where test o → holds (list_all test) o ≡ true
 listed_type test o items e = (all_some test o items e).1
 
-pub listed_all : (test : Data → Bool) (o : Option (List Data)) (items : List Data) → Some items ≡ all_of test o → list_all test items ≡ true
+pub listed_all : (test : Data → Bool) (o : Option (List Data)) (items : List Data) → Some items ≡ items_where test o → list_all test items ≡ true
 listed_all test o items e = rw (all_some test o items e).0 at (all_some test o items e).1
 
-pub unlisted_type : (test : Data → Bool) (o : Option (List Data)) → None ≡ all_of test o → holds (list_all test) o ≡ false
+pub unlisted_type : (test : Data → Bool) (o : Option (List Data)) → None ≡ items_where test o → holds (list_all test) o ≡ false
 unlisted_type test None e = refl
 unlisted_type test (Some ds) e = chosen (list_all test ds) refl e
   where

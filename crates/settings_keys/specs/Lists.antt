@@ -5,7 +5,7 @@ use Rattle.toml.specs.Data.{Data, Members, as_str, as_table}
 use Rattle.toml.specs.View.{view}
 use Rattle.toml.specs.declared.value.Value.{Value}
 use Rattle.settings_spec.specs.Keys.{as_list, is_text}
-use Rattle.settings_keys.specs.Reading.{all_of}
+use Rattle.settings_keys.specs.Reading.{items_where}
 use Rattle.addr_rules.specs.Texts.{mac_of_text}
 
 -- the data of values
@@ -23,7 +23,7 @@ macs_of items = filter_map mac_of_text (texts_of items)
 pub record IsTextList (there : Option Data) (items : List Data) : Type 0 where
   pub value : Data
   pub is : Some value ≡ there
-  pub list : Some items ≡ all_of is_text (as_list value)
+  pub list : Some items ≡ items_where is_text (as_list value)
 
 -- the tables among items
 abbrev pub tables_of : List Data → List Members

@@ -34,9 +34,9 @@ within test None = None
 within test (Some n) = if test n then Some n else None
 
 -- the items, where each passes the test
-abbrev pub all_of : (Data → Bool) → Option (List Data) → Option (List Data)
-all_of test None = None
-all_of test (Some items) = if list_all test items then Some items else None
+abbrev pub items_where : (Data → Bool) → Option (List Data) → Option (List Data)
+items_where test None = None
+items_where test (Some items) = if list_all test items then Some items else None
 
 -- nothing is said of a value
 abbrev pub Always : {T : Type 0} → T → Type 0

@@ -10,7 +10,7 @@ ghost use Rattle.settings_spec.specs.Refusal.{AreRules};
 ghost use Rattle.settings_spec.specs.Settings.{filter_key};
 ghost use Rattle.settings_keys.specs.Keys.{fault_seen};
 ghost use Rattle.settings_keys.specs.Lists.{views, texts_of, macs_of, IsTextList};
-ghost use Rattle.settings_keys.specs.Reading.{Reads, rule_for, all_of};
+ghost use Rattle.settings_keys.specs.Reading.{Reads, rule_for, items_where};
 
 use crate::fault::PlanFault;
 use crate::key::Key;
@@ -42,7 +42,7 @@ fn is_count(n: usize, most: usize) -> bool
 
 /// The items of a list of texts.
 fn text_list(value: &Value) -> Option<&[Value]>
-    ensures read { option_map (λ v. views v.now) result ≡ all_of is_text (as_list (view value.now)) }
+    ensures read { option_map (λ v. views v.now) result ≡ items_where is_text (as_list (view value.now)) }
 {
     let items = match value.as_array() {
         Some(items) => items.as_slice(),
@@ -53,7 +53,7 @@ fn text_list(value: &Value) -> Option<&[Value]>
 
 /// The items of a list of tables.
 fn table_list(value: &Value) -> Option<&[Value]>
-    ensures read { option_map (λ v. views v.now) result ≡ all_of is_table (as_list (view value.now)) }
+    ensures read { option_map (λ v. views v.now) result ≡ items_where is_table (as_list (view value.now)) }
 {
     let items = match value.as_array() {
         Some(items) => items.as_slice(),

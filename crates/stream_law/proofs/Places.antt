@@ -5,37 +5,37 @@ use Rattle.std.proofs.lemmas.List.{length-append, take-append-drop, take-append-
 use Rattle.std.proofs.Math.Seq.{take-append-add}
 use Rattle.std.proofs.lemmas.Grind.{flat_map-append}
 use Rattle.ts_spec.specs.Packet.{PacketFields, unit_bytes}
-use Rattle.ts_spec.specs.Packetized.{no_packet, packet_at, joined, edge, IsIn, IsStuffed}
+use Rattle.ts_spec.specs.Packetized.{no_packet, packet_at, joined_payloads, edge, IsIn, IsStuffed}
 
 module _ (ps qs : List PacketFields) where
   abbrev pub both : List PacketFields
   both = ps ++ qs
 
   abbrev pub size : ℕ
-  size = length (joined ps)
+  size = length (joined_payloads ps)
 
   abbrev pub count : ℕ
   count = length ps
 
-  pub joined_both : joined both ≡ joined ps ++ joined qs
+  pub joined_both : joined_payloads both ≡ joined_payloads ps ++ joined_payloads qs
   joined_both = flat_map-append unit_bytes ps qs
 
   pub edge_low : (m : ℕ) → m ≤ count → edge both m ≡ edge ps m
   unfolding edge
-  edge_low m le = ap (λ (t : List PacketFields). length (joined t)) (take-append-le m ps qs le)
+  edge_low m le = ap (λ (t : List PacketFields). length (joined_payloads t)) (take-append-le m ps qs le)
 
   pub edge_most : (m : ℕ) → edge ps m ≤ size
   unfolding edge
   edge_most m =
-      let parts : size ≡ length (joined (take m ps)) + length (joined (drop m ps))
-      = ap (λ (t : List PacketFields). length (joined t)) (sym (take-append-drop m ps))
-      ∙ ap length (flat_map-append unit_bytes (take m ps) (drop m ps)) ∙ length-append (joined (take m ps)) (joined (drop m ps)) in
+      let parts : size ≡ length (joined_payloads (take m ps)) + length (joined_payloads (drop m ps))
+      = ap (λ (t : List PacketFields). length (joined_payloads t)) (sym (take-append-drop m ps))
+      ∙ ap length (flat_map-append unit_bytes (take m ps) (drop m ps)) ∙ length-append (joined_payloads (take m ps)) (joined_payloads (drop m ps)) in
       omega (arith, parts)
 
   pub edge_high : (i : ℕ) → edge both (count + i) ≡ size + edge qs i
   unfolding edge
   edge_high i =
-      ap (λ (t : List PacketFields). length (joined t)) (take-append-add ps qs i) ∙ ap length (flat_map-append unit_bytes ps (take i qs)) ∙ length-append (joined ps) (joined (take i qs))
+      ap (λ (t : List PacketFields). length (joined_payloads t)) (take-append-add ps qs i) ∙ ap length (flat_map-append unit_bytes ps (take i qs)) ∙ length-append (joined_payloads ps) (joined_payloads (take i qs))
 
   pub edge_high_next : (i : ℕ) → edge both (count + i + 1) ≡ size + edge qs (i + 1)
   edge_high_next i = let next : count + i + 1 ≡ count + (i + 1) = omega arith in ap (edge both) next ∙ edge_high (i + 1)
@@ -94,7 +94,7 @@ module _ (ps qs : List PacketFields) where
     up_to = it.up_to ∙ sym (edge_low (it.last + 1) (omega (arith, it.within)));
     stuffed = λ k from below.
         ap (λ (t : List ℕ). slice_index t k) joined_both
-        ∙ get_or_append_left (joined ps) (joined qs) 0 k (omega (arith, below, it.up_to, edge_most (it.last + 1)))
+        ∙ get_or_append_left (joined_payloads ps) (joined_payloads qs) 0 k (omega (arith, below, it.up_to, edge_most (it.last + 1)))
         ∙ it.stuffed k from below;
   }
 
@@ -108,5 +108,5 @@ module _ (ps qs : List PacketFields) where
     stuffed = λ k from below. at_place k (k - size) (omega (arith, from)) (it.stuffed (k - size) (omega (arith, from)) (omega (arith, below, from)));
   }
     where
-      at_place : (k i : ℕ) → k ≡ size + i → slice_index (joined qs) i ≡ 0xFF → slice_index (joined both) k ≡ 0xFF
-      at_place k i e is = ap₂ (λ (t : List ℕ) (n : ℕ). slice_index t n) joined_both e ∙ get_or-append-add (joined ps) (joined qs) i 0 ∙ is
+      at_place : (k i : ℕ) → k ≡ size + i → slice_index (joined_payloads qs) i ≡ 0xFF → slice_index (joined_payloads both) k ≡ 0xFF
+      at_place k i e is = ap₂ (λ (t : List ℕ) (n : ℕ). slice_index t n) joined_both e ∙ get_or-append-add (joined_payloads ps) (joined_payloads qs) i 0 ∙ is

@@ -6,7 +6,7 @@ use Rattle.std.proofs.Math.Seq.{drop-append-add}
 use Rattle.unit_stream.proofs.Numbers.{ltb_true, ltb_false}
 use Rattle.ts_spec.specs.Form.{UnitForm, IsLawful, IsUnit}
 use Rattle.ts_spec.specs.Packet.{PacketFields, continues, pointer}
-use Rattle.ts_spec.specs.Packetized.{packet_at, unit_at, joined, edge, IsIn, IsStuffed, IsFirstIn, Packetizes}
+use Rattle.ts_spec.specs.Packetized.{packet_at, unit_at, joined_payloads, edge, IsIn, IsStuffed, IsFirstIn, Packetizes}
 use Rattle.stream_law.proofs.Places.{size, joined_both, edge_low, edge_high, edge_high_next, length-both, packet_low, packet_high, in_both, in_first, behind_in, in_behind, not_behind, not_first, stuffed_low, stuffed_high}
 
 module _ (form : UnitForm) (lawful : IsLawful form) (us vs : List (List ℕ)) (ps qs : List PacketFields) (b c : ℕ → ℕ) (first : Packetizes form us ps b) (second : Packetizes form vs qs c)
@@ -45,8 +45,8 @@ module _ (form : UnitForm) (lawful : IsLawful form) (us vs : List (List ℕ)) (p
   unit_within : (n : ℕ) → n < known → b n + length (unit_at us n) ≤ size ps qs
   unit_within n less =
       let some : 1 ≤ length (unit_at us n) = omega (arith, lawful.start_least, lawful.whole_least (unit_at us n) (length (unit_at us n)) (first.each n less).size) in
-      let taken : length (take (length (unit_at us n)) (drop (b n) (joined ps))) ≡ length (unit_at us n) = ap length (first.bytes n less) in
-      omega (arith, some, taken, length-take (length (unit_at us n)) (drop (b n) (joined ps)), length-drop (b n) (joined ps))
+      let taken : length (take (length (unit_at us n)) (drop (b n) (joined_payloads ps))) ≡ length (unit_at us n) = ap length (first.bytes n less) in
+      omega (arith, some, taken, length-take (length (unit_at us n)) (drop (b n) (joined_payloads ps)), length-drop (b n) (joined_payloads ps))
 
   begin_within : (n : ℕ) → n < known → b n < size ps qs
   begin_within n less =
@@ -78,20 +78,20 @@ module _ (form : UnitForm) (lawful : IsLawful form) (us vs : List (List ℕ)) (p
           ap₂ continues (ap (packet_at (ps ++ qs)) here ∙ packet_high ps qs (m - length ps)) (ap (packet_at (ps ++ qs)) next ∙ packet_high ps qs (m - length ps + 1))
           ∙ second.continuous (m - length ps) (omega (arith, less, length-both ps qs, behind))
 
-  bytes : (n : ℕ) → n < length (us ++ vs) → take (length (unit_at (us ++ vs) n)) (drop (begin n) (joined (ps ++ qs))) ≡ unit_at (us ++ vs) n
+  bytes : (n : ℕ) → n < length (us ++ vs) → take (length (unit_at (us ++ vs) n)) (drop (begin n) (joined_payloads (ps ++ qs))) ≡ unit_at (us ++ vs) n
   bytes n less = by_place (cases_lt n known)
     where
-      by_place : (n < known) ⊎ (known ≤ n) → take (length (unit_at (us ++ vs) n)) (drop (begin n) (joined (ps ++ qs))) ≡ unit_at (us ++ vs) n
+      by_place : (n < known) ⊎ (known ≤ n) → take (length (unit_at (us ++ vs) n)) (drop (begin n) (joined_payloads (ps ++ qs))) ≡ unit_at (us ++ vs) n
       by_place (inl low) =
-          ap₂ (λ (u : List ℕ) (at : ℕ). take (length u) (drop at (joined (ps ++ qs)))) (unit_low n low) (begin_low n low)
+          ap₂ (λ (u : List ℕ) (at : ℕ). take (length u) (drop at (joined_payloads (ps ++ qs)))) (unit_low n low) (begin_low n low)
           ∙ ap (λ (t : List ℕ). take (length (unit_at us n)) (drop (b n) t)) (joined_both ps qs)
-          ∙ ap (take (length (unit_at us n))) (drop-append-le (b n) (joined ps) (joined qs) (omega (arith, begin_within n low)))
-          ∙ take-append-le (length (unit_at us n)) (drop (b n) (joined ps)) (joined qs) (omega (arith, unit_within n low, length-drop (b n) (joined ps)))
+          ∙ ap (take (length (unit_at us n))) (drop-append-le (b n) (joined_payloads ps) (joined_payloads qs) (omega (arith, begin_within n low)))
+          ∙ take-append-le (length (unit_at us n)) (drop (b n) (joined_payloads ps)) (joined_payloads qs) (omega (arith, unit_within n low, length-drop (b n) (joined_payloads ps)))
           ∙ first.bytes n low ∙ sym (unit_low n low)
       by_place (inr high) =
-          ap₂ (λ (u : List ℕ) (at : ℕ). take (length u) (drop at (joined (ps ++ qs)))) (unit_high n (n - known) (omega (arith, high))) (begin_high n (n - known) (omega (arith, high)))
+          ap₂ (λ (u : List ℕ) (at : ℕ). take (length u) (drop at (joined_payloads (ps ++ qs)))) (unit_high n (n - known) (omega (arith, high))) (begin_high n (n - known) (omega (arith, high)))
           ∙ ap (λ (t : List ℕ). take (length (unit_at vs (n - known))) (drop (size ps qs + c (n - known)) t)) (joined_both ps qs)
-          ∙ ap (take (length (unit_at vs (n - known)))) (drop-append-add (joined ps) (joined qs) (c (n - known)))
+          ∙ ap (take (length (unit_at vs (n - known)))) (drop-append-add (joined_payloads ps) (joined_payloads qs) (c (n - known)))
           ∙ second.bytes (n - known) (omega (arith, less, high, length-units)) ∙ sym (unit_high n (n - known) (omega (arith, high)))
 
   next : (n : ℕ) → n < length (us ++ vs)
@@ -127,10 +127,10 @@ module _ (form : UnitForm) (lawful : IsLawful form) (us vs : List (List ℕ)) (p
           (begin_high (n + 1) (n - known + 1) (omega (arith, high))) (begin_high n (n - known) (omega (arith, high))) (unit_high n (n - known) (omega (arith, high)))
           (high_follows (c (n - known)) (length (unit_at vs (n - known))) (c (n - known + 1)) (second.next (n - known) (omega (arith, less, high, length-units))))
 
-  to_end : begin (length (us ++ vs)) ≡ length (joined (ps ++ qs))
+  to_end : begin (length (us ++ vs)) ≡ length (joined_payloads (ps ++ qs))
   to_end =
       begin_high (length (us ++ vs)) (length vs) length-units
-      ∙ omega (arith, second.to_end, ap length (joined_both ps qs), length-append (joined ps) (joined qs))
+      ∙ omega (arith, second.to_end, ap length (joined_both ps qs), length-append (joined_payloads ps) (joined_payloads qs))
 
   -- each place of a unit, by which of the two it belongs to
   starts : (m n : ℕ) → n < length (us ++ vs) → IsIn (ps ++ qs) m (begin n) → (packet_at (ps ++ qs) m).starts ≡ true

@@ -22,7 +22,8 @@ use Rattle.stream_spec.specs.Stream.{packets_from}
 use Rattle.stream_spec.specs.Services.{carried_by_section, carried_by_unit, form_of_kind, CarriesOn}
 use Rattle.plan_spec.specs.Offered.{datagrams as datagrams_of, service_of_datagram, is_offered_to, offered}
 use Rattle.stream_spec.specs.Services.{kind_at}
-use Rattle.stream_law.specs.Words.{IsMac, IsByteDatagram, is_of_units}
+use Rattle.stream_law.specs.Words.{IsMac, IsByteDatagram}
+use Rattle.plan_spec.specs.Built.{is_sent}
 use Rattle.stream_law.proofs.Datagrams.{type_below, chain_gives, mac_for_is}
 
 -- a datagram that a service of this kind takes
@@ -117,7 +118,7 @@ module _ (packetizes : (form : UnitForm) (packing : Bool) (pid counter : ℕ) (u
         carried = are_carried kind unit carries datagrams taken;
       }
 
-  pub carries_on : (kind : KindFields) (pid : ℕ) (sent : List Record) (datagrams : List (List ℕ)) → is_of_units kind ≡ true → AreTaken kind datagrams
+  pub carries_on : (kind : KindFields) (pid : ℕ) (sent : List Record) (datagrams : List (List ℕ)) → is_sent kind ≡ true → AreTaken kind datagrams
       → packets_sent pid sent ≡ packets_of_kind kind unicast datagrams → CarriesOn kind pid sent datagrams
   carries_on (ule own address packing) pid sent datagrams built taken sent_are =
       carries_units (ule own address packing) pid 0 packing (sndu_of address unicast) sent datagrams sndu_lawful

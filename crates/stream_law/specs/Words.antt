@@ -26,13 +26,6 @@ HasMoment m2ts rate s = Unit {0}
 
 -- What the law that datagrams are carried says of its premises.
 
--- the datagrams of the service are carried in units of their own: SNDUs or datagram_sections
-abbrev pub is_of_units : KindFields → Bool
-is_of_units (ule pid address packing) = true
-is_of_units (mpe pid) = true
-is_of_units (fec pid rows parity window) = false
-is_of_units (gse isi address) = false
-
 -- an address of six bytes
 pub record IsMac (mac : List ℕ) : Type 0 where
   pub size : length mac ≡ 6

@@ -10,7 +10,8 @@ ghost use Rattle.plan_spec.specs.Valid.{is_plan};
 ghost use Rattle.plan_spec.specs.Offered.{datagrams as datagrams_of, offered};
 ghost use Rattle.stream_spec.specs.Stream.{IsStream};
 ghost use Rattle.stream_spec.specs.Services.{Carries};
-ghost use Rattle.stream_law.specs.Words.{is_of_units, IsOfBytes, IsByteDatagram, IsWithinLimits};
+ghost use Rattle.stream_law.specs.Words.{IsOfBytes, IsByteDatagram, IsWithinLimits};
+ghost use Rattle.plan_spec.specs.Built.{is_sent};
 ghost use Rattle.stream_law.specs.Captures.{given_by};
 
 use crate::carried::a_stream_carries_what_was_offered;
@@ -29,7 +30,7 @@ pub fn a_capture_gives_datagrams()
 /// For all settings that are accepted, of services of SNDUs and datagram_sections, and all captures:
 /// the stream carries of each service what was offered to it.
 pub fn a_capture_is_carried()
-    ensures carries { (plan : PlanFields) → is_plan plan ≡ true → IsOfBytes plan → list_all is_of_units (kinds plan) ≡ true
+    ensures carries { (plan : PlanFields) → is_plan plan ≡ true → IsOfBytes plan → list_all is_sent (kinds plan) ≡ true
         → (capture : List ℕ) (told : List (List ℕ)) (fault : Option CaptureFault) → AreBytes capture → Tells capture told fault
         → (records : List (List ℕ)) → IsStream plan (offered plan (given_by capture told)) records
         → Carries plan (records_of plan.recording records) (offered plan (given_by capture told)) }

@@ -7,7 +7,8 @@ ghost use Rattle.plan_spec.specs.Valid.{is_plan};
 ghost use Rattle.plan_spec.specs.Offered.{datagrams as datagrams_of, offered};
 ghost use Rattle.stream_spec.specs.Stream.{IsStream};
 ghost use Rattle.stream_spec.specs.Services.{Carries};
-ghost use Rattle.stream_law.specs.Words.{is_of_units, IsOfBytes, IsByteDatagram, IsWithinLimits};
+ghost use Rattle.stream_law.specs.Words.{IsOfBytes, IsByteDatagram, IsWithinLimits};
+ghost use Rattle.plan_spec.specs.Built.{is_sent};
 
 use crate::stream::{records_have_moments, the_packets_of_a_service_are_on_its_pid};
 use mpe_section::{a_written_datagram_section_reads_back, an_address_or_parameters_can_be_written};
@@ -19,7 +20,7 @@ use unit_stream::packetized_units_are_carried;
 ///
 /// For all settings that are accepted, all that a capture can give, and each form of recording.
 pub fn a_stream_carries_what_was_offered()
-    ensures carries { (plan : PlanFields) → is_plan plan ≡ true → IsOfBytes plan → list_all is_of_units (kinds plan) ≡ true
+    ensures carries { (plan : PlanFields) → is_plan plan ≡ true → IsOfBytes plan → list_all is_sent (kinds plan) ≡ true
         → (gives : List (Option (List ℕ))) → All IsByteDatagram (datagrams_of gives) → IsWithinLimits (datagrams_of gives)
         → (records : List (List ℕ)) → IsStream plan (offered plan gives) records
         → Carries plan (records_of plan.recording records) (offered plan gives) }

@@ -27,6 +27,13 @@ sndu_of address unicast datagram = sndu_bytes (if address then Some (mac_for uni
 abbrev pub section_of : List ℕ → List ℕ → List ℕ
 section_of unicast datagram = mpe_bytes (mpe_to_write (mac_for unicast datagram) None datagram)
 
+-- the unit that a datagram is sent in, where the service's own receivers have this address; the other kinds have none so far
+abbrev pub unit_of : KindFields → List ℕ → List ℕ → List ℕ
+unit_of (ule pid address packing) unicast datagram = sndu_of address unicast datagram
+unit_of (mpe pid) unicast datagram = section_of unicast datagram
+unit_of (fec pid rows parity window) unicast datagram = []
+unit_of (gse isi address) unicast datagram = []
+
 -- the packets of a service's datagrams, with counters from 0
 abbrev pub packets_of_kind : KindFields → List ℕ → List (List ℕ) → List PacketFields
 packets_of_kind (ule pid address packing) unicast datagrams = packetized sndu_form packing pid 0 (map (sndu_of address unicast) datagrams)

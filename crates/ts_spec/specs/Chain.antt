@@ -46,7 +46,7 @@ pub data ChainEnd : Type 0 where
   cut : ChainEnd
 
 -- optional headers, and then the Type of one that the bytes do not hold
-pub record IsCut (first_type : ℕ) (bytes : List ℕ) : Type 0 where
+pub record IsCutChain (first_type : ℕ) (bytes : List ℕ) : Type 0 where
   pub last_type : ℕ
   pub behind : List ℕ
   pub leads : Leads first_type bytes last_type behind
@@ -56,7 +56,7 @@ pub record IsCut (first_type : ℕ) (bytes : List ℕ) : Type 0 where
 -- this is the end of the chain
 abbrev pub IsEnd : ℕ → List ℕ → ChainEnd → Type 0
 IsEnd first_type bytes (ended last_type behind) = Leads first_type bytes last_type behind × (is_optional last_type ≡ false)
-IsEnd first_type bytes cut = IsCut first_type bytes
+IsEnd first_type bytes cut = IsCutChain first_type bytes
 
 -- the end as a function: from within an optional header with so many words of 16 bits before the next Type
 abbrev pub end_behind : ℕ → List ℕ → ChainEnd

@@ -13,12 +13,12 @@ abbrev pub unit_at : List (List ℕ) → ℕ → List ℕ
 unit_at units n = slice_index_or units n []
 
 -- the payloads without pointers, one after another
-abbrev pub joined : List PacketFields → List ℕ
-joined packets = flat_map unit_bytes packets
+abbrev pub joined_payloads : List PacketFields → List ℕ
+joined_payloads packets = flat_map unit_bytes packets
 
--- where the bytes of packet m begin among the joined ones
+-- where the bytes of packet m begin among the joined_payloads ones
 unfoldable pub edge : List PacketFields → ℕ → ℕ
-edge packets m = length (joined (take m packets))
+edge packets m = length (joined_payloads (take m packets))
 
 -- the place lies in packet m
 pub record IsIn (packets : List PacketFields) (m place : ℕ) : Type 0 where
@@ -33,7 +33,7 @@ pub record IsStuffed (packets : List PacketFields) (end next : ℕ) : Type 0 whe
   pub ends_in : edge packets last < end
   pub before : end ≤ next
   pub up_to : next ≡ edge packets (last + 1)
-  pub stuffed : (k : ℕ) → end ≤ k → k < next → slice_index (joined packets) k ≡ 0xFF
+  pub stuffed : (k : ℕ) → end ≤ k → k < next → slice_index (joined_payloads packets) k ≡ 0xFF
 
 -- unit n is the first that starts in packet m
 pub record IsFirstIn (units : List (List ℕ)) (packets : List PacketFields) (begin : ℕ → ℕ) (m n : ℕ) : Type 0 where
@@ -41,15 +41,15 @@ pub record IsFirstIn (units : List (List ℕ)) (packets : List PacketFields) (be
   pub starts : IsIn packets m (begin n)
   pub first : (k : ℕ) → k < length units → IsIn packets m (begin k) → begin n ≤ begin k
 
--- the packets carry the units in order; begin n is the place of unit n among the joined payloads
+-- the packets carry the units in order; begin n is the place of unit n among the joined_payloads payloads
 pub record Packetizes (form : UnitForm) (units : List (List ℕ)) (packets : List PacketFields) (begin : ℕ → ℕ) : Type 0 where
   pub each : (n : ℕ) → n < length units → IsUnit form (unit_at units n)
   pub continuous : (m : ℕ) → m + 1 < length packets → continues (packet_at packets m) (packet_at packets (m + 1)) ≡ true
-  -- the joined payloads are the units in order, with stuffing after a unit up to the end of its packet
+  -- the joined_payloads payloads are the units in order, with stuffing after a unit up to the end of its packet
   pub from_zero : begin 0 ≡ 0
-  pub bytes : (n : ℕ) → n < length units → take (length (unit_at units n)) (drop (begin n) (joined packets)) ≡ unit_at units n
+  pub bytes : (n : ℕ) → n < length units → take (length (unit_at units n)) (drop (begin n) (joined_payloads packets)) ≡ unit_at units n
   pub next : (n : ℕ) → n < length units → (begin (n + 1) ≡ begin n + length (unit_at units n)) ⊎ IsStuffed packets (begin n + length (unit_at units n)) (begin (n + 1))
-  pub to_end : begin (length units) ≡ length (joined packets)
+  pub to_end : begin (length units) ≡ length (joined_payloads packets)
   -- the start indicator is set exactly where a unit starts; the pointer is the number of bytes before the first start
   pub starts : (m n : ℕ) → n < length units → IsIn packets m (begin n) → (packet_at packets m).starts ≡ true
   pub pointed : (m : ℕ) → m < length packets → (packet_at packets m).starts ≡ true

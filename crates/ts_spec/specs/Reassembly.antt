@@ -37,8 +37,8 @@ pub record Given : Type 0 where
   pub rest : List ℕ
   pub is_ended : Bool
 
-abbrev pub all_of : Given → List ℕ
-all_of given = given.payloads ++ given.rest
+abbrev pub all_given : Given → List ℕ
+all_given given = given.payloads ++ given.rest
 
 -- one payload more in front
 abbrev pub with_payload : List ℕ → Given → Given
@@ -81,17 +81,17 @@ incomplete given = if given.is_ended then delimit else no_outcome
 
 -- a unit of n bytes came; where it reaches into the pointer's bytes it must end with them
 abbrev pub is_complete : ℕ → Given → Bool
-is_complete n given = nat_le n (length given.payloads) || (n == length (all_of given))
+is_complete n given = nat_le n (length given.payloads) || (n == length (all_given given))
 
 abbrev pub outcome_by : Span → Given → Outcome
 outcome_by bad given = bad_length
-outcome_by (whole n) given = if is_complete n given then candidate (take n (all_of given)) else incomplete given
+outcome_by (whole n) given = if is_complete n given then candidate (take n (all_given given)) else incomplete given
 outcome_by more given = incomplete given
 outcome_by stuffing given = incomplete given
 
 -- the one outcome of a start
 abbrev pub outcome_of : UnitForm → Given → Outcome
-outcome_of form given = outcome_by (form.span (all_of given)) given
+outcome_of form given = outcome_by (form.span (all_given given)) given
 
 -- Accepted units.
 

@@ -3,7 +3,7 @@ use Rattle.std.proofs.Common.{◌≡◌, ◌⊎◌, inl, inr, ℕ, ◌+◌, ◌<
 use Rattle.std.proofs.lemmas.List.{append-nil, take-append-le, take-append-drop, take_all, length-take}
 use Rattle.ts_spec.specs.Form.{UnitForm, Span, more, stuffing, whole, bad, IsLawful}
 use Rattle.ts_spec.specs.Packet.{PacketFields, pointer_fits}
-use Rattle.ts_spec.specs.Reassembly.{Given, all_of, with_payload, ended_by, Outcome, candidate, bad_length, delimit, is_complete, incomplete, outcome_by, outcome_of}
+use Rattle.ts_spec.specs.Reassembly.{Given, all_given, with_payload, ended_by, Outcome, candidate, bad_length, delimit, is_complete, incomplete, outcome_by, outcome_of}
 use Rattle.ts_spec.specs.Events.{Event, event_by}
 use Rattle.reassembly_law.specs.UnderWay.{Open, is_told, nothing_given, given_next, IsUnderWay}
 use Rattle.reassembly_law.proofs.Outcomes.{leb_true, true_leb, false_leb}
@@ -55,7 +55,7 @@ module _ (form : UnitForm) (lawful : IsLawful form) where
       → outcome_of form (closed bytes rest) ≡ candidate (bytes ++ rest)
   closed_whole bytes rest n good told same =
       closed_outcome bytes rest (whole n) told
-      ∙ ap (λ (b : Bool). cond b (candidate (take n (all_of (closed bytes rest)))) (incomplete (closed bytes rest)))
+      ∙ ap (λ (b : Bool). cond b (candidate (take n (all_given (closed bytes rest)))) (incomplete (closed bytes rest)))
       (complete_is bytes rest n true good told (eqb_true n (length (bytes ++ rest)) same))
       ∙ ap (λ (t : List ℕ). candidate (take n (t ++ rest))) (append-nil bytes)
       ∙ ap candidate (take_all n (bytes ++ rest) (omega arith))
@@ -64,7 +64,7 @@ module _ (form : UnitForm) (lawful : IsLawful form) where
       → outcome_of form (closed bytes rest) ≡ delimit
   closed_other bytes rest n good told apart =
       closed_outcome bytes rest (whole n) told
-      ∙ ap (λ (b : Bool). cond b (candidate (take n (all_of (closed bytes rest)))) (incomplete (closed bytes rest)))
+      ∙ ap (λ (b : Bool). cond b (candidate (take n (all_given (closed bytes rest)))) (incomplete (closed bytes rest)))
       (complete_is bytes rest n false good told (eqb_false n (length (bytes ++ rest)) apart))
 
   -- by what the buffer holds

@@ -1,9 +1,9 @@
--- Places among the joined payloads, with one packet more in front.
+-- Places among the joined_payloads payloads, with one packet more in front.
 use Rattle.std.proofs.Common.{◌≡◌, ◌⊎◌, inl, inr, ℕ, zero, suc, ◌+◌, ◌-◌, ◌<◌, ◌≤◌, List, ◌∷◌, ◌++◌, length, take, drop, get_or, replicate, refl, ap, sym, ◌∙◌, arith, length-append}
 use Rattle.std.proofs.lemmas.List.{drop_at, drop-drop, get_or-append-add, get_or_append_left, get_or-replicate}
 use Rattle.std.proofs.lemmas.List.{length-replicate}
 use Rattle.ts_spec.specs.Packet.{PacketFields, unit_bytes}
-use Rattle.ts_spec.specs.Packetized.{joined, edge, IsIn, IsStuffed}
+use Rattle.ts_spec.specs.Packetized.{joined_payloads, edge, IsIn, IsStuffed}
 
 pub edge-zero : (packets : List PacketFields) → edge packets 0 ≡ 0
 unfolding edge
@@ -16,7 +16,7 @@ Follows packets end next = (next ≡ end) ⊎ IsStuffed packets end next
 module _ (p : PacketFields) (packets : List PacketFields) where
   pub edge-suc : (m : ℕ) → edge (p ∷ packets) (suc m) ≡ length (unit_bytes p) + edge packets m
   unfolding edge
-  edge-suc m = length-append (unit_bytes p) (joined (take m packets))
+  edge-suc m = length-append (unit_bytes p) (joined_payloads (take m packets))
 
   pub edge-one : edge (p ∷ packets) 1 ≡ length (unit_bytes p)
   edge-one = edge-suc 0 ∙ omega (arith, edge-zero packets)
@@ -55,8 +55,8 @@ module _ (p : PacketFields) (packets : List PacketFields) where
     up_to = omega (arith, so.up_to, edge-suc_next so.last);
     stuffed = λ k from below.
         let place : k ≡ length (unit_bytes p) + (k - length (unit_bytes p)) = omega arith in
-        ap (λ (i : ℕ). get_or (unit_bytes p ++ joined packets) i 0) place
-        ∙ get_or-append-add (unit_bytes p) (joined packets) (k - length (unit_bytes p)) 0
+        ap (λ (i : ℕ). get_or (unit_bytes p ++ joined_payloads packets) i 0) place
+        ∙ get_or-append-add (unit_bytes p) (joined_payloads packets) (k - length (unit_bytes p)) 0
         ∙ so.stuffed (k - length (unit_bytes p)) (omega arith) (omega arith);
   }
 
@@ -76,7 +76,7 @@ module _ (p : PacketFields) (packets : List PacketFields) where
         up_to = sym edge-one;
         stuffed = λ k from below.
             let place : k ≡ length front + (k - length front) = omega arith in
-            get_or_append_left (unit_bytes p) (joined packets) 0 k below
+            get_or_append_left (unit_bytes p) (joined_payloads packets) 0 k below
             ∙ ap (λ (t : List ℕ). get_or t k 0) bytes
             ∙ ap (λ (i : ℕ). get_or (front ++ replicate room 0xFF) i 0) place
             ∙ get_or-append-add front (replicate room 0xFF) (k - length front) 0
@@ -87,8 +87,8 @@ module _ (p : PacketFields) (packets : List PacketFields) where
   follows_first front room bytes some = inr (stuffed_first front room bytes some)
 
   -- bytes after it
-  pub bytes_later : (size place : ℕ) → take size (drop (length (unit_bytes p) + place) (joined (p ∷ packets))) ≡ take size (drop place (joined packets))
+  pub bytes_later : (size place : ℕ) → take size (drop (length (unit_bytes p) + place) (joined_payloads (p ∷ packets))) ≡ take size (drop place (joined_payloads packets))
   bytes_later size place =
       ap (take size)
-      (sym (drop-drop place (length (unit_bytes p)) (unit_bytes p ++ joined packets))
-      ∙ ap (drop place) (drop_at (unit_bytes p) (joined packets) (length (unit_bytes p)) refl))
+      (sym (drop-drop place (length (unit_bytes p)) (unit_bytes p ++ joined_payloads packets))
+      ∙ ap (drop place) (drop_at (unit_bytes p) (joined_payloads packets) (length (unit_bytes p)) refl))

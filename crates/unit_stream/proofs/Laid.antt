@@ -4,7 +4,7 @@ use Rattle.std.proofs.lemmas.List.{append-nil, drop_at, take_at, take_all, take-
 use Rattle.std.proofs.lemmas.Bool.{cases_lt}
 use Rattle.std.proofs.Math.Seq.{take-append-add}
 use Rattle.ts_spec.specs.Packet.{PacketFields, unit_bytes, pointer}
-use Rattle.ts_spec.specs.Packetized.{packet_at, unit_at, joined, edge, IsIn}
+use Rattle.ts_spec.specs.Packetized.{packet_at, unit_at, joined_payloads, edge, IsIn}
 use Rattle.unit_stream.specs.Packing.{Filling, stuffed, behind_unit, filled}
 use Rattle.reassembly_law.proofs.Given.{both}
 use Rattle.reassembly_law.proofs.Outcomes.{true_leb, false_leb}
@@ -17,7 +17,7 @@ begin_at begins n = get_or begins n 0
 
 -- a unit stands in the packets from one place on, and the next one begins at another
 pub record IsLaid (start : ℕ) (packets : List PacketFields) (begin next : ℕ) (unit : List ℕ) : Type 0 where
-  pub bytes : take (length unit) (drop begin (joined packets)) ≡ unit
+  pub bytes : take (length unit) (drop begin (joined_payloads packets)) ≡ unit
   pub next_is : Follows packets (begin + length unit) next
   pub starts : (m : ℕ) → IsIn packets m begin → (packet_at packets m).starts ≡ true
   pub enough : (m : ℕ) → IsIn packets m begin → begin + start ≤ edge packets (m + 1)
@@ -32,10 +32,10 @@ pub record IsPointed (packets : List PacketFields) (count : ℕ) (begins : List 
 -- the packets carry the rest of a unit and the units after it
 pub record AreLaid (start : ℕ) (rest : List ℕ) (units : List (List ℕ)) (packets : List PacketFields) (begins : List ℕ) : Type 0 where
   pub count : length begins ≡ length units + 1
-  pub rest_bytes : take (length rest) (joined packets) ≡ rest
+  pub rest_bytes : take (length rest) (joined_payloads packets) ≡ rest
   pub rest_next : Follows packets (length rest) (begin_at begins 0)
   pub each : (n : ℕ) → n < length units → IsLaid start packets (begin_at begins n) (begin_at begins (n + 1)) (unit_at units n)
-  pub to_end : begin_at begins (length units) ≡ length (joined packets)
+  pub to_end : begin_at begins (length units) ≡ length (joined_payloads packets)
   pub pointed : (m : ℕ) → m < length packets → (packet_at packets m).starts ≡ true → (n : ℕ) × IsPointed packets (length units) begins m n
   pub at_once : length rest ≡ 0 → begin_at begins 0 ≡ 0
   pub none : length rest ≡ 0 → length units ≡ 0 → packets ≡ []
@@ -84,7 +84,7 @@ module _ (start : ℕ) (p : PacketFields) (packets : List PacketFields) where
 
   -- a unit that begins in the first packet
   laid_first : (begin next : ℕ) (unit : List ℕ) → p.starts ≡ true → begin + start ≤ length (unit_bytes p) → 1 ≤ start
-      → take (length unit) (drop begin (joined (p ∷ packets))) ≡ unit → Follows (p ∷ packets) (begin + length unit) next → IsLaid start (p ∷ packets) begin next unit
+      → take (length unit) (drop begin (joined_payloads (p ∷ packets))) ≡ unit → Follows (p ∷ packets) (begin + length unit) next → IsLaid start (p ∷ packets) begin next unit
   laid_first begin next unit starts enough least bytes follows = record {
     bytes = bytes;
     next_is = follows;
@@ -93,25 +93,25 @@ module _ (start : ℕ) (p : PacketFields) (packets : List PacketFields) where
   }
 
   -- the bytes of a unit that ends in the first packet
-  whole_bytes : (pre unit behind : List ℕ) → unit_bytes p ≡ pre ++ (unit ++ behind) → take (length unit) (drop (length pre) (joined (p ∷ packets))) ≡ unit
+  whole_bytes : (pre unit behind : List ℕ) → unit_bytes p ≡ pre ++ (unit ++ behind) → take (length unit) (drop (length pre) (joined_payloads (p ∷ packets))) ≡ unit
   whole_bytes pre unit behind bytes =
-      ap (λ (t : List ℕ). take (length unit) (drop (length pre) (t ++ joined packets))) bytes
-      ∙ ap (λ (t : List ℕ). take (length unit) (drop (length pre) t)) (append_assoc pre (unit ++ behind) (joined packets))
-      ∙ ap (take (length unit)) (drop_at pre ((unit ++ behind) ++ joined packets) (length pre) refl)
-      ∙ ap (take (length unit)) (append_assoc unit behind (joined packets))
-      ∙ take_at unit (behind ++ joined packets) (length unit) refl
+      ap (λ (t : List ℕ). take (length unit) (drop (length pre) (t ++ joined_payloads packets))) bytes
+      ∙ ap (λ (t : List ℕ). take (length unit) (drop (length pre) t)) (append_assoc pre (unit ++ behind) (joined_payloads packets))
+      ∙ ap (take (length unit)) (drop_at pre ((unit ++ behind) ++ joined_payloads packets) (length pre) refl)
+      ∙ ap (take (length unit)) (append_assoc unit behind (joined_payloads packets))
+      ∙ take_at unit (behind ++ joined_payloads packets) (length unit) refl
 
   -- the bytes of a unit that goes on after it
-  cut_bytes : (pre unit : List ℕ) (room : ℕ) → unit_bytes p ≡ pre ++ take room unit → room < length unit → take (length (drop room unit)) (joined packets) ≡ drop room unit
-      → take (length unit) (drop (length pre) (joined (p ∷ packets))) ≡ unit
+  cut_bytes : (pre unit : List ℕ) (room : ℕ) → unit_bytes p ≡ pre ++ take room unit → room < length unit → take (length (drop room unit)) (joined_payloads packets) ≡ drop room unit
+      → take (length unit) (drop (length pre) (joined_payloads (p ∷ packets))) ≡ unit
   cut_bytes pre unit room bytes over rest =
       let front : length (take room unit) ≡ room = length-take-le room unit (omega arith) in
       let sizes : length unit ≡ length (take room unit) + length (drop room unit) = omega (arith, length-drop room unit) in
-      ap (λ (t : List ℕ). take (length unit) (drop (length pre) (t ++ joined packets))) bytes
-      ∙ ap (λ (t : List ℕ). take (length unit) (drop (length pre) t)) (append_assoc pre (take room unit) (joined packets))
-      ∙ ap (take (length unit)) (drop_at pre (take room unit ++ joined packets) (length pre) refl)
-      ∙ ap (λ (n : ℕ). take n (take room unit ++ joined packets)) sizes
-      ∙ take-append-add (take room unit) (joined packets) (length (drop room unit))
+      ap (λ (t : List ℕ). take (length unit) (drop (length pre) (t ++ joined_payloads packets))) bytes
+      ∙ ap (λ (t : List ℕ). take (length unit) (drop (length pre) t)) (append_assoc pre (take room unit) (joined_payloads packets))
+      ∙ ap (take (length unit)) (drop_at pre (take room unit ++ joined_payloads packets) (length pre) refl)
+      ∙ ap (λ (n : ℕ). take n (take room unit ++ joined_payloads packets)) sizes
+      ∙ take-append-add (take room unit) (joined_payloads packets) (length (drop room unit))
       ∙ ap (λ (t : List ℕ). take room unit ++ t) rest
       ∙ take-append-drop room unit
 
@@ -165,7 +165,7 @@ module _ (start : ℕ) (p : PacketFields) (packets : List PacketFields) where
 
   -- the unit is the last that begins in the packet
   begin_last : (pre unit : List ℕ) (units : List (List ℕ)) (begins : List ℕ) → p.starts ≡ true → 1 ≤ start → length pre + start ≤ length (unit_bytes p)
-      → 1 ≤ length begins → take (length unit) (drop (length pre) (joined (p ∷ packets))) ≡ unit
+      → 1 ≤ length begins → take (length unit) (drop (length pre) (joined_payloads (p ∷ packets))) ≡ unit
       → Follows (p ∷ packets) (length pre + length unit) (length (unit_bytes p) + begin_at begins 0)
       → BeginIn start p packets (length pre) (unit ∷ units) units (length pre ∷ []) begins
   begin_last pre unit units begins starts least enough some bytes follows = record {
@@ -245,8 +245,8 @@ module _ (start : ℕ) (p : PacketFields) (packets : List PacketFields) where
       (subst (λ (n : ℕ). IsLaid start (p ∷ packets) begin n unit2) (sym b)
       (subst (λ (n : ℕ). IsLaid start (p ∷ packets) n next2 unit2) (sym a) so))
 
-  bytes_count : length (joined (p ∷ packets)) ≡ length (unit_bytes p) + length (joined packets)
-  bytes_count = length-append (unit_bytes p) (joined packets)
+  bytes_count : length (joined_payloads (p ∷ packets)) ≡ length (unit_bytes p) + length (joined_payloads packets)
+  bytes_count = length-append (unit_bytes p) (joined_payloads packets)
 
   -- in which units begin
   laid_front : (rest left_rest behind : List ℕ) (units left : List (List ℕ)) (front begins : List ℕ) → unit_bytes p ≡ rest ++ behind → pointer p ≡ length rest → 1 ≤ length units
@@ -254,9 +254,9 @@ module _ (start : ℕ) (p : PacketFields) (packets : List PacketFields) where
   laid_front rest left_rest behind units left front begins bytes pointer_is some so laid = record {
     count = omega (arith, length-append front (shifted begins), length-map begins (λ b. length (unit_bytes p) + b), laid.count, so.count);
     rest_bytes =
-        ap (λ (t : List ℕ). take (length rest) (t ++ joined packets)) bytes
-        ∙ ap (take (length rest)) (append_assoc rest behind (joined packets))
-        ∙ take_at rest (behind ++ joined packets) (length rest) refl;
+        ap (λ (t : List ℕ). take (length rest) (t ++ joined_payloads packets)) bytes
+        ∙ ap (take (length rest)) (append_assoc rest behind (joined_payloads packets))
+        ∙ take_at rest (behind ++ joined_payloads packets) (length rest) refl;
     rest_next = inl (so.first some);
     each = each;
     to_end =
@@ -383,12 +383,12 @@ module _ (start : ℕ) (p : PacketFields) (packets : List PacketFields) where
           let none : 184 - length rest ≡ 0 = omega arith in
           bytes ∙ ap (λ (n : ℕ). take 184 rest ++ replicate n 0xFF) none ∙ append-nil (take 184 rest)
 
-      rest_bytes : (184 < length rest) ⊎ (length rest ≤ 184) → take (length rest) (joined (p ∷ packets)) ≡ rest
+      rest_bytes : (184 < length rest) ⊎ (length rest ≤ 184) → take (length rest) (joined_payloads (p ∷ packets)) ≡ rest
       rest_bytes (inl over) = cut_bytes [] rest 184 (goes_on over) over laid.rest_bytes
       rest_bytes (inr le) =
-          ap (λ (t : List ℕ). take (length rest) (t ++ joined packets)) (ended le)
-          ∙ ap (take (length rest)) (append_assoc rest (replicate (184 - length rest) 0xFF) (joined packets))
-          ∙ take_at rest (replicate (184 - length rest) 0xFF ++ joined packets) (length rest) refl
+          ap (λ (t : List ℕ). take (length rest) (t ++ joined_payloads packets)) (ended le)
+          ∙ ap (take (length rest)) (append_assoc rest (replicate (184 - length rest) 0xFF) (joined_payloads packets))
+          ∙ take_at rest (replicate (184 - length rest) 0xFF ++ joined_payloads packets) (length rest) refl
 
       rest_next : (184 < length rest) ⊎ (length rest ≤ 184) → Follows (p ∷ packets) (length rest) (length (unit_bytes p) + begin_at begins 0)
       rest_next (inl over) =

@@ -61,14 +61,14 @@ FitsState (now.Reading position) size = Unit {0}
 FitsState (now.Ended way rest) size = FitsEnded way size
 
 -- where the first unit starts in a packet
-pub record IsFront (front_at : ℕ) (packet : PacketFields) : Type 0 where
+pub record IsFirstStart (front_at : ℕ) (packet : PacketFields) : Type 0 where
   pub starts : packet.starts ≡ true
   pub fits : pointer_fits packet ≡ true
   pub place : front_at ≡ 1 + pointer packet
 
 abbrev pub TellsFront : Front → PacketFields → Type 0
 TellsFront front.Absent packet = packet.starts ≡ false
-TellsFront (front.At place) packet = IsFront place packet
+TellsFront (front.At place) packet = IsFirstStart place packet
 TellsFront front.Misfit packet = (packet.starts ≡ true) × (pointer_fits packet ≡ false)
 
 -- the event that is given

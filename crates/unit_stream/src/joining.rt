@@ -4,7 +4,7 @@ ghost use Rattle.ts_spec.specs.Packet.{PacketFields, pointer_fits};
 ghost use Rattle.ts_packet.specs.Fields.{fields_in};
 ghost use Rattle.reassembly_law.specs.UnderWay.{IsUnderWay};
 ghost use Rattle.unit_stream.specs.Joining.{Place};
-ghost use Rattle.unit_stream.specs.States.{TellsFront, IsFront, FitsUnderWay, FitsEnded, FitsState, ended_state, state_in, open_in, opens_in};
+ghost use Rattle.unit_stream.specs.States.{TellsFront, IsFirstStart, FitsUnderWay, FitsEnded, FitsState, ended_state, state_in, open_in, opens_in};
 ghost use Rattle.unit_stream.specs.Steps.{GoesOn, Closes, IsFed, AreProper, pointed};
 
 use crate::form::{Span, UnitForm};
@@ -185,7 +185,7 @@ fn take_start<F: UnitForm>(
 ) -> State
     requires size { FitsUnderWay under_way (length buffer.old) }
     requires room { length buffer.old ≡ F.LONGEST }
-    requires front { IsFront position.at (fields_in packet.now) }
+    requires front { IsFirstStart position.at (fields_in packet.now) }
     ensures fits { FitsState result (length buffer.new) }
     ensures fed { AreProper F.form (opens_in under_way buffer.old)
         → IsFed F.form is_continuous (opens_in under_way buffer.old) position.moment (fields_in packet.now) (state_in result buffer.new) }

@@ -1,15 +1,15 @@
 use Rattle.std.proofs.Common.{◌≡◌, ℕ, ◌<◌, List, length, map, true, Some, ap, ◌∙◌, arith}
 use Rattle.std.specs.Prelude.{All}
 use Rattle.plan_spec.specs.Plan.{PlanFields, pid_of}
-use Rattle.stream_spec.specs.Units.{packets_of_kind}
+use Rattle.stream_spec.specs.Units.{packets_of_kind, unit_of}
 use Rattle.stream_spec.specs.Services.{kind_at, CarriesOn}
 use Rattle.plan_spec.specs.Offered.{datagrams as datagrams_of}
-use Rattle.stream_law.specs.Words.{is_of_units, IsByteDatagram}
+use Rattle.stream_law.specs.Words.{IsByteDatagram}
+use Rattle.plan_spec.specs.Built.{is_sent}
 use Rattle.stream_law.specs.Captures.{given_by}
 use Rattle.stream_law.proofs.Units.{packets_at, offered_taken}
 use Rattle.loss_law.specs.Loss.{service_at}
 use Rattle.loss_law.proofs.Forms.{kind_lawful}
-use Rattle.end_to_end_law.specs.Units.{unit_of}
 use Rattle.end_to_end_law.specs.Sent.{offered_by, IsSent, sent_records}
 use Rattle.end_to_end_law.proofs.Units.{own_unit}
 use Rattle.end_to_end_law.proofs.Sends.{carries_own_units}
@@ -42,7 +42,7 @@ returns c = record {
         ∙ packets_at (offered_by plan capture told) plan.services 0 k k (omega arith) known
         ∙ ap (λ (t : List ℕ). packets_of_kind (kind_at plan k) t (offered_by plan capture told k)) (unicast_is plan k known))
       where
-        of_units : is_of_units (kind_at plan k) ≡ true
+        of_units : is_sent (kind_at plan k) ≡ true
         of_units = service_kind_is plan sent.of_units k known
 
         are : All IsByteDatagram (datagrams_of (given_by capture told))

@@ -1,5 +1,5 @@
 use Rattle.std.specs.Prelude.{filter}
-use Rattle.loss_law.specs.Isolation.{is_on}
+use Rattle.reception_spec.specs.Packets.{is_on}
 use Rattle.loss_law.proofs.OnePid.{service_datagrams_same, packets_kept}
 use Rattle.loss_law.proofs.isolation.other_records_change_nothing.Goals as goal
 

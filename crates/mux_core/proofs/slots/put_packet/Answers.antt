@@ -6,8 +6,8 @@ use Rattle.mux_core.proofs.slots.put_packet.Goals as goal
 
 pub returns-clause-services : goal.returns-clause-services
 returns-clause-services c = λ lists at.
-    subst (TakesSlot (plan_fields c.args.plan.now) lists c.args.slot c.take_packet.new.services) (sym (take_at c.take_packet.new.into (drop 188 c.args.into.now) 188 c.take_packet.ensures.size))
-    (c.take_packet.ensures.services lists at)
+    subst (TakesSlot (plan_fields c.args.plan.now) lists c.args.slot c.packet_for_slot.new.services) (sym (take_at c.packet_for_slot.new.into (drop 188 c.args.into.now) 188 c.packet_for_slot.ensures.size))
+    (c.packet_for_slot.ensures.services lists at)
 
 pub returns-clause-behind : goal.returns-clause-behind
-returns-clause-behind c = drop_at c.take_packet.new.into (drop 188 c.args.into.now) 188 c.take_packet.ensures.size
+returns-clause-behind c = drop_at c.packet_for_slot.new.into (drop 188 c.args.into.now) 188 c.packet_for_slot.ensures.size

@@ -10,7 +10,7 @@ use Rattle.plan_spec.specs.Plan.{ServiceFields, PlanFields, kinds}
 use Rattle.plan_spec.specs.Signalling.{table_of, entry_of}
 use Rattle.plan.specs.Parts.{int_seen, service_seen}
 use Rattle.plan.specs.PlanView.{plan_fields}
-use Rattle.stream_law.specs.Words.{is_of_units}
+use Rattle.plan_spec.specs.Built.{is_sent}
 use Rattle.int_table.specs.Views.{entry_in}
 use Rattle.mux_core.proofs.Items.{map_at, list_all_at, take_next}
 use Rattle.mux_core.proofs.Signalled.{platform_below, rules_valid, slashes_right, entry_is, with_entry, table_fits}
@@ -37,7 +37,7 @@ loop-place-preserved c =
     let plan : PlanFields = plan_fields c.args.plan.now in
     let service : ServiceFields = service_seen c.at.result.now in
     let found : slice_get plan.services c.loop-place.place ≡ Some service = map_at service_seen c.args.plan.now.services c.loop-place.place c.at.result.now c.at.ensures.read in
-    let built : is_of_units service.kind ≡ true = list_all_at is_of_units (kinds plan) c.loop-place.place service.kind
+    let built : is_sent service.kind ≡ true = list_all_at is_sent (kinds plan) c.loop-place.place service.kind
     (map_at (λ (s : ServiceFields). s.kind) plan.services c.loop-place.place service found) c.requires.built in
     record {
       entries = with_entry (table_of plan (int_seen c.args.int.now)) c.loop-place.table c.push.new.self

@@ -1,6 +1,6 @@
 use Rattle.std.proofs.Common.{ℕ, List, arith, ◌∙◌}
 use Rattle.plan.specs.Parts.{kind_seen}
-use Rattle.mux_core.specs.Units.{unit_of}
+use Rattle.stream_spec.specs.Units.{unit_of}
 use Rattle.mux_core.proofs.Held.{end_next}
 use Rattle.mux_core.proofs.units.ends_of.Goals as goal
 

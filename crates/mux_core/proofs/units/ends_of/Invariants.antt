@@ -1,7 +1,8 @@
 -- The ends of the units so far.
 use Rattle.std.proofs.Common.{◌≡◌, ◌*◌, ◌≤◌, length, map, take}
 use Rattle.plan.specs.Parts.{kind_seen}
-use Rattle.mux_core.specs.Units.{unit_of, unit_bytes, ends_from}
+use Rattle.mux_core.specs.Units.{unit_bytes, ends_from}
+use Rattle.stream_spec.specs.Units.{unit_of}
 use Rattle.mux_core.proofs.units.ends_of.Given as goal
 
 abbrev pub invariant-loop-place : goal.invariant-loop-place

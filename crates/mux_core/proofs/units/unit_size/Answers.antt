@@ -1,7 +1,7 @@
 use Rattle.std.proofs.Common.{◌≡◌, ℕ, ◌+◌, Bool, cond, List, length, sym, ap, arith, ◌∙◌}
 use Rattle.plan.specs.Parts.{kind_seen}
 use Rattle.plan.specs.declared.service.Kind.{Kind}
-use Rattle.mux_core.specs.Units.{unit_of}
+use Rattle.stream_spec.specs.Units.{unit_of}
 use Rattle.mux_core.proofs.Windows.{length-sndu_of}
 use Rattle.mux_core.proofs.units.unit_size.Goals as goal
 use Rattle.mux_core.proofs.units.unit_size.Goals.{then-address, else-address}

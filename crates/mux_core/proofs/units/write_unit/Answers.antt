@@ -4,7 +4,7 @@ use Rattle.addr_rules.specs.Macs.{mac_of_address}
 use Rattle.section_spec.specs.Mpe.{mpe_bytes, mpe_to_write}
 use Rattle.plan.specs.Parts.{kind_seen}
 use Rattle.plan.specs.declared.service.Kind.{Kind}
-use Rattle.mux_core.specs.Units.{unit_of}
+use Rattle.stream_spec.specs.Units.{unit_of}
 use Rattle.mux_core.proofs.units.write_unit.Goals as goal
 
 pub returns-in-Mpe-clause-written : goal.returns-in-Mpe-clause-written

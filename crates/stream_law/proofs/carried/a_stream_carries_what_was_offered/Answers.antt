@@ -5,21 +5,21 @@ use Rattle.ts_spec.specs.Recording.{records_of}
 use Rattle.plan_spec.specs.Plan.{KindFields, mpe, ServiceFields, kinds}
 use Rattle.stream_spec.specs.Services.{kind_at}
 use Rattle.plan_spec.specs.Offered.{offered}
-use Rattle.stream_law.specs.Words.{is_of_units}
+use Rattle.plan_spec.specs.Built.{is_sent}
 use Rattle.stream_law.proofs.Units.{packets_at, carries_on, offered_taken}
 use Rattle.stream_law.proofs.carried.a_stream_carries_what_was_offered.Goals as goal
 
 -- each kind of the list is
-kind_is : (ks : List KindFields) (k : ℕ) → list_all is_of_units ks ≡ true → k < length ks → is_of_units (get_or ks k (mpe 0)) ≡ true
+kind_is : (ks : List KindFields) (k : ℕ) → list_all is_sent ks ≡ true → k < length ks → is_sent (get_or ks k (mpe 0)) ≡ true
 kind_is [] k all less = absurd (omega (arith, less))
-kind_is (kind ∷ ks) k all less = by_place k less (λ j less2. kind_is ks j (both (is_of_units kind) (list_all is_of_units ks) all).1 less2)
+kind_is (kind ∷ ks) k all less = by_place k less (λ j less2. kind_is ks j (both (is_sent kind) (list_all is_sent ks) all).1 less2)
   where
     both : (a b : Bool) → (a && b) ≡ true → (a ≡ true) × (b ≡ true)
     both true b e = (refl, e)
     both false b e = absurd (cc)
 
-    by_place : (i : ℕ) → i < length (kind ∷ ks) → ((j : ℕ) → j < length ks → is_of_units (get_or ks j (mpe 0)) ≡ true) → is_of_units (get_or (kind ∷ ks) i (mpe 0)) ≡ true
-    by_place zero less2 later = (both (is_of_units kind) (list_all is_of_units ks) all).0
+    by_place : (i : ℕ) → i < length (kind ∷ ks) → ((j : ℕ) → j < length ks → is_sent (get_or ks j (mpe 0)) ≡ true) → is_sent (get_or (kind ∷ ks) i (mpe 0)) ≡ true
+    by_place zero less2 later = (both (is_sent kind) (list_all is_sent ks) all).0
     by_place (suc i) less2 later = later i (omega (arith, less2))
 
 pub returns : goal.returns

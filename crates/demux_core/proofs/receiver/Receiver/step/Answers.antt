@@ -61,9 +61,9 @@ returns-in-Ok-true-clause-received g c = λ plan records has.
       plan_is = seen.plan_is;
       stream = records_more plan records r c.self.inside.stream seen.stream few
           (packet_is plan r c.in-Packet.moment true c.in-Packet.ensures.0 c.in-Packet.ensures.1.readable known);
-      all = all_along (plan_fields c.self.inside.plan.now) plan c.take_packet.new.receivers (with_items c.self.inside.services c.take_packet.new.receivers).items c.take_packet.new.table
+      all = all_along (plan_fields c.self.inside.plan.now) plan c.receive_packet.new.receivers (with_items c.self.inside.services c.receive_packet.new.receivers).items c.receive_packet.new.table
           (records ++ packet_record c.in-Packet.moment c.args.item.now.bytes ∷ []) (records ++ r ∷ [])
-          seen.plan_is (sym (with_items_is c.self.inside.services c.take_packet.new.receivers (c.take_packet.ensures.count ∙ c.as_mut_slice-services.ensures.len)))
+          seen.plan_is (sym (with_items_is c.self.inside.services c.receive_packet.new.receivers (c.receive_packet.ensures.count ∙ c.as_mut_slice-services.ensures.len)))
           (ap (λ (t : ReadRecord). records ++ t ∷ []) (sym same))
           (c.in-Ok-true.ensures.received records (few_records plan records r c.self.inside.stream seen.stream few) before);
     }
@@ -83,9 +83,9 @@ returns-in-Ok-false-clause-received g c = λ plan records has.
       stream = other_more plan records r c.self.inside.stream seen.stream few
           c.saturating_add-self-inside-in-Ok-false.result c.saturating_add-self-inside-in-Ok-false.ensures
           (packet_is plan r c.in-Packet.moment false c.in-Packet.ensures.0 c.in-Packet.ensures.1.readable known);
-      all = all_along (plan_fields c.self.inside.plan.now) plan c.take_packet.new.receivers (with_items c.self.inside.services c.take_packet.new.receivers).items c.take_packet.new.table
+      all = all_along (plan_fields c.self.inside.plan.now) plan c.receive_packet.new.receivers (with_items c.self.inside.services c.receive_packet.new.receivers).items c.receive_packet.new.table
           (records ++ packet_record c.in-Packet.moment c.args.item.now.bytes ∷ []) (records ++ r ∷ [])
-          seen.plan_is (sym (with_items_is c.self.inside.services c.take_packet.new.receivers (c.take_packet.ensures.count ∙ c.as_mut_slice-services.ensures.len)))
+          seen.plan_is (sym (with_items_is c.self.inside.services c.receive_packet.new.receivers (c.receive_packet.ensures.count ∙ c.as_mut_slice-services.ensures.len)))
           (ap (λ (t : ReadRecord). records ++ t ∷ []) (sym same))
           (c.in-Ok-false.ensures.received records (few_records plan records r c.self.inside.stream seen.stream few) before);
     }
@@ -104,9 +104,9 @@ returns-in-Err-clause-received g c = λ plan records has.
       plan_is = seen.plan_is;
       stream = records_more plan records r c.self.inside.stream seen.stream few
           (packet_is plan r c.in-Packet.moment true c.in-Packet.ensures.0 c.in-Packet.ensures.1.readable known);
-      all = all_along (plan_fields c.self.inside.plan.now) plan c.take_packet.new.receivers (with_items c.self.inside.services c.take_packet.new.receivers).items c.take_packet.new.table
+      all = all_along (plan_fields c.self.inside.plan.now) plan c.receive_packet.new.receivers (with_items c.self.inside.services c.receive_packet.new.receivers).items c.receive_packet.new.table
           (records ++ packet_record c.in-Packet.moment c.args.item.now.bytes ∷ []) (records ++ r ∷ [])
-          seen.plan_is (sym (with_items_is c.self.inside.services c.take_packet.new.receivers (c.take_packet.ensures.count ∙ c.as_mut_slice-services.ensures.len)))
+          seen.plan_is (sym (with_items_is c.self.inside.services c.receive_packet.new.receivers (c.receive_packet.ensures.count ∙ c.as_mut_slice-services.ensures.len)))
           (ap (λ (t : ReadRecord). records ++ t ∷ []) (sym same))
           (c.in-Err.ensures.received records (few_records plan records r c.self.inside.stream seen.stream few) before);
     }

@@ -3,7 +3,7 @@ use Rattle.ts_spec.specs.Packet.{PacketFields}
 use Rattle.unit_stream.specs.Packers.{AreRising}
 use Rattle.plan_spec.specs.Plan.{KindFields}
 use Rattle.plan.specs.Parts.{kind_seen}
-use Rattle.mux_core.specs.Units.{unit_of}
+use Rattle.stream_spec.specs.Units.{unit_of}
 use Rattle.mux_core.proofs.Held.{rising_held}
 use Rattle.mux_core.proofs.Windows.{window_first, sending_first, packets_first, few_first}
 use Rattle.mux_core.proofs.lanes.LanePackets.new.Goals as goal

@@ -1,6 +1,6 @@
 use Rattle.std.proofs.Common.{◌≡◌, ℕ, ◌+◌, ◌≤◌, List, ◌++◌, length, take, drop, refl, ap, arith, ◌∙◌}
 use Rattle.plan.specs.Parts.{kind_seen}
-use Rattle.mux_core.specs.Units.{unit_of}
+use Rattle.stream_spec.specs.Units.{unit_of}
 use Rattle.mux_core.proofs.Held.{put_back}
 use Rattle.mux_core.proofs.Windows.{next_fits, window_more}
 use Rattle.mux_core.proofs.window.Window.write_next.Goals as goal

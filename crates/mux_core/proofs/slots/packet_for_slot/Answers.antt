@@ -2,7 +2,7 @@ use Rattle.std.proofs.Common.{sym, ◌∙◌}
 use Rattle.plan.specs.PlanView.{plan_fields}
 use Rattle.mux_core.proofs.Signalled.{signalling_passes}
 use Rattle.mux_core.proofs.Stepped.{early_taken, late_taken}
-use Rattle.mux_core.proofs.slots.take_packet.Goals as goal
+use Rattle.mux_core.proofs.slots.packet_for_slot.Goals as goal
 
 pub returns-then-is_of_table-clause-services : goal.returns-then-is_of_table-clause-services
 returns-then-is_of_table-clause-services c = λ lists at.

@@ -9,7 +9,7 @@ use Rattle.demux_core.specs.Services.{HaveAllReceived}
 use Rattle.demux_core.specs.declared.table.TableReceiver.{TableReceiver}
 use Rattle.demux_core.proofs.Pids.{found_at, not_found, place_known}
 use Rattle.demux_core.proofs.Whole.{known, misses_int, misses_all, int_took, none_took, nothing_given, service_took, given_by_one, is_receiving, told_one, told_none, stopped_one}
-use Rattle.demux_core.proofs.packet.take_packet.Goals as goal
+use Rattle.demux_core.proofs.packet.receive_packet.Goals as goal
 
 pub returns-then-take_for_table-clause-received : goal.returns-then-take_for_table-clause-received
 returns-then-take_for_table-clause-received g c = λ records few all. int_took (plan_fields c.args.plan.now) c.args.receivers.now c.args.table.now records (packet_record c.args.moment c.args.bytes.now) c.args.packet.now.pid
