@@ -6,7 +6,7 @@ ghost use Rattle.ipencap_engine.specs.Jobs.{to_check};
 ghost use Rattle.ipencap_engine.specs.Statuses.{outcome_line, status_of};
 ghost use Rattle.ipencap_engine.specs.Runs.{Runs};
 
-use crate::plan::outcome_of;
+use crate::usable_plan::outcome_of;
 use crate::status::{Outcome, Status};
 use ipe_io::{Failed, Shelf, Sink};
 use settings_load::{list_services, load_plan};

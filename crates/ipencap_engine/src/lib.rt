@@ -9,12 +9,12 @@
 
 mod check;
 mod laws;
-mod plan;
 mod receive;
 mod send;
 mod status;
 mod top;
 mod ule;
+mod usable_plan;
 mod words;
 
 pub use laws::a_run_without_a_fault_is_complete;

@@ -1,7 +1,7 @@
 use Rattle.plan.specs.PlanView.{plan_fields}
 use Rattle.settings_keys.specs.Keys.{fault_seen}
 use Rattle.ipencap_engine.proofs.Plans.{refused_for_use, not_unbuilt, not_refused}
-use Rattle.ipencap_engine.proofs.plan.plan_in_use.Goals as goal
+use Rattle.ipencap_engine.proofs.usable_plan.plan_in_use.Goals as goal
 
 pub returns-in-Some-clause-refused : goal.returns-in-Some-clause-refused
 returns-in-Some-clause-refused g c =
