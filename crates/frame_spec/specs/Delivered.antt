@@ -15,7 +15,7 @@ frame_datagrams rows sections = found_datagrams rows (corrected_byte rows (known
 abbrev pub datagrams_of_frames : ℕ → List (List TimedSection) → List (List ℕ)
 datagrams_of_frames rows frames = flat_map (λ (group : List TimedSection). frame_datagrams rows (sections_of group)) frames
 
--- delivered of all sections of a service in one plan, when all frames are closed
+-- delivered of all sections of a service on one PID, when all frames are closed
 abbrev pub delivered_by_frames : Timing → ℕ → List TimedSection → List (List ℕ)
 delivered_by_frames timing rows sections = datagrams_of_frames rows (received_frames timing rows sections)
 

@@ -1,4 +1,5 @@
--- Received frames: where one ends and the next begins (EN 301 192 clause 9). Profile: no section says to which frame it belongs.
+-- Received frames: where one ends and the next begins (EN 301 192 clause 9). Profile: with time slicing a receiver
+-- finds the frame of a section by these rules; without it the index is cyclic.
 use Rattle.std.specs.Prelude.{◌≡◌, ℕ, ◌+◌, ◌-◌, ◌*◌, ◌<◌, Bool, true, false, not, ◌&&◌, ◌||◌, List, [], ◌∷◌, ◌++◌, length, take, ◌==◌, nat_lt, nat_le, if◌then◌else◌, slice_index_or, flat_map}
 use Rattle.std.specs.List.{list_any}
 use Rattle.ts_spec.specs.Recording.{RecordingForm}
@@ -86,7 +87,7 @@ frames_from timing rows group (x ∷ sections) =
     if is_cut timing rows group x then group ∷ frames_from timing rows (x ∷ []) sections
     else frames_from timing rows (group ++ x ∷ []) sections
 
--- the received frames of a service, of its sections in one plan
+-- the received frames of a service, of its sections on one PID
 abbrev pub received_frames : Timing → ℕ → List TimedSection → List (List TimedSection)
 received_frames timing rows [] = []
 received_frames timing rows (x ∷ sections) = frames_from timing rows (x ∷ []) sections

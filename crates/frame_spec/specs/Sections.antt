@@ -81,6 +81,7 @@ timed_sections_in rows moment unit = map (timed_section moment) (frame_sections_
 abbrev pub sections_of_unit : ℕ → PlacedUnit → List TimedSection
 sections_of_unit rows accepted = timed_sections_in rows accepted.moment accepted.unit
 
--- the accepted sections of a PID that belong to frames, in records of one plan: frames go on over no change of plans
+-- the accepted sections of a PID that belong to frames. Where plans change, the records are those in which the service has this PID:
+-- frames go on over a change that leaves it, and over no other
 abbrev pub frame_sections : ℕ → ℕ → List Record → List TimedSection
 frame_sections rows pid records = flat_map (sections_of_unit rows) (accepted_units section_form pid records)

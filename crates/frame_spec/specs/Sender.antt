@@ -43,7 +43,7 @@ section_of_datagram frame mac delta n =
     }))
     (datagram_at frame.datagrams n)
 
--- Profile: the address is that of the column's first byte in the RS data table, and table_boundary stands where frame_boundary does
+-- the address is that of the column's first byte in the RS data table, and table_boundary stands on the last section of the table
 abbrev pub section_of_column : ℕ → FrameFields → (ℕ → ℕ) → ℕ → FecFields
 section_of_column rows frame delta k = record {
   padding = frame.padding;

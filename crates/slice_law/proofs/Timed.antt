@@ -35,12 +35,12 @@ module _ (s : Slicing) (fits : IsSliceable s) where
       within_time (units_per_second s.form) s.rate (4096 * ten s.form - 1) (slot_of s c n) s.cycle (slot_of s (c + 1) 0) fits.rate_above fits.cycle_below
       (omega (arith, add-mul c 1 s.cycle, one))
 
-  -- from the end of the window, where it ends within the cycle
-  pub gap_from_end : (c : ℕ) → s.length ≤ s.cycle → moment_of s.form s.rate (slot_of s c s.length) + ten s.form ≤ moment_in s (c + 1) 0
-  gap_from_end c le =
+  -- from the end of the window
+  pub gap_from_end : (c : ℕ) → moment_of s.form s.rate (slot_of s c s.length) + ten s.form ≤ moment_in s (c + 1) 0
+  gap_from_end c =
       let one : 1 * s.cycle ≡ s.cycle = omega arith in
       later_by (units_per_second s.form) s.rate (ten s.form) (slot_of s c s.length) (s.cycle - s.length) (slot_of s (c + 1) 0) fits.rate_above fits.gap
-      (omega (arith, add-mul c 1 s.cycle, one, le))
+      (omega (arith, add-mul c 1 s.cycle, one, shorter))
 
   -- later cycles
   pub no_earlier : (c d n : ℕ) → c < d → moment_in s (c + 1) 0 ≤ moment_in s d n

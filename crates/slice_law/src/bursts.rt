@@ -19,11 +19,11 @@ pub fn bursts_are_timed()
 {}
 
 /// From each packet of a burst to the window in the next cycle it is ten milliseconds at least, and less than 4,096 tens of them; so it
-/// is from the end of a window, where that lies in the cycle.
+/// is from the end of a window.
 pub fn windows_leave_gaps()
     ensures gap { (s : Slicing) → IsSliceable s → (c n : ℕ) → n < s.length → moment_in s c n + ten s.form ≤ moment_in s (c + 1) 0 }
     ensures most { (s : Slicing) → IsSliceable s → (c n : ℕ) → moment_in s (c + 1) 0 < moment_in s c n + 4096 * ten s.form }
-    ensures end { (s : Slicing) → IsSliceable s → (c : ℕ) → s.length ≤ s.cycle
+    ensures end { (s : Slicing) → IsSliceable s → (c : ℕ)
         → moment_of s.form s.rate (slot_of s c s.length) + ten s.form ≤ moment_in s (c + 1) 0 }
 {}
 

@@ -25,7 +25,7 @@ pub fn accepted_sections_are_parted_by_time()
     accepted_units_have_their_moments();
 }
 
-/// The same without time slicing, of frames that are less than 4,096 apart. Stamps may be any.
+/// The same without time slicing, of frames that are less than 4,096 apart.
 pub fn accepted_sections_are_parted_by_index()
     ensures parted { (recording : RecordingForm) (sent recorded : List Record) (channel : Channel recording sent recorded)
         → (pid : ℕ) (units : List (List ℕ)) (begin : ℕ → ℕ) (first : ℕ) (delta_of : List ℕ → ℕ) (frames : List (List SectionTime)) → IsIndexed first frames

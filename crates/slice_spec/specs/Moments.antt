@@ -14,6 +14,7 @@ ten plain = 10000
 ten stamped = 10000
 ten m2ts = 270000
 
--- the moment of slot s, where so many packets go out in a second; that of an m2ts recording before the remainder modulo 2^30
+-- the moment of slot s, where so many packets go out in a second; that of an m2ts recording before the remainder modulo 2^30; in a
+-- plain recording no record has it
 abbrev pub moment_of : RecordingForm → ℕ → ℕ → ℕ
 moment_of form rate s = s * units_per_second form / rate

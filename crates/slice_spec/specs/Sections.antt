@@ -1,7 +1,7 @@
 -- What delta_t of real_time_parameters says of a section and the next one of its service (EN 301 192 clause 9).
 use Rattle.std.specs.Prelude.{◌≡◌, ℕ, ◌+◌, ◌-◌, ◌*◌, ◌/◌, Bool, true, not, ◌&&◌, ◌==◌, nat_lt, nat_le, Option, Some, None}
 
--- what delta_t counts in the sections of a service. Without time slicing it is the number of the frame (Profile); with time slicing
+-- what delta_t counts in the sections of a service. Without time slicing it is a cyclic frame index (clause 9.10; Profile: from 0); with time slicing
 -- it is the time to the next burst, where moments count so many units to ten milliseconds
 pub data Timing : Type 0 where
   indexed : Timing
@@ -29,7 +29,7 @@ abbrev pub is_parted : Timing → SectionTime → SectionTime → Bool
 is_parted indexed last x = has_other_index last x
 is_parted (sliced ten) last x = is_of_next_burst ten last x
 
--- the section belongs to the frame of the one seen last; where none was seen, any does
+-- by its time the section may be of the frame of the one seen last; where none was seen, any may
 abbrev pub belongs : Timing → Option SectionTime → SectionTime → Bool
 belongs timing None x = true
 belongs timing (Some last) x = not (is_parted timing last x)

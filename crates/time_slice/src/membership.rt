@@ -46,7 +46,8 @@ impl Membership {
         }
     }
 
-    /// Whether a section belongs to the frame of the one seen last. Where none was seen, any does.
+    /// Whether by its time a section may belong to the frame of the one seen last; what the frame holds decides the rest. Where none was
+    /// seen, any may.
     ///
     /// `moment` is the arrival time of the packet with the section's first byte.
     pub fn belongs(&self, moment: u64, real_time: &RealTime) -> bool

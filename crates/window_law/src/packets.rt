@@ -7,7 +7,7 @@ ghost use Rattle.plan_spec.specs.Valid.{is_plan};
 ghost use Rattle.stream_spec.specs.Services.{kind_at};
 ghost use Rattle.window_law.specs.Packets.{AreSome};
 
-/// Each packet of sections but the last holds 183 bytes of them at least.
+/// Sections take at most one packet for each 183 of their bytes, a begun 183 counted.
 pub fn packets_of_sections_are_full()
     ensures full { (pid counter : ℕ) (units : List (List ℕ)) → AreSome units
         → length (packetized section_form true pid counter units) * 183 ≤ byte_count units + 182 }
