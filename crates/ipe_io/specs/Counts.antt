@@ -27,12 +27,12 @@ IsFlushed None flushed = ⊤
 abbrev pub longest_file : ℕ
 longest_file = 1048576
 
--- `load` answers Failed only where the count of the name rose, which never falls
+-- `load` answers Failed only where the count of the name rose by one, and never lowers it
 pub record HasLoadCause {T : Type 0} (before now : ℕ) (result : Result T LoadFault) : Type 0 where
   pub later : before ≤ now
   pub failed : IsErrOf result load.Failed → Rose before now
 
--- `add` answers Failed only where the rack's count rose, which never falls and which every other answer leaves
+-- `add` answers Failed only where the rack's count rose by one, and every other answer leaves it
 pub record HasAddCause {T : Type 0} (before now : ℕ) (result : Result T AddFault) : Type 0 where
   pub later : before ≤ now
   pub failed : IsErrOf result add.Failed → Rose before now

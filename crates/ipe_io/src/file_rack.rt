@@ -1,6 +1,6 @@
 //! A rack over the files of the current folder.
-ghost use Rattle.std.specs.Prelude.{◌≡◌, ◌<◌, ℕ, vec_len};
-ghost use Rattle.wire_spec.specs.Causes.{HasCause};
+ghost use Rattle.std.specs.Prelude.{◌≡◌, ◌<◌, ◌≤◌, ℕ, vec_len, OnOk, OnErr};
+ghost use Rattle.wire_spec.specs.Causes.{RoseBy};
 
 use crate::outside::BUFFER;
 use crate::{AddFault, Failed, Rack};
@@ -40,10 +40,12 @@ impl<R: Files + Drop> FileRack<R> {
         }
     }
 
-    /// Writes out what all files hold back, also after one that fails.
+    /// Writes out what all files hold back, also after one that fails; each that fails is a fault.
     pub fn flush_all(&mut self) -> Result<(), Failed>
         ensures count { self.new.count ≡ self.old.count }
-        ensures cause { HasCause self.old.faults self.new.faults result }
+        ensures later { self.old.faults ≤ self.new.faults }
+        ensures failed { OnErr result (RoseBy self.old.faults self.new.faults 1) }
+        ensures kept { OnOk result (self.new.faults ≡ self.old.faults) }
     {
         let failed = flush_each(&mut self.files);
         self.faults = self.faults.saturating_add(failed);

@@ -9,11 +9,11 @@ raised count n = min (count + n) (2 ^ 64 - 1)
 abbrev pub RoseBy : ℕ → ℕ → ℕ → Type 0
 RoseBy before now n = raised before n ≤ now
 
--- the counter rose, or stands at its last value
+-- the counter rose by one, or stands at its last value
 abbrev pub Rose : ℕ → ℕ → Type 0
-Rose before now = RoseBy before now 1
+Rose before now = now ≡ raised before 1
 
--- a call's error has its cause in a counter of faults, which never falls: an error comes only where it rose, and an Ok leaves it
+-- a call's error has its cause in a counter of faults: an error raises it by one, and an Ok leaves it
 pub record HasCause {T E : Type 0} (before now : ℕ) (result : Result T E) : Type 0 where
   pub later : before ≤ now
   pub failed : OnErr result (Rose before now)
