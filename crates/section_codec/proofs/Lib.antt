@@ -1,3 +1,2 @@
 pub mod CheckSum
-pub mod Puts
 pub mod Written

@@ -3,12 +3,13 @@
 //! Reading: one whole unit comes in, and its fields go out, or why it is no section.
 //! Writing: a table_id, the upper half of byte 1 and a body come in, and the section goes into the caller's bytes.
 
-ghost use Rattle.std.specs.Prelude.{◌≡◌, ◌≤◌, ◌+◌, ◌++◌, length, take, drop, IfOk, is_ok};
+ghost use Rattle.std.specs.Prelude.{◌≡◌, ◌≤◌, ◌+◌, ◌++◌, length, drop, IfOk, is_ok};
 ghost use Rattle.std.specs.Result.{result_err};
 ghost use Rattle.section_spec.specs.Section.{IsWritableSection, is_section, has_right_length, section_bytes, section_fields, section_front};
 ghost use Rattle.section_codec.specs.Views.{fields_in, refusal};
 
 use crate::form::{CRC, HEAD, LEAST, MOST, SYNTAX, has_its_crc, length_of};
+use byte_slices::put;
 use crc_unit::crc32;
 
 /// A section: its table_id, and what stands between section_length and the CRC_32.
@@ -108,12 +109,4 @@ fn write_front(table_id: u8, top: u8, head: &[u8], rest: &[u8], into: &mut [u8])
     put(into, HEAD, head);
     put(into, HEAD + head.len(), rest);
     HEAD + head.len() + rest.len()
-}
-
-/// Puts `piece` into `into`, from byte `at` on.
-fn put(into: &mut [u8], at: usize, piece: &[u8])
-    requires { at + length piece.now ≤ length into.old }
-    ensures put { into.new ≡ take at into.old ++ (piece.now ++ drop (at + length piece.now) into.old) }
-{
-    into[at..at + piece.len()].copy_from_slice(piece);
 }

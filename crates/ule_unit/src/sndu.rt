@@ -3,12 +3,13 @@
 //! Reading: one whole unit comes in, and its fields go out, or why it is no SNDU.
 //! Writing: an address, a Type and a PDU come in, and the unit goes into the caller's bytes.
 
-ghost use Rattle.std.specs.Prelude.{◌≡◌, ◌≤◌, ◌+◌, ◌++◌, length, take, drop, true, IfOk, IfSome, is_ok, is_some};
+ghost use Rattle.std.specs.Prelude.{◌≡◌, ◌≤◌, ◌+◌, ◌++◌, length, drop, true, IfOk, IfSome, is_ok, is_some};
 ghost use Rattle.std.specs.Result.{result_err};
 ghost use Rattle.ts_spec.specs.Sndu.{is_sndu, sndu_fields, has_right_length, sndu_bytes, sndu_front, address_bytes, head_number};
 ghost use Rattle.ule_unit.specs.Views.{fields_in, refusal};
 
 use crate::form::{ADDRESS, CRC, D, HEAD, NO_ADDRESS, has_its_crc, span_of};
+use byte_slices::put;
 use crc_unit::crc32;
 use unit_stream::Span;
 
@@ -156,12 +157,4 @@ fn bytes_of(npa: &Option<[u8; 6]>) -> &[u8]
         None => &[],
         Some(npa) => npa,
     }
-}
-
-/// Puts `piece` into `into`, from byte `at` on.
-fn put(into: &mut [u8], at: usize, piece: &[u8])
-    requires { at + length piece.now ≤ length into.old }
-    ensures put { into.new ≡ take at into.old ++ (piece.now ++ drop (at + length piece.now) into.old) }
-{
-    into[at..at + piece.len()].copy_from_slice(piece);
 }
