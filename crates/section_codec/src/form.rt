@@ -60,7 +60,7 @@ pub(crate) fn span_of(prefix: &[u8]) -> Span
 }
 
 /// Whether the last four bytes are the CRC_32 of all before them (ISO/IEC 13818-1 annex A).
-#[tactic(auto, using(crate::proofs::CheckSum::has_right_crc_short))]
+#[tactic(auto, using(crc_law::proofs::CheckSum::short_has_no_crc))]
 pub(crate) fn has_its_crc(unit: &[u8]) -> bool
     ensures checked { result ≡ has_right_crc unit.now }
 {

@@ -1,2 +1,1 @@
-pub mod CheckSum
 pub mod Written
