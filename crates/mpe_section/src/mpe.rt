@@ -3,17 +3,17 @@
 //! Reading: a section comes in, and its fields go out, or why it carries no datagram.
 //! Writing: an address, parameters and a datagram come in, and the section goes into the caller's bytes.
 
-ghost use Rattle.std.specs.Prelude.{◌≡◌, ◌≤◌, ◌+◌, ◌++◌, Some, None, length, drop, IfOk, IfSome, OnErr};
+ghost use Rattle.std.specs.Prelude.{◌≡◌, ◌≤◌, ◌+◌, ◌++◌, ℕ, List, Option, Some, None, length, drop, IfOk, IfSome, OnErr};
 ghost use Rattle.std.specs.Result.{result_err};
 ghost use Rattle.section_codec.specs.Views.{fields_in};
-ghost use Rattle.section_spec.specs.Mpe.{IsRealTime, mac_in, mac_with, mpe_bytes, mpe_of, mpe_to_write};
+ghost use Rattle.section_spec.specs.Mpe.{IsRealTime, RealTimeFields, mac_in, mac_with, mpe_bytes, mpe_of, mpe_to_write};
 ghost use Rattle.mpe_section.specs.Views.{real_time_in, given, mpe_in};
 ghost use Rattle.mpe_section.specs.Refusals.{mpe_refusal};
 
-use crate::body::{FLAGS, LAST, NUMBER, TOP, behind_head, byte_at, current_next_indicator};
+use crate::body::{FLAGS, HEAD, LAST, NUMBER, TOP, behind_head, byte_at, current_next_indicator};
 use crate::real_time::{RealTime, number_of, parameters_of};
 use ip_datagram::{IpFault, front};
-use section_codec::{SectionRef, write_in_two};
+use section_codec::{SectionRef, size, write_in_two};
 
 /// A datagram_section.
 #[derive(Clone, Copy, Debug, PartialEq, Eq)]
@@ -120,6 +120,16 @@ pub fn write_mpe(
         None => write_to(mac, datagram, into),
         Some(parameters) => write_to(with_parameters(parameters, mac), datagram, into),
     }
+}
+
+/// Bytes of the datagram_section of so many bytes of a datagram, 4,080 at most: those that `write_mpe` writes.
+pub fn mpe_size(datagram: usize) -> usize
+    requires { datagram ≤ 4080 }
+    ensures size { (mac : List ℕ) (real_time : Option RealTimeFields) (bytes : List ℕ) → length bytes ≡ datagram
+        → result ≡ length (mpe_bytes (mpe_to_write mac real_time bytes)) }
+    ensures sum { result ≡ datagram + 16 }
+{
+    size(HEAD + datagram)
 }
 
 /// The address whose first four bytes are these parameters.

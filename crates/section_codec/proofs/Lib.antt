@@ -1,2 +1,3 @@
 pub mod CheckSum
 pub mod Written
+pub mod Lengths

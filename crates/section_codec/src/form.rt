@@ -12,6 +12,9 @@ use unit_stream::{Span, UnitForm};
 /// Bytes before the body: table_id, then section_length and the four bits before it (ISO/IEC 13818-1 clause 2.4.4).
 pub(crate) const HEAD: usize = 3;
 
+/// The place of table_id.
+pub(crate) const TABLE_ID: usize = 0;
+
 /// Bytes of the CRC_32 at the end.
 pub(crate) const CRC: usize = 4;
 
