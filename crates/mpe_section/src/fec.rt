@@ -10,7 +10,7 @@ ghost use Rattle.section_spec.specs.Mpe.{FecFields, IsWritableFec, fec_bytes, fe
 ghost use Rattle.mpe_section.specs.Views.{fec_in};
 ghost use Rattle.mpe_section.specs.Refusals.{fec_refusal};
 
-use crate::body::{HEAD, LAST, NUMBER, TOP, byte_at, current_next_indicator};
+use crate::body::{HEAD, LAST, NUMBER, PADDING, TOP, byte_at, current_next_indicator};
 use crate::real_time::{RealTime, number_of, parameters_of};
 use section_codec::{SectionRef, size, write_in_two};
 
@@ -74,7 +74,7 @@ pub fn read_fec<'a>(section: &SectionRef<'a>, rows: u16) -> Result<Fec<'a>, FecF
     if !current_next_indicator(body) {
         return Err(FecFault::Next);
     }
-    if byte_at(body, 0) > MOST_PADDING {
+    if byte_at(body, PADDING) > MOST_PADDING {
         return Err(FecFault::Padding);
     }
     if number > last || last > MOST_LAST {
@@ -84,7 +84,7 @@ pub fn read_fec<'a>(section: &SectionRef<'a>, rows: u16) -> Result<Fec<'a>, FecF
         return Err(FecFault::Rows);
     }
     Ok(Fec {
-        padding: body[0],
+        padding: body[PADDING],
         number,
         last,
         real_time: parameters_of(body),

@@ -10,7 +10,9 @@ ghost use Rattle.section_spec.specs.Mpe.{IsRealTime, RealTimeFields, mac_in, mac
 ghost use Rattle.mpe_section.specs.Views.{real_time_in, given, mpe_in};
 ghost use Rattle.mpe_section.specs.Refusals.{mpe_refusal};
 
-use crate::body::{FLAGS, HEAD, LAST, NUMBER, TOP, behind_head, byte_at, current_next_indicator};
+use crate::body::{
+    FLAGS, HEAD, LAST, MAC, NUMBER, TOP, behind_head, byte_at, current_next_indicator,
+};
 use crate::real_time::{RealTime, number_of, parameters_of};
 use ip_datagram::{IpFault, front};
 use section_codec::{SectionRef, size, write_in_two};
@@ -46,6 +48,15 @@ pub enum MpeFault {
 /// table_id of a datagram_section.
 const TABLE_ID: u8 = 0x3E;
 
+/// Both scrambling controls stand above LLC_SNAP_flag and current_next_indicator (EN 301 192 clause 7.1).
+const SCRAMBLING_UNIT: u8 = 4;
+
+/// They, 4 bits, have so many values.
+const SCRAMBLINGS: u8 = 16;
+
+/// LLC_SNAP_flag stands above current_next_indicator.
+const LLC_SNAP_UNIT: u8 = 2;
+
 /// Byte 2 of a written body: two reserved bits, both scrambling controls 0, LLC_SNAP_flag 0, current_next_indicator 1.
 const WRITTEN_FLAGS: u8 = 0xC1;
 
@@ -66,10 +77,10 @@ pub fn read_mpe<'a>(section: &SectionRef<'a>) -> Result<Mpe<'a>, MpeFault>
     if !current_next_indicator(body) {
         return Err(MpeFault::Next);
     }
-    if flags / 4 % 16 != 0 {
+    if flags / SCRAMBLING_UNIT % SCRAMBLINGS != 0 {
         return Err(MpeFault::Scrambled);
     }
-    if flags / 2 % 2 != 0 {
+    if flags / LLC_SNAP_UNIT % 2 != 0 {
         return Err(MpeFault::LlcSnap);
     }
     if byte_at(body, NUMBER) != 0 || byte_at(body, LAST) != 0 {
@@ -91,12 +102,12 @@ fn mac_of(body: &[u8]) -> [u8; 6]
     ensures { result ≡ mac_in body.now }
 {
     [
-        byte_at(body, 8),
-        byte_at(body, 7),
-        byte_at(body, 6),
-        byte_at(body, 5),
-        byte_at(body, 1),
-        byte_at(body, 0),
+        byte_at(body, MAC[0]),
+        byte_at(body, MAC[1]),
+        byte_at(body, MAC[2]),
+        byte_at(body, MAC[3]),
+        byte_at(body, MAC[4]),
+        byte_at(body, MAC[5]),
     ]
 }
 

@@ -8,7 +8,7 @@ ghost use Rattle.std.specs.Result.{result_err};
 ghost use Rattle.section_spec.specs.Section.{IsWritableSection, is_section, has_right_length, section_bytes, section_fields, section_front};
 ghost use Rattle.section_codec.specs.Views.{fields_in, refusal};
 
-use crate::form::{CRC, HEAD, LEAST, MOST, SYNTAX, TABLE_ID, has_its_crc, length_of};
+use crate::form::{CRC, HEAD, LEAST, LENGTH, MOST, SYNTAX, TABLE_ID, has_its_crc, length_of};
 use byte_slices::put;
 use crc_unit::crc32;
 
@@ -56,7 +56,7 @@ pub fn parse(bytes: &[u8]) -> Result<SectionRef<'_>, SectionFault>
     if !is_whole(bytes) {
         return Err(SectionFault::Length);
     }
-    if bytes[1] < SYNTAX {
+    if bytes[LENGTH] < SYNTAX {
         return Err(SectionFault::Syntax);
     }
     if !has_its_crc(bytes) {
@@ -154,8 +154,8 @@ fn write_front(table_id: u8, top: u8, head: &[u8], rest: &[u8], into: &mut [u8])
 {
     let length = head.len() + rest.len() + CRC;
     let number = u16::from(top) * 256 + length as u16;
-    put(into, 0, &[table_id]);
-    put(into, 1, &number.to_be_bytes());
+    put(into, TABLE_ID, &[table_id]);
+    put(into, LENGTH, &number.to_be_bytes());
     put(into, HEAD, head);
     put(into, HEAD + head.len(), rest);
     HEAD + head.len() + rest.len()

@@ -12,6 +12,9 @@ use unit_stream::{Span, UnitForm};
 /// Bytes before the NPA address or the PDU: D and Length, then Type (RFC 4326 section 4).
 pub(crate) const HEAD: usize = 4;
 
+/// The place of Type, after D and Length (RFC 4326 section 4).
+pub(crate) const TYPE: usize = 2;
+
 /// Bytes of an NPA address (RFC 4326 section 4.5).
 pub(crate) const ADDRESS: usize = 6;
 
@@ -34,7 +37,7 @@ const END_INDICATOR: u8 = 0xFF;
 pub(crate) fn span_of(prefix: &[u8]) -> Span
     ensures told { span_told result ≡ sndu_span prefix.now }
 {
-    if prefix.len() < 2 {
+    if prefix.len() < TYPE {
         return Span::More;
     }
     if prefix[0] == END_INDICATOR && prefix[1] == END_INDICATOR {

@@ -9,7 +9,7 @@ ghost use Rattle.ts_spec.specs.Sndu.{is_sndu, sndu_fields, has_right_length, snd
 ghost use Rattle.ule_unit.specs.Views.{fields_in, refusal};
 ghost use Rattle.ule_unit.specs.Writable.{IsAddress, ether_type_of};
 
-use crate::form::{ADDRESS, CRC, D, HEAD, NO_ADDRESS, has_its_crc, span_of};
+use crate::form::{ADDRESS, CRC, D, HEAD, NO_ADDRESS, TYPE, has_its_crc, span_of};
 use byte_slices::put;
 use crc_unit::crc32;
 use unit_stream::Span;
@@ -95,7 +95,7 @@ fn fields_of(unit: &[u8]) -> Sndu<'_>
     ensures within { length result.bytes.now ≤ length unit.now }
 {
     let end = unit.len() - CRC;
-    let first_type = u16::from(unit[2]) * 256 + u16::from(unit[3]);
+    let first_type = u16::from(unit[TYPE]) * 256 + u16::from(unit[TYPE + 1]);
     if unit[0] >= NO_ADDRESS {
         return Sndu {
             npa: None,
@@ -103,7 +103,14 @@ fn fields_of(unit: &[u8]) -> Sndu<'_>
             bytes: &unit[HEAD..end],
         };
     }
-    let npa = [unit[4], unit[5], unit[6], unit[7], unit[8], unit[9]];
+    let npa = [
+        unit[HEAD],
+        unit[HEAD + 1],
+        unit[HEAD + 2],
+        unit[HEAD + 3],
+        unit[HEAD + 4],
+        unit[HEAD + 5],
+    ];
     Sndu {
         npa: Some(npa),
         first_type,
@@ -160,7 +167,7 @@ fn write_front(npa: Option<[u8; 6]>, ether_type: u16, datagram: &[u8], into: &mu
 {
     let head = first_number(&npa, datagram.len() as u16);
     put(into, 0, &head.to_be_bytes());
-    put(into, 2, &ether_type.to_be_bytes());
+    put(into, TYPE, &ether_type.to_be_bytes());
     let address = bytes_of(&npa);
     put(into, HEAD, address);
     let start = HEAD + address.len();
