@@ -1,11 +1,12 @@
 //! One frame: its header is tested and its data field lent, or the first test that fails is named; frames are written.
 //!
 //! MATYPE in bytes 0 and 1, UPL in 2 and 3, DFL in 4 and 5, SYNC in 6, SYNCD in 7 and 8, CRC-8 in 9, then the data field.
-ghost use Rattle.std.specs.Prelude.{◌≡◌, ◌+◌, ◌-◌, ◌≤◌, ◌++◌, ◌∷◌, [], take, drop, replicate, length, Some, IfOk, IfErr, is_ok};
+ghost use Rattle.std.specs.Prelude.{◌≡◌, ◌+◌, ◌-◌, ◌≤◌, ◌++◌, ◌∷◌, [], take, replicate, length, Some, IfOk, IfErr, is_ok};
 ghost use Rattle.gse_spec.specs.Frame.{frame_refusal, frame_fields, frame_head, frame_bytes, is_frame};
 ghost use Rattle.wire_spec.specs.Crc.{crc8_remainder};
 ghost use Rattle.bb_frame.specs.Views.{fields_in, refusal_in};
 
+use byte_slices::put;
 use crc_unit::crc8;
 
 /// A frame that can be read, its data field lent out of its bytes.
@@ -93,14 +94,6 @@ fn head_of(isi: u8, size: u16) -> [u8; 10]
     let [high, low] = (8 * size).to_be_bytes();
     let sum = crc8(&[WRITTEN_KIND, isi, 0, 0, high, low, 0, 0, 0]);
     [WRITTEN_KIND, isi, 0, 0, high, low, 0, 0, 0, sum]
-}
-
-/// Puts `piece` into `into`, from byte `at` on.
-fn put(into: &mut [u8], at: usize, piece: &[u8])
-    requires { at + length piece.now ≤ length into.old }
-    ensures put { into.new ≡ take at into.old ++ (piece.now ++ drop (at + length piece.now) into.old) }
-{
-    into[at..at + piece.len()].copy_from_slice(piece);
 }
 
 /// Sets the bytes from a place on to zero.

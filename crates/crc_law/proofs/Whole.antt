@@ -1,5 +1,5 @@
 -- The register of CRC_32 over pieces, and over bytes with a check sum after them.
-use Rattle.std.proofs.Common.{ℕ, zero, suc, List, [], ◌∷◌, ◌++◌, ◌≡◌, ◌+◌, ◌*◌, ◌/◌, ◌%◌, ◌^◌, ◌<◌, ◌==◌, inl, inr, refl, ap, ap₂, sym, subst, ◌∙◌, arith, lit<, Bool, bit_xor}
+use Rattle.std.proofs.Common.{ℕ, zero, suc, List, [], ◌∷◌, ◌++◌, ◌≡◌, ◌+◌, ◌*◌, ◌/◌, ◌%◌, ◌^◌, ◌<◌, ◌==◌, inl, inr, refl, ap, ap₂, sym, ◌∙◌, arith, lit<, Bool, bit_xor}
 use Rattle.std.specs.Int.{bit_at}
 use Rattle.std.specs.Int.Bits.{xor_lt, xor_self, xor_zero_r}
 use lib.Bits.{xor_assoc}
@@ -16,6 +16,7 @@ use Rattle.division_law.proofs.Division.{run}
 use Rattle.division_law.proofs.Linear.{bits_equal}
 use Rattle.division_law.proofs.Registers.{step_low, step_high, steps_none, steps_more, steps_fit, run_byte, crc32_run_is, crc32_run-append, crc32_law}
 use Rattle.crc_law.specs.Whole.{four_bytes}
+use Rattle.crc_law.proofs.CheckSum.{crc32_below}
 
 -- a message in two pieces
 pub remainder-append : (r : ℕ) (a b : List ℕ) → r < 2 ^ 32 → AreBytes a → AreBytes b → crc32_remainder r (a ++ b) ≡ crc32_remainder (crc32_remainder r a) b
@@ -88,15 +89,11 @@ steps_zero : (n : ℕ) → register_steps 31 0x04C1_1DB7 n 0 ≡ 0
 steps_zero zero = steps_none 31 0x04C1_1DB7 0
 steps_zero (suc n) = steps_more 31 0x04C1_1DB7 n 0 ∙ steps_zero n
 
--- the remainder keeps 32 bits
-remainder_fits : (r : ℕ) (bytes : List ℕ) → r < 2 ^ 32 → AreBytes bytes → crc32_remainder r bytes < 2 ^ 32
-remainder_fits r bytes small all = let first = crc32_run_is bytes r small all in subst (λ t. t < 2 ^ 32) (crc32_law r bytes small all) (first.1)
-
 -- over the whole unit, its check sum included, the register ends at 0
 pub whole_zero : (r : ℕ) (bytes : List ℕ) → r < 2 ^ 32 → AreBytes bytes → crc32_remainder r (bytes ++ four_bytes (crc32_remainder r bytes)) ≡ 0
 whole_zero r bytes small all =
     let q : ℕ = crc32_remainder r bytes in
-    over_unit r q bytes small (remainder_fits r bytes small all) all
+    over_unit r q bytes small (crc32_below r bytes) all
     ∙ ap (λ t. register_steps 31 0x04C1_1DB7 32 t) (xor_self q) ∙ steps_zero 32
 
 -- numbers with the same bits are equal, said by their exclusive or

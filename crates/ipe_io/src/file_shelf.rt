@@ -4,7 +4,8 @@ ghost use Rattle.ipe_io.specs.Counts.{longest_file};
 
 use crate::outside::LONGEST_FILE;
 use crate::{Failed, LoadFault, Shelf, StdSource, fill};
-use std::alloc::{AllocError as OutOfMemory, Global};
+use byte_slices::zeros;
+use std::alloc::Global;
 use std::fs;
 use std::io::ErrorKind;
 use std::marker::Model;
@@ -71,11 +72,4 @@ fn load_from<R: Files>(system: &R, alloc: Global, name: &str) -> Result<Vec<u8>,
         }
         Err(Failed) => Err(LoadFault::Failed),
     }
-}
-
-// So many zeros.
-fn zeros(alloc: Global, count: usize) -> Result<Vec<u8>, OutOfMemory>
-    ensures { IfOk result (λ bytes. length bytes.items ≡ count) }
-{
-    vec![in alloc; 0u8; count]
 }

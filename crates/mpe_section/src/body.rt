@@ -17,6 +17,15 @@ pub(crate) const NUMBER: usize = 3;
 /// The place of last_section_number.
 pub(crate) const LAST: usize = 4;
 
+/// The places of MAC_address_1 to MAC_address_6 (EN 301 192 clause 7.1).
+pub(crate) const MAC: [usize; 6] = [8, 7, 6, 5, 1, 0];
+
+/// The place of real_time_parameters, which stand where MAC_address_4 to _1 do (EN 301 192 clause 9).
+pub(crate) const REAL_TIME: usize = 5;
+
+/// The place of padding_columns (EN 301 192 clause 9).
+pub(crate) const PADDING: usize = 0;
+
 /// The upper half of byte 1 of a section: section_syntax_indicator, a private bit of 0, and two reserved bits.
 pub(crate) const TOP: u8 = 0xB0;
 

@@ -6,13 +6,13 @@
 ghost use Rattle.std.specs.Prelude.{◌≡◌, ◌≤◌, ◌+◌, ◌++◌, Some, None, length, drop, IfOk, OnErr};
 ghost use Rattle.std.specs.Result.{result_err};
 ghost use Rattle.section_codec.specs.Views.{fields_in};
-ghost use Rattle.section_spec.specs.Mpe.{IsWritableFec, fec_bytes, fec_of};
+ghost use Rattle.section_spec.specs.Mpe.{FecFields, IsWritableFec, fec_bytes, fec_of};
 ghost use Rattle.mpe_section.specs.Views.{fec_in};
 ghost use Rattle.mpe_section.specs.Refusals.{fec_refusal};
 
-use crate::body::{HEAD, LAST, NUMBER, TOP, byte_at, current_next_indicator};
+use crate::body::{HEAD, LAST, NUMBER, PADDING, TOP, byte_at, current_next_indicator};
 use crate::real_time::{RealTime, number_of, parameters_of};
-use section_codec::{SectionRef, write_in_two};
+use section_codec::{SectionRef, size, write_in_two};
 
 /// An MPE-FEC section.
 #[derive(Clone, Copy, Debug, PartialEq, Eq)]
@@ -74,7 +74,7 @@ pub fn read_fec<'a>(section: &SectionRef<'a>, rows: u16) -> Result<Fec<'a>, FecF
     if !current_next_indicator(body) {
         return Err(FecFault::Next);
     }
-    if byte_at(body, 0) > MOST_PADDING {
+    if byte_at(body, PADDING) > MOST_PADDING {
         return Err(FecFault::Padding);
     }
     if number > last || last > MOST_LAST {
@@ -84,7 +84,7 @@ pub fn read_fec<'a>(section: &SectionRef<'a>, rows: u16) -> Result<Fec<'a>, FecF
         return Err(FecFault::Rows);
     }
     Ok(Fec {
-        padding: body[0],
+        padding: body[PADDING],
         number,
         last,
         real_time: parameters_of(body),
@@ -114,4 +114,13 @@ pub fn write_fec(fec: &Fec<'_>, into: &mut [u8]) -> usize
         time[3],
     ];
     write_in_two(TABLE_ID, TOP, &head, fec.column, into)
+}
+
+/// Bytes of the MPE-FEC section of a column of so many bytes, 4,080 at most: those that `write_fec` writes.
+pub fn fec_size(column: usize) -> usize
+    requires { column ≤ 4080 }
+    ensures size { (fec : FecFields) → length fec.column ≡ column → result ≡ length (fec_bytes fec) }
+    ensures sum { result ≡ column + 16 }
+{
+    size(HEAD + column)
 }

@@ -11,12 +11,12 @@ mod laws;
 mod mpe;
 mod real_time;
 
-pub use fec::{Fec, FecFault, read_fec, write_fec};
+pub use fec::{Fec, FecFault, fec_size, read_fec, write_fec};
 pub use laws::{
     a_written_datagram_section_reads_back, a_written_fec_section_reads_back,
     an_address_and_parameters_are_two_readings, an_address_or_parameters_can_be_written,
 };
-pub use mpe::{Mpe, MpeFault, read_mpe, write_mpe};
+pub use mpe::{Mpe, MpeFault, mpe_size, read_mpe, write_mpe};
 pub use real_time::RealTime;
 
 #[cfg(test)]

@@ -3,17 +3,19 @@
 //! Reading: a section comes in, and its fields go out, or why it carries no datagram.
 //! Writing: an address, parameters and a datagram come in, and the section goes into the caller's bytes.
 
-ghost use Rattle.std.specs.Prelude.{◌≡◌, ◌≤◌, ◌+◌, ◌++◌, Some, None, length, drop, IfOk, IfSome, OnErr};
+ghost use Rattle.std.specs.Prelude.{◌≡◌, ◌≤◌, ◌+◌, ◌++◌, ℕ, List, Option, Some, None, length, drop, IfOk, IfSome, OnErr};
 ghost use Rattle.std.specs.Result.{result_err};
 ghost use Rattle.section_codec.specs.Views.{fields_in};
-ghost use Rattle.section_spec.specs.Mpe.{IsRealTime, mac_in, mac_with, mpe_bytes, mpe_of, mpe_to_write};
+ghost use Rattle.section_spec.specs.Mpe.{IsRealTime, RealTimeFields, mac_in, mac_with, mpe_bytes, mpe_of, mpe_to_write};
 ghost use Rattle.mpe_section.specs.Views.{real_time_in, given, mpe_in};
 ghost use Rattle.mpe_section.specs.Refusals.{mpe_refusal};
 
-use crate::body::{FLAGS, LAST, NUMBER, TOP, behind_head, byte_at, current_next_indicator};
+use crate::body::{
+    FLAGS, HEAD, LAST, MAC, NUMBER, TOP, behind_head, byte_at, current_next_indicator,
+};
 use crate::real_time::{RealTime, number_of, parameters_of};
 use ip_datagram::{IpFault, front};
-use section_codec::{SectionRef, write_in_two};
+use section_codec::{SectionRef, size, write_in_two};
 
 /// A datagram_section.
 #[derive(Clone, Copy, Debug, PartialEq, Eq)]
@@ -46,6 +48,15 @@ pub enum MpeFault {
 /// table_id of a datagram_section.
 const TABLE_ID: u8 = 0x3E;
 
+/// Both scrambling controls stand above LLC_SNAP_flag and current_next_indicator (EN 301 192 clause 7.1).
+const SCRAMBLING_UNIT: u8 = 4;
+
+/// They, 4 bits, have so many values.
+const SCRAMBLINGS: u8 = 16;
+
+/// LLC_SNAP_flag stands above current_next_indicator.
+const LLC_SNAP_UNIT: u8 = 2;
+
 /// Byte 2 of a written body: two reserved bits, both scrambling controls 0, LLC_SNAP_flag 0, current_next_indicator 1.
 const WRITTEN_FLAGS: u8 = 0xC1;
 
@@ -66,10 +77,10 @@ pub fn read_mpe<'a>(section: &SectionRef<'a>) -> Result<Mpe<'a>, MpeFault>
     if !current_next_indicator(body) {
         return Err(MpeFault::Next);
     }
-    if flags / 4 % 16 != 0 {
+    if flags / SCRAMBLING_UNIT % SCRAMBLINGS != 0 {
         return Err(MpeFault::Scrambled);
     }
-    if flags / 2 % 2 != 0 {
+    if flags / LLC_SNAP_UNIT % 2 != 0 {
         return Err(MpeFault::LlcSnap);
     }
     if byte_at(body, NUMBER) != 0 || byte_at(body, LAST) != 0 {
@@ -91,12 +102,12 @@ fn mac_of(body: &[u8]) -> [u8; 6]
     ensures { result ≡ mac_in body.now }
 {
     [
-        byte_at(body, 8),
-        byte_at(body, 7),
-        byte_at(body, 6),
-        byte_at(body, 5),
-        byte_at(body, 1),
-        byte_at(body, 0),
+        byte_at(body, MAC[0]),
+        byte_at(body, MAC[1]),
+        byte_at(body, MAC[2]),
+        byte_at(body, MAC[3]),
+        byte_at(body, MAC[4]),
+        byte_at(body, MAC[5]),
     ]
 }
 
@@ -120,6 +131,16 @@ pub fn write_mpe(
         None => write_to(mac, datagram, into),
         Some(parameters) => write_to(with_parameters(parameters, mac), datagram, into),
     }
+}
+
+/// Bytes of the datagram_section of so many bytes of a datagram, 4,080 at most: those that `write_mpe` writes.
+pub fn mpe_size(datagram: usize) -> usize
+    requires { datagram ≤ 4080 }
+    ensures size { (mac : List ℕ) (real_time : Option RealTimeFields) (bytes : List ℕ) → length bytes ≡ datagram
+        → result ≡ length (mpe_bytes (mpe_to_write mac real_time bytes)) }
+    ensures sum { result ≡ datagram + 16 }
+{
+    size(HEAD + datagram)
 }
 
 /// The address whose first four bytes are these parameters.

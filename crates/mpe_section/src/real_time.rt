@@ -7,7 +7,7 @@ ghost use Rattle.wire_spec.specs.Bytes.{u32_at};
 ghost use Rattle.section_spec.specs.Mpe.{IsRealTime, real_time_of, real_time_number};
 ghost use Rattle.mpe_section.specs.Views.{real_time_in};
 
-use crate::body::byte_at;
+use crate::body::{REAL_TIME, byte_at};
 
 /// real_time_parameters: when the next burst comes, what ends with this section, and where its bytes belong.
 #[derive(Clone, Copy, Debug, PartialEq, Eq)]
@@ -36,10 +36,10 @@ pub(crate) fn parameters_of(body: &[u8]) -> RealTime
     ensures read { real_time_in result ≡ real_time_of (u32_at body.now 5) }
 {
     of_number(u32::from_be_bytes([
-        byte_at(body, 5),
-        byte_at(body, 6),
-        byte_at(body, 7),
-        byte_at(body, 8),
+        byte_at(body, REAL_TIME),
+        byte_at(body, REAL_TIME + 1),
+        byte_at(body, REAL_TIME + 2),
+        byte_at(body, REAL_TIME + 3),
     ]))
 }
 

@@ -1,69 +1,8 @@
--- A CRC_32 fits four bytes, and fewer than four bytes do not end with the CRC_32 of what is before them.
-use Rattle.std.proofs.Common.{◌≡◌, ℕ, zero, suc, ◌+◌, ◌-◌, ◌*◌, ◌^◌, ◌<◌, Bool, true, false, List, [], ◌∷◌, ◌++◌, length, take, drop, sym, subst, ◌∙◌, arith, lit<, pow-suc, refl}
-use Rattle.std.specs.Prelude.{slice_index, ◌&&◌, replicate, if◌then◌else◌, ◌==◌}
-use Rattle.std.proofs.lemmas.Bool.{ne_eqb}
-use Rattle.std.proofs.lemmas.List.{length-append, length-replicate, length-drop, get_or_past}
-use Rattle.std.proofs.lemmas.List.Elements.{All-nil}
-use Rattle.wire_spec.specs.Bytes.{u32_at}
-use Rattle.wire_spec.specs.BitPolynomials.{bits, number_of, added_front, divided, remainder}
-use Rattle.wire_spec.specs.Crc.{bits_of, crc_remainder, crc32_remainder}
-use Rattle.division_law.proofs.Fronts.{length-added}
-use Rattle.division_law.proofs.Lines.{length-bits}
-use Rattle.division_law.proofs.Registers.{crc32_law}
+-- Fewer than four bytes are no section that passes its check.
+use Rattle.std.proofs.Common.{◌≡◌, ℕ, ◌<◌, Bool, true, false, List, length, refl}
+use Rattle.std.specs.Prelude.{◌&&◌}
+use Rattle.crc_law.proofs.CheckSum.{short_has_no_crc}
 use Rattle.section_spec.specs.Section.{has_right_crc, has_syntax, section_check}
-
--- a step of division drops a bit
-length-step : (divisor line : List Bool) (b : Bool) → length (drop 1 (if b then added_front divisor (b ∷ line) else b ∷ line)) ≡ length line
-length-step divisor line true = length-drop 1 (added_front divisor (true ∷ line)) ∙ (omega (arith, length-added divisor (true ∷ line)))
-length-step divisor line false = refl
-
-length-divided : (n : ℕ) (divisor line : List Bool) → length (divided n divisor line) ≡ length line - n
-unfolding divided
-length-divided zero divisor line = omega arith
-length-divided (suc n) divisor [] = omega arith
-length-divided (suc n) divisor (b ∷ line) =
-    let rest : List Bool = drop 1 (if b then added_front divisor (b ∷ line) else b ∷ line) in
-    omega (arith, length-divided n divisor rest, length-step divisor line b)
-
--- so many bits are a number below that power of two
-number_below : (line : List Bool) → number_of line < 2 ^ length line
-number_below [] = omega arith
-number_below (true ∷ line) = omega (arith, number_below line, pow-suc 2 (length line))
-number_below (false ∷ line) = omega (arith, number_below line, pow-suc 2 (length line))
-
-length-bits_of : (bytes : List ℕ) → length (bits_of bytes) ≡ 8 * length bytes
-length-bits_of [] = refl
-length-bits_of (byte ∷ bytes) = omega (arith, length-append (bits 8 byte) (bits_of bytes), length-bits 8 byte, length-bits_of bytes)
-
-pub crc32_below : (start : ℕ) (bytes : List ℕ) → crc32_remainder start bytes < 2 ^ 32
-unfolding crc_remainder remainder
-crc32_below start bytes =
-    let divisor : List Bool = bits 33 0x1_04C1_1DB7 in
-    let message : List Bool = bits_of bytes ++ replicate 32 false in
-    let line : List Bool = added_front (bits 32 start) message in
-    let rest : List Bool = remainder divisor line in
-    let whole : length message ≡ 8 * length bytes + 32 =
-    omega (arith, length-append (bits_of bytes) (replicate 32 false), length-bits_of bytes, length-replicate 32 false) in
-    let left : length rest ≡ 32 =
-    omega (arith, length-divided (length line + 1 - length divisor) divisor line, length-added (bits 32 start) message, length-bits 33 0x1_04C1_1DB7) in
-    subst (λ n. number_of rest < 2 ^ n) left (number_below rest)
-
--- the register before the first byte
-nothing : crc32_remainder 0xFFFF_FFFF [] ≡ 0xFFFF_FFFF
-nothing = sym (crc32_law 0xFFFF_FFFF [] (lit< tt) (All-nil (λ byte. byte < 256)))
-
--- fewer than four bytes end with a zero, as far as they are read
-differs : (bytes : List ℕ) → length bytes < 4 → 0xFFFF_FFFF ≡ u32_at bytes 0 → ⊥
-differs bytes few same =
-    let last : slice_index bytes 3 ≡ 0 = get_or_past bytes 3 0 (omega arith) in
-    omega arith
-
-at_zero : (bytes : List ℕ) (end : ℕ) → end ≡ 0 → length bytes < 4 → (crc32_remainder 0xFFFF_FFFF (take end bytes) == u32_at bytes end) ≡ false
-at_zero bytes end none few =
-    rw (none, nothing) (ne_eqb 0xFFFF_FFFF (u32_at bytes 0) (differs bytes few))
-
-pub has_right_crc_short : (bytes : List ℕ) → length bytes < 4 → has_right_crc bytes ≡ false
-has_right_crc_short bytes few = at_zero bytes (length bytes - 4) (omega arith) few
 
 -- either way false
 and_false : (t u : Bool) → u ≡ false → (t && u) ≡ false
@@ -71,4 +10,4 @@ and_false true u e = e
 and_false false u e = refl
 
 pub section_check_short : (bytes : List ℕ) → length bytes < 4 → section_check bytes ≡ false
-section_check_short bytes few = and_false (has_syntax bytes) (has_right_crc bytes) (has_right_crc_short bytes few)
+section_check_short bytes few = and_false (has_syntax bytes) (has_right_crc bytes) (short_has_no_crc bytes few)

@@ -1,3 +1,3 @@
 pub mod CheckSum
-pub mod Puts
 pub mod Written
+pub mod Lengths

@@ -12,6 +12,12 @@ use unit_stream::{Span, UnitForm};
 /// Bytes before the body: table_id, then section_length and the four bits before it (ISO/IEC 13818-1 clause 2.4.4).
 pub(crate) const HEAD: usize = 3;
 
+/// The place of table_id.
+pub(crate) const TABLE_ID: usize = 0;
+
+/// The place of the two bytes with section_syntax_indicator and section_length.
+pub(crate) const LENGTH: usize = 1;
+
 /// Bytes of the CRC_32 at the end.
 pub(crate) const CRC: usize = 4;
 
@@ -35,7 +41,7 @@ pub(crate) fn length_of(prefix: &[u8]) -> usize
     requires { 3 ≤ length prefix.now }
     ensures { result ≡ section_length prefix.now }
 {
-    (usize::from(prefix[1]) * 256 + usize::from(prefix[2])) % LENGTH_VALUES
+    (usize::from(prefix[LENGTH]) * 256 + usize::from(prefix[LENGTH + 1])) % LENGTH_VALUES
 }
 
 /// What `prefix` tells of the section at its front.
@@ -45,14 +51,14 @@ pub(crate) fn span_of(prefix: &[u8]) -> Span
     if prefix.is_empty() {
         return Span::More;
     }
-    if prefix[0] == STUFFING {
+    if prefix[TABLE_ID] == STUFFING {
         return Span::Stuffing;
     }
     if prefix.len() < HEAD {
         return Span::More;
     }
     let length = length_of(prefix);
-    if length > MOST || prefix[1] >= SYNTAX && length < LEAST {
+    if length > MOST || prefix[LENGTH] >= SYNTAX && length < LEAST {
         Span::Bad
     } else {
         Span::Whole(HEAD + length)
@@ -60,7 +66,7 @@ pub(crate) fn span_of(prefix: &[u8]) -> Span
 }
 
 /// Whether the last four bytes are the CRC_32 of all before them (ISO/IEC 13818-1 annex A).
-#[tactic(auto, using(crate::proofs::CheckSum::has_right_crc_short))]
+#[tactic(auto, using(crc_law::proofs::CheckSum::short_has_no_crc))]
 pub(crate) fn has_its_crc(unit: &[u8]) -> bool
     ensures checked { result ≡ has_right_crc unit.now }
 {
@@ -77,7 +83,7 @@ pub(crate) fn has_its_crc(unit: &[u8]) -> bool
 pub(crate) fn is_checked(unit: &[u8]) -> bool
     ensures checked { result ≡ section_check unit.now }
 {
-    if unit.len() < HEAD || unit[1] < SYNTAX {
+    if unit.len() < HEAD || unit[LENGTH] < SYNTAX {
         return false;
     }
     has_its_crc(unit)

@@ -3,12 +3,13 @@
 //! Reading: one whole unit comes in, and its fields go out, or why it is no section.
 //! Writing: a table_id, the upper half of byte 1 and a body come in, and the section goes into the caller's bytes.
 
-ghost use Rattle.std.specs.Prelude.{◌≡◌, ◌≤◌, ◌+◌, ◌++◌, length, take, drop, IfOk, is_ok};
+ghost use Rattle.std.specs.Prelude.{◌≡◌, ◌≤◌, ◌+◌, ◌++◌, ℕ, List, true, length, drop, nat_lt, IfOk, IfSome, is_ok, is_some};
 ghost use Rattle.std.specs.Result.{result_err};
 ghost use Rattle.section_spec.specs.Section.{IsWritableSection, is_section, has_right_length, section_bytes, section_fields, section_front};
 ghost use Rattle.section_codec.specs.Views.{fields_in, refusal};
 
-use crate::form::{CRC, HEAD, LEAST, MOST, SYNTAX, has_its_crc, length_of};
+use crate::form::{CRC, HEAD, LEAST, LENGTH, MOST, SYNTAX, TABLE_ID, has_its_crc, length_of};
+use byte_slices::put;
 use crc_unit::crc32;
 
 /// A section: its table_id, and what stands between section_length and the CRC_32.
@@ -55,16 +56,66 @@ pub fn parse(bytes: &[u8]) -> Result<SectionRef<'_>, SectionFault>
     if !is_whole(bytes) {
         return Err(SectionFault::Length);
     }
-    if bytes[1] < SYNTAX {
+    if bytes[LENGTH] < SYNTAX {
         return Err(SectionFault::Syntax);
     }
     if !has_its_crc(bytes) {
         return Err(SectionFault::Crc);
     }
-    Ok(SectionRef {
-        table_id: bytes[0],
+    Ok(fields_of(bytes))
+}
+
+/// Reads one whole section whose section_syntax_indicator and CRC_32 were tested before, as those of each unit are that
+/// reassembly gives: they are not tested again.
+///
+/// None: section_length is below 9 or above 4,093, or the bytes are not as many as it says.
+#[tactic(auto, using(crate::proofs::Lengths::short_has_no_right_length))]
+pub fn parse_checked(bytes: &[u8]) -> Option<SectionRef<'_>>
+    ensures only { is_some result ≡ has_right_length bytes.now }
+    ensures read { IfSome result (λ s. fields_in s ≡ section_fields bytes.now) }
+    ensures within { IfSome result (λ s. length s.body.now + 7 ≡ length bytes.now) }
+{
+    if bytes.len() < HEAD {
+        return None;
+    }
+    if is_whole(bytes) {
+        Some(fields_of(bytes))
+    } else {
+        None
+    }
+}
+
+/// The fields of bytes that are as many as section_length says.
+fn fields_of(bytes: &[u8]) -> SectionRef<'_>
+    requires { has_right_length bytes.now ≡ true }
+    ensures read { fields_in result ≡ section_fields bytes.now }
+    ensures within { length result.body.now + 7 ≡ length bytes.now }
+{
+    SectionRef {
+        table_id: bytes[TABLE_ID],
         body: &bytes[HEAD..bytes.len() - CRC],
-    })
+    }
+}
+
+/// table_id of the section at the front of some bytes; None where there are none.
+pub fn table_id(bytes: &[u8]) -> Option<u8>
+    ensures only { is_some result ≡ nat_lt 0 (length bytes.now) }
+    ensures read { IfSome result (λ id. id ≡ (section_fields bytes.now).table_id) }
+{
+    if bytes.is_empty() {
+        None
+    } else {
+        Some(bytes[TABLE_ID])
+    }
+}
+
+/// Bytes of a section whose body has so many, 4,089 at most: those that `write` writes.
+pub fn size(body: usize) -> usize
+    requires { body ≤ 4089 }
+    ensures size { (table_id top : ℕ) (bytes : List ℕ) → length bytes ≡ body → result ≡ length (section_bytes table_id top bytes) }
+    ensures sum { result ≡ body + 7 }
+{
+    HEAD + body + CRC
 }
 
 /// Writes the section with this table_id, upper half of byte 1 and body to the front of `into`; answers its length.
@@ -103,17 +154,9 @@ fn write_front(table_id: u8, top: u8, head: &[u8], rest: &[u8], into: &mut [u8])
 {
     let length = head.len() + rest.len() + CRC;
     let number = u16::from(top) * 256 + length as u16;
-    put(into, 0, &[table_id]);
-    put(into, 1, &number.to_be_bytes());
+    put(into, TABLE_ID, &[table_id]);
+    put(into, LENGTH, &number.to_be_bytes());
     put(into, HEAD, head);
     put(into, HEAD + head.len(), rest);
     HEAD + head.len() + rest.len()
-}
-
-/// Puts `piece` into `into`, from byte `at` on.
-fn put(into: &mut [u8], at: usize, piece: &[u8])
-    requires { at + length piece.now ≤ length into.old }
-    ensures put { into.new ≡ take at into.old ++ (piece.now ++ drop (at + length piece.now) into.old) }
-{
-    into[at..at + piece.len()].copy_from_slice(piece);
 }

@@ -1,3 +1,1 @@
-pub mod CheckSum
-pub mod Puts
 pub mod Written

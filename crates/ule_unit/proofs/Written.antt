@@ -1,22 +1,19 @@
 -- The bytes that are written for an SNDU: their length, their span, their check, their fields.
 use Rattle.std.proofs.Common.{◌≡◌, ℕ, ◌+◌, ◌-◌, ◌*◌, ◌/◌, ◌%◌, ◌^◌, ◌<◌, ◌≤◌, Bool, true, false, Option, Some, None, List, [], ◌∷◌, ◌++◌, length, take, drop, refl, ap, sym, ◌∙◌, length-append, arith, eq-eqb, eqb-true}
-use Rattle.std.specs.Prelude.{slice_index, ◌&&◌, ◌==◌, nat_lt, nat_le, if◌then◌else◌}
+use Rattle.std.specs.Prelude.{◌&&◌, ◌==◌, nat_lt, nat_le, if◌then◌else◌}
 use Rattle.std.specs.Int.{w32, to_be_bytes}
 use Rattle.std.proofs.lemmas.Bool.{ne_eqb, le-ltb, le-leb, lt-leb}
-use Rattle.std.proofs.lemmas.List.{append-nil, take_at, get_or-append-add}
-use Rattle.wire_spec.specs.Bytes.{u16_at, u32_at, six_at}
+use Rattle.std.proofs.lemmas.List.{append-nil, take_at}
+use Rattle.wire_spec.specs.Bytes.{u16_at, six_at}
 use Rattle.wire_spec.specs.Crc.{crc32_remainder}
+use Rattle.crc_law.proofs.CheckSum.{written_crc_is_right}
 use Rattle.ts_spec.specs.Form.{whole}
-use Rattle.ts_spec.specs.Sndu.{sndu_span, sndu_fields, sndu_front, sndu_bytes, address_bytes, lacks_address, length_field, least_length, is_end_indicator, has_right_crc, has_right_length, is_whole_of, is_sndu}
+use Rattle.ts_spec.specs.Sndu.{sndu_span, sndu_fields, sndu_front, sndu_bytes, address_bytes, lacks_address, length_field, least_length, is_end_indicator, has_right_length, is_whole_of, is_sndu}
 use Rattle.ule_unit.specs.Writable.{IsWritable}
-use Rattle.ule_unit.proofs.CheckSum.{crc32_below}
 
 -- the number in the bytes that were written of it
 two_bytes : (n : ℕ) → n < 2 ^ 16 → n / 256 % 256 * 256 + n % 256 ≡ n
 two_bytes n below = omega arith
-
-four_bytes : (n : ℕ) → n < 2 ^ 32 → (n / 16777216 % 256 * 256 + n / 65536 % 256) * 65536 + (n / 256 % 256 * 256 + n % 256) ≡ n
-four_bytes n below = omega arith
 
 -- D as the first of the two bytes has it
 has_d : (n : ℕ) → 2 ^ 15 ≤ n → n < 2 ^ 16 → nat_le 0x80 (n / 256 % 256) ≡ true
@@ -74,27 +71,6 @@ sndu_span-sndu_bytes (Some npa) first_type pdu rest writable =
     span_of_numbered n (length (sndu_bytes (Some npa) first_type pdu)) false (drop 2 (sndu_bytes (Some npa) first_type pdu ++ rest)) (omega arith) (has_no_d n (omega arith)) (omega arith)
     (omega (arith, length-sndu_bytes (Some npa) first_type pdu))
 
--- a place after a front
-at_behind : (front back : List ℕ) (place n : ℕ) → place ≡ length front + n → slice_index (front ++ back) place ≡ slice_index back n
-at_behind front back place n e = ap (λ (k : ℕ). slice_index (front ++ back) k) e ∙ get_or-append-add front back n 0
-
--- the CRC-32 that is written is the right one
-has_right_crc_behind : (front : List ℕ) → has_right_crc (front ++ to_be_bytes w32 (crc32_remainder 0xFFFF_FFFF front)) ≡ true
-has_right_crc_behind front =
-    let sum : ℕ = crc32_remainder 0xFFFF_FFFF front in
-    let back : List ℕ = to_be_bytes w32 sum in
-    let all : List ℕ = front ++ back in
-    let end : ℕ = length front in
-    let before : length all - 4 ≡ end = omega (arith, length-append front back) in
-    let first : slice_index all end ≡ sum / 16777216 % 256 = at_behind front back end 0 (omega arith) in
-    let second : slice_index all (end + 1) ≡ sum / 65536 % 256 = at_behind front back (end + 1) 1 refl in
-    let third : slice_index all (end + 2) ≡ sum / 256 % 256 = at_behind front back (end + 2) 2 refl in
-    let fourth : slice_index all (end + 2 + 1) ≡ sum % 256 = at_behind front back (end + 2 + 1) 3 (omega arith) in
-    let told : u32_at all end ≡ sum = rw (first, second, third, fourth) (four_bytes sum (crc32_below 0xFFFF_FFFF front)) in
-    let right : crc32_remainder 0xFFFF_FFFF (take end all) ≡ u32_at all end =
-    ap (crc32_remainder 0xFFFF_FFFF) (take_at front back end refl) ∙ sym told in
-    rw before (eq-eqb (crc32_remainder 0xFFFF_FFFF (take end all)) (u32_at all end) right)
-
 pub is_sndu-sndu_bytes : (npa : Option (List ℕ)) (first_type : ℕ) (pdu : List ℕ) → IsWritable npa first_type pdu
     → is_sndu (sndu_bytes npa first_type pdu) ≡ true
 is_sndu-sndu_bytes npa first_type pdu writable =
@@ -102,7 +78,7 @@ is_sndu-sndu_bytes npa first_type pdu writable =
     let span : sndu_span unit ≡ whole (length unit) =
     sym (ap sndu_span (append-nil unit)) ∙ sndu_span-sndu_bytes npa first_type pdu [] writable in
     let size : has_right_length unit ≡ true = ap (is_whole_of (length unit)) span ∙ eq-eqb (length unit) (length unit) refl in
-    rw (size, has_right_crc_behind (sndu_front npa first_type pdu)) refl
+    rw (size, written_crc_is_right (sndu_front npa first_type pdu)) refl
 
 -- the fields of bytes without an address, and with one
 fields_without : (bytes pdu : List ℕ) (first_type : ℕ) → lacks_address bytes ≡ true → u16_at bytes 2 ≡ first_type

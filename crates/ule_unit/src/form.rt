@@ -12,6 +12,9 @@ use unit_stream::{Span, UnitForm};
 /// Bytes before the NPA address or the PDU: D and Length, then Type (RFC 4326 section 4).
 pub(crate) const HEAD: usize = 4;
 
+/// The place of Type, after D and Length (RFC 4326 section 4).
+pub(crate) const TYPE: usize = 2;
+
 /// Bytes of an NPA address (RFC 4326 section 4.5).
 pub(crate) const ADDRESS: usize = 6;
 
@@ -34,7 +37,7 @@ const END_INDICATOR: u8 = 0xFF;
 pub(crate) fn span_of(prefix: &[u8]) -> Span
     ensures told { span_told result ≡ sndu_span prefix.now }
 {
-    if prefix.len() < 2 {
+    if prefix.len() < TYPE {
         return Span::More;
     }
     if prefix[0] == END_INDICATOR && prefix[1] == END_INDICATOR {
@@ -54,7 +57,7 @@ pub(crate) fn span_of(prefix: &[u8]) -> Span
 }
 
 /// Whether the last four bytes are the CRC-32 of all before them (RFC 4326 section 4.6).
-#[tactic(auto, using(crate::proofs::CheckSum::has_right_crc_short))]
+#[tactic(auto, using(crc_law::proofs::CheckSum::short_has_no_crc))]
 pub(crate) fn has_its_crc(unit: &[u8]) -> bool
     ensures checked { result ≡ has_right_crc unit.now }
 {

@@ -3,14 +3,24 @@
 //! Reading: one whole unit comes in, and its fields go out, or why it is no SNDU.
 //! Writing: an address, a Type and a PDU come in, and the unit goes into the caller's bytes.
 
-ghost use Rattle.std.specs.Prelude.{◌≡◌, ◌≤◌, ◌+◌, ◌++◌, length, take, drop, true, IfOk, IfSome, is_ok, is_some};
+ghost use Rattle.std.specs.Prelude.{◌≡◌, ◌<◌, ◌≤◌, ◌+◌, ◌++◌, ℕ, List, Option, length, drop, true, IfOk, IfSome, is_ok, is_some};
 ghost use Rattle.std.specs.Result.{result_err};
 ghost use Rattle.ts_spec.specs.Sndu.{is_sndu, sndu_fields, has_right_length, sndu_bytes, sndu_front, address_bytes, head_number};
 ghost use Rattle.ule_unit.specs.Views.{fields_in, refusal};
+ghost use Rattle.ule_unit.specs.Writable.{IsAddress, ether_type_of};
 
-use crate::form::{ADDRESS, CRC, D, HEAD, NO_ADDRESS, has_its_crc, span_of};
+use crate::form::{ADDRESS, CRC, D, HEAD, NO_ADDRESS, TYPE, has_its_crc, span_of};
+use byte_slices::put;
 use crc_unit::crc32;
 use unit_stream::Span;
+
+/// Type of an SNDU that carries an IPv4 datagram, and of one that carries an IPv6 datagram (RFC 4326 section 4.4.2).
+const IPV4: u16 = 0x0800;
+
+const IPV6: u16 = 0x86DD;
+
+/// Version stands above four bits of a datagram's first byte (RFC 791 section 3.1).
+const VERSION_UNIT: u8 = 16;
 
 /// An SNDU: its NPA address, its Type, and what stands after these and before the CRC-32.
 #[derive(Clone, Copy, Debug, PartialEq, Eq)]
@@ -85,7 +95,7 @@ fn fields_of(unit: &[u8]) -> Sndu<'_>
     ensures within { length result.bytes.now ≤ length unit.now }
 {
     let end = unit.len() - CRC;
-    let first_type = u16::from(unit[2]) * 256 + u16::from(unit[3]);
+    let first_type = u16::from(unit[TYPE]) * 256 + u16::from(unit[TYPE + 1]);
     if unit[0] >= NO_ADDRESS {
         return Sndu {
             npa: None,
@@ -93,7 +103,14 @@ fn fields_of(unit: &[u8]) -> Sndu<'_>
             bytes: &unit[HEAD..end],
         };
     }
-    let npa = [unit[4], unit[5], unit[6], unit[7], unit[8], unit[9]];
+    let npa = [
+        unit[HEAD],
+        unit[HEAD + 1],
+        unit[HEAD + 2],
+        unit[HEAD + 3],
+        unit[HEAD + 4],
+        unit[HEAD + 5],
+    ];
     Sndu {
         npa: Some(npa),
         first_type,
@@ -117,6 +134,29 @@ pub fn write(npa: Option<[u8; 6]>, ether_type: u16, datagram: &[u8], into: &mut 
     end + CRC
 }
 
+/// Bytes of the SNDU of so many bytes of a datagram, 32,757 at most: those that `write` writes.
+pub fn size(has_address: bool, datagram: usize) -> usize
+    requires { datagram ≤ 32757 }
+    ensures size { (npa : Option (List ℕ)) (ether_type : ℕ) (bytes : List ℕ) → IsAddress npa → is_some npa ≡ has_address → length bytes ≡ datagram
+        → result ≡ length (sndu_bytes npa ether_type bytes) }
+    ensures most { result ≤ datagram + 14 }
+{
+    let address = if has_address { ADDRESS } else { 0 };
+    HEAD + address + datagram + CRC
+}
+
+/// Type of the SNDU that carries a datagram: the EtherType of its IP version (RFC 4326 section 4.4.2).
+pub fn ether_type(datagram: &[u8]) -> u16
+    requires { 0 < length datagram.now }
+    ensures read { result ≡ ether_type_of datagram.now }
+{
+    if datagram[0] / VERSION_UNIT == 4 {
+        IPV4
+    } else {
+        IPV6
+    }
+}
+
 /// Writes all before the CRC-32; answers where it ends.
 fn write_front(npa: Option<[u8; 6]>, ether_type: u16, datagram: &[u8], into: &mut [u8]) -> usize
     requires size { length datagram.now ≤ 32757 }
@@ -127,7 +167,7 @@ fn write_front(npa: Option<[u8; 6]>, ether_type: u16, datagram: &[u8], into: &mu
 {
     let head = first_number(&npa, datagram.len() as u16);
     put(into, 0, &head.to_be_bytes());
-    put(into, 2, &ether_type.to_be_bytes());
+    put(into, TYPE, &ether_type.to_be_bytes());
     let address = bytes_of(&npa);
     put(into, HEAD, address);
     let start = HEAD + address.len();
@@ -156,12 +196,4 @@ fn bytes_of(npa: &Option<[u8; 6]>) -> &[u8]
         None => &[],
         Some(npa) => npa,
     }
-}
-
-/// Puts `piece` into `into`, from byte `at` on.
-fn put(into: &mut [u8], at: usize, piece: &[u8])
-    requires { at + length piece.now ≤ length into.old }
-    ensures put { into.new ≡ take at into.old ++ (piece.now ++ drop (at + length piece.now) into.old) }
-{
-    into[at..at + piece.len()].copy_from_slice(piece);
 }

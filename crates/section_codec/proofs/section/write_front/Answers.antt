@@ -1,7 +1,7 @@
 -- Each piece is put after those before it.
 use Rattle.std.proofs.Common.{◌≡◌, ℕ, ◌+◌, List, [], ◌∷◌, ◌++◌, length, drop, refl, ap, ◌∙◌, length-append, append_assoc, arith}
 use Rattle.std.specs.Int.{w16, to_be_bytes}
-use Rattle.section_codec.proofs.Puts.{put_behind}
+use Rattle.byte_slices.proofs.Puts.{put_behind}
 use Rattle.section_codec.proofs.section.write_front.Goals as goal
 
 -- the same pieces in a row

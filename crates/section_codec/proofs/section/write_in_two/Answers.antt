@@ -4,7 +4,7 @@ use Rattle.std.specs.Int.{w32, to_be_bytes}
 use Rattle.std.proofs.lemmas.List.{take_at}
 use Rattle.wire_spec.specs.Crc.{crc32_remainder}
 use Rattle.section_spec.specs.Section.{section_front}
-use Rattle.section_codec.proofs.Puts.{put_behind}
+use Rattle.byte_slices.proofs.Puts.{put_behind}
 use Rattle.section_codec.proofs.section.write_in_two.Goals as goal
 
 pub returns-clause-written : goal.returns-clause-written

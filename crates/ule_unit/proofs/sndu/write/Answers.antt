@@ -4,7 +4,7 @@ use Rattle.std.specs.Int.{w32, to_be_bytes}
 use Rattle.std.proofs.lemmas.List.{take_at}
 use Rattle.wire_spec.specs.Crc.{crc32_remainder}
 use Rattle.ts_spec.specs.Sndu.{sndu_front}
-use Rattle.ule_unit.proofs.Puts.{put_behind}
+use Rattle.byte_slices.proofs.Puts.{put_behind}
 use Rattle.ule_unit.proofs.sndu.write.Goals as goal
 
 pub returns-clause-written : goal.returns-clause-written

@@ -1,7 +1,7 @@
 -- Each piece is put after those before it.
 use Rattle.std.proofs.Common.{◌≡◌, ℕ, ◌+◌, List, [], ◌++◌, length, drop, refl, ap, ◌∙◌, length-append, arith}
 use Rattle.std.specs.Int.{w16, to_be_bytes}
-use Rattle.ule_unit.proofs.Puts.{put_behind}
+use Rattle.byte_slices.proofs.Puts.{put_behind}
 use Rattle.ule_unit.proofs.sndu.write_front.Goals as goal
 
 -- the same pieces in a row

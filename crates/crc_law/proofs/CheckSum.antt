@@ -1,8 +1,9 @@
--- A CRC-32 fits four bytes, and fewer than four bytes do not end with the CRC-32 of what is before them.
-use Rattle.std.proofs.Common.{◌≡◌, ℕ, zero, suc, ◌+◌, ◌-◌, ◌*◌, ◌^◌, ◌<◌, Bool, true, false, List, [], ◌∷◌, ◌++◌, length, take, drop, sym, subst, ◌∙◌, arith, lit<, pow-suc, refl}
+-- A CRC-32 fits four bytes; bytes with their CRC-32 after them end with it, and fewer than four bytes end with none.
+use Rattle.std.proofs.Common.{◌≡◌, ℕ, zero, suc, ◌+◌, ◌-◌, ◌*◌, ◌/◌, ◌%◌, ◌^◌, ◌<◌, Bool, true, false, List, [], ◌∷◌, ◌++◌, length, take, drop, ap, sym, subst, ◌∙◌, arith, lit<, pow-suc, refl, eq-eqb}
 use Rattle.std.specs.Prelude.{slice_index, replicate, if◌then◌else◌, ◌==◌}
+use Rattle.std.specs.Int.{w32, to_be_bytes}
 use Rattle.std.proofs.lemmas.Bool.{ne_eqb}
-use Rattle.std.proofs.lemmas.List.{length-append, length-replicate, length-drop, get_or_past}
+use Rattle.std.proofs.lemmas.List.{length-append, length-replicate, length-drop, get_or_past, take_at, get_or-append-add}
 use Rattle.std.proofs.lemmas.List.Elements.{All-nil}
 use Rattle.wire_spec.specs.Bytes.{u32_at}
 use Rattle.wire_spec.specs.BitPolynomials.{bits, number_of, added_front, divided, remainder}
@@ -10,7 +11,7 @@ use Rattle.wire_spec.specs.Crc.{bits_of, crc_remainder, crc32_remainder}
 use Rattle.division_law.proofs.Fronts.{length-added}
 use Rattle.division_law.proofs.Lines.{length-bits}
 use Rattle.division_law.proofs.Registers.{crc32_law}
-use Rattle.ts_spec.specs.Sndu.{has_right_crc}
+use Rattle.crc_law.specs.Whole.{ends_with_crc}
 
 -- a step of division drops a bit
 length-step : (divisor line : List Bool) (b : Bool) → length (drop 1 (if b then added_front divisor (b ∷ line) else b ∷ line)) ≡ length line
@@ -35,6 +36,7 @@ length-bits_of : (bytes : List ℕ) → length (bits_of bytes) ≡ 8 * length by
 length-bits_of [] = refl
 length-bits_of (byte ∷ bytes) = omega (arith, length-append (bits 8 byte) (bits_of bytes), length-bits 8 byte, length-bits_of bytes)
 
+-- a CRC-32 fits four bytes
 pub crc32_below : (start : ℕ) (bytes : List ℕ) → crc32_remainder start bytes < 2 ^ 32
 unfolding crc_remainder remainder
 crc32_below start bytes =
@@ -62,5 +64,30 @@ at_zero : (bytes : List ℕ) (end : ℕ) → end ≡ 0 → length bytes < 4 → 
 at_zero bytes end none few =
     rw (none, nothing) (ne_eqb 0xFFFF_FFFF (u32_at bytes 0) (differs bytes few))
 
-pub has_right_crc_short : (bytes : List ℕ) → length bytes < 4 → has_right_crc bytes ≡ false
-has_right_crc_short bytes few = at_zero bytes (length bytes - 4) (omega arith) few
+pub short_has_no_crc : (bytes : List ℕ) → length bytes < 4 → ends_with_crc bytes ≡ false
+short_has_no_crc bytes few = at_zero bytes (length bytes - 4) (omega arith) few
+
+-- a place after a front
+at_behind : (front back : List ℕ) (place n : ℕ) → place ≡ length front + n → slice_index (front ++ back) place ≡ slice_index back n
+at_behind front back place n e = ap (λ (k : ℕ). slice_index (front ++ back) k) e ∙ get_or-append-add front back n 0
+
+-- the number in the bytes that were written of it
+four_bytes_told : (n : ℕ) → n < 2 ^ 32 → (n / 16777216 % 256 * 256 + n / 65536 % 256) * 65536 + (n / 256 % 256 * 256 + n % 256) ≡ n
+four_bytes_told n below = omega arith
+
+-- the CRC-32 that is written after bytes is the right one
+pub written_crc_is_right : (front : List ℕ) → ends_with_crc (front ++ to_be_bytes w32 (crc32_remainder 0xFFFF_FFFF front)) ≡ true
+written_crc_is_right front =
+    let sum : ℕ = crc32_remainder 0xFFFF_FFFF front in
+    let back : List ℕ = to_be_bytes w32 sum in
+    let all : List ℕ = front ++ back in
+    let end : ℕ = length front in
+    let before : length all - 4 ≡ end = omega (arith, length-append front back) in
+    let first : slice_index all end ≡ sum / 16777216 % 256 = at_behind front back end 0 (omega arith) in
+    let second : slice_index all (end + 1) ≡ sum / 65536 % 256 = at_behind front back (end + 1) 1 refl in
+    let third : slice_index all (end + 2) ≡ sum / 256 % 256 = at_behind front back (end + 2) 2 refl in
+    let fourth : slice_index all (end + 2 + 1) ≡ sum % 256 = at_behind front back (end + 2 + 1) 3 (omega arith) in
+    let told : u32_at all end ≡ sum = rw (first, second, third, fourth) (four_bytes_told sum (crc32_below 0xFFFF_FFFF front)) in
+    let right : crc32_remainder 0xFFFF_FFFF (take end all) ≡ u32_at all end =
+    ap (crc32_remainder 0xFFFF_FFFF) (take_at front back end refl) ∙ sym told in
+    rw before (eq-eqb (crc32_remainder 0xFFFF_FFFF (take end all)) (u32_at all end) right)
