@@ -2,7 +2,7 @@
 use Rattle.std.proofs.Common.{◌≡◌, ℕ, ◌≤◌, Bool, true, false, cond, List, [], ◌∷◌, length, refl, ap, ap₂, ◌∙◌, Option, Some, None}
 use Rattle.std.specs.Prelude.{◌↔◌, option_to_list, option_map, take, drop}
 use Rattle.wire_spec.specs.Bytes.{AreBytes, u32_at}
-use Rattle.wire_spec.specs.Datagram.{IsDatagram, front_length}
+use Rattle.wire_spec.specs.Datagram.{IsDatagram, front_length, ether_type_of}
 use Rattle.ts_spec.specs.Form.{IsUnit}
 use Rattle.ts_spec.specs.Sndu.{sndu_form, is_sndu, sndu_bytes, sndu_fields, SnduFields}
 use Rattle.ts_spec.specs.Chain.{chain_end, datagram_at}
@@ -13,7 +13,7 @@ use Rattle.addr_rules.specs.Filter.{is_wanted}
 use Rattle.addr_rules.specs.declared.filter.Label.{Label}
 use Rattle.addr_rules.specs.declared.filter.Label.TheVariants.{Six, Broadcast}
 use Rattle.plan_spec.specs.Plan.{KindFields, ule, mpe, fec, gse, ServiceFields}
-use Rattle.stream_spec.specs.Units.{mac_for, ether_type_of, sndu_of, section_of, unit_of}
+use Rattle.stream_spec.specs.Units.{mac_for, sndu_of, section_of, unit_of}
 use Rattle.stream_spec.specs.Services.{carried_by_unit, form_of_kind}
 use Rattle.reception_spec.specs.Units.{label_of_npa, label_of, delivered_by_unit}
 use Rattle.stream_law.specs.Words.{IsMac}

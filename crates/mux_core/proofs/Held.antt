@@ -12,7 +12,8 @@ use Rattle.section_codec.proofs.Written.{length-section_bytes}
 use Rattle.unit_stream.specs.Packing.{filled, may_begin, begin_piece, middle_piece, pieces, byte_count, packetized}
 use Rattle.unit_stream.specs.Packers.{between, units_from, units_of, AreRising, end_of, AreEnds}
 use Rattle.unit_stream.proofs.Written.{length-numbered}
-use Rattle.stream_spec.specs.Units.{mac_for, ether_type_of, sndu_of, section_of}
+use Rattle.stream_spec.specs.Units.{mac_for, sndu_of, section_of}
+use Rattle.wire_spec.specs.Datagram.{ether_type_of}
 use Rattle.mux_core.specs.Units.{ends_from, HoldUnits}
 use Rattle.mux_core.proofs.Items.{take_next}
 

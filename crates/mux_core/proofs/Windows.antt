@@ -13,7 +13,8 @@ use Rattle.plan_spec.specs.Plan.{KindFields, ule, mpe, fec, gse}
 use Rattle.section_spec.specs.Mpe.{mpe_to_write, mpe_body}
 use Rattle.section_codec.proofs.Written.{length-section_bytes}
 use Rattle.ule_unit.proofs.Written.{length-sndu_bytes}
-use Rattle.stream_spec.specs.Units.{mac_for, ether_type_of, sndu_of, section_of, unit_of}
+use Rattle.stream_spec.specs.Units.{mac_for, sndu_of, section_of, unit_of}
+use Rattle.wire_spec.specs.Datagram.{ether_type_of}
 use Rattle.plan_spec.specs.Built.{is_sent}
 use Rattle.ts_spec.specs.Form.{UnitForm}
 use Rattle.unit_stream.specs.Packing.{packetized}

@@ -1,6 +1,6 @@
 //! A datagram of a service -> its unit.
 ghost use Rattle.std.specs.Prelude.{◌≡◌, ℕ, ◌+◌, ◌*◌, ◌<◌, ◌≤◌, ◌^◌, ◌++◌, List, true, length, take, drop, map, All, IfOk};
-ghost use Rattle.stream_spec.specs.Units.{ether_type_of};
+ghost use Rattle.wire_spec.specs.Datagram.{ether_type_of};
 ghost use Rattle.plan_spec.specs.Built.{is_sent};
 ghost use Rattle.plan.specs.Parts.{kind_seen};
 ghost use Rattle.mux_core.specs.Units.{unit_bytes, ends_from, IsFor, AreFor};

@@ -3,11 +3,11 @@ use Rattle.std.proofs.Common.{◌≡◌, inl, inr, ℕ, zero, suc, ◌+◌, ◌-
 use Rattle.std.specs.Prelude.{slice_index, slice_range, bytes_eq}
 use Rattle.std.proofs.lemmas.List.{take_all}
 use Rattle.wire_spec.specs.Bytes.{AreBytes, u16_at}
-use Rattle.wire_spec.specs.Datagram.{version, header_length, total_length, ipv6_length, IsIpv4, IsIpv6, IsDatagram, datagram_of_type}
+use Rattle.wire_spec.specs.Datagram.{version, header_length, total_length, ipv6_length, IsIpv4, IsIpv6, IsDatagram, datagram_of_type, ether_type_of}
 use Rattle.ip_datagram.specs.declared.address.IpAddress.TheVariants.{V4, V6}
 use Rattle.addr_rules.specs.Macs.{broadcast_mac, ipv4_group_mac, ipv6_group_mac, is_ipv4_group, mac_of_address}
 use Rattle.ts_spec.specs.Chain.{chain_end, datagram_at}
-use Rattle.stream_spec.specs.Units.{mac_for, ether_type_of}
+use Rattle.stream_spec.specs.Units.{mac_for}
 use Rattle.stream_law.specs.Words.{IsMac}
 
 so_eqb : (a b : ℕ) → a ≡ b → eqb a b ≡ true

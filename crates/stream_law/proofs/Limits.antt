@@ -21,7 +21,8 @@ use Rattle.plan_spec.specs.Valid.{is_plan}
 use Rattle.plan_spec.specs.Offered.{datagrams as datagrams_of, service_of_datagram, is_offered_to, offered}
 use Rattle.stream_spec.specs.Services.{kind_at}
 use Rattle.stream_spec.specs.Slots.{IsSlotCount}
-use Rattle.stream_spec.specs.Units.{mac_for, ether_type_of, sndu_of, section_of, packets_of_kind}
+use Rattle.stream_spec.specs.Units.{mac_for, sndu_of, section_of, packets_of_kind}
+use Rattle.wire_spec.specs.Datagram.{ether_type_of}
 use Rattle.stream_spec.specs.Stream.{service_packets, packet_counts, slot_in}
 use Rattle.stream_law.specs.Words.{IsMac, IsOfBytes, IsByteDatagram, IsWithinLimits, HasMoment}
 use Rattle.stream_law.proofs.Datagrams.{mac_for_is}

@@ -2,7 +2,7 @@
 use Rattle.std.proofs.Common.{◌≡◌, ℕ, zero, suc, ◌+◌, ◌<◌, ◌≤◌, Bool, true, false, cond, ◌&&◌, leb, eqb, get_or, List, [], ◌∷◌, ◌++◌, length, map, refl, sym, ap, subst, ◌∙◌, arith, Option, Some, None}
 use Rattle.std.specs.Prelude.{◌↔◌, filter, slice_index_or, flat_map, option_to_list, option_map, All}
 use Rattle.wire_spec.specs.Bytes.{AreBytes}
-use Rattle.wire_spec.specs.Datagram.{IsDatagram}
+use Rattle.wire_spec.specs.Datagram.{IsDatagram, ether_type_of}
 use Rattle.ts_spec.specs.Form.{UnitForm, IsLawful, IsUnit}
 use Rattle.ts_spec.specs.Recording.{Record}
 use Rattle.ts_spec.specs.Packet.{PacketFields}
@@ -17,7 +17,7 @@ use Rattle.carriage_spec.specs.Delivered.{carried_by_sndu}
 use Rattle.ule_unit.specs.Writable.{IsAddress, IsWritable}
 use Rattle.plan_spec.specs.Plan.{KindFields, ule, mpe, fec, gse, ServiceFields, PlanFields}
 use Rattle.plan_spec.specs.Route.{longest_of}
-use Rattle.stream_spec.specs.Units.{mac_for, ether_type_of, sndu_of, section_of, packets_of_kind}
+use Rattle.stream_spec.specs.Units.{mac_for, sndu_of, section_of, packets_of_kind}
 use Rattle.stream_spec.specs.Stream.{packets_from}
 use Rattle.stream_spec.specs.Services.{carried_by_section, carried_by_unit, form_of_kind, CarriesOn}
 use Rattle.plan_spec.specs.Offered.{datagrams as datagrams_of, service_of_datagram, is_offered_to, offered}

@@ -1,7 +1,7 @@
 -- The units that a sender makes of a service's datagrams, and the packets that carry them.
 -- So far of the kinds whose units are laid into packets as they come: SNDUs (RFC 4326) and datagram_sections (EN 301 192 clause 7).
-use Rattle.std.specs.Prelude.{ℕ, Bool, true, List, [], map, ◌==◌, if◌then◌else◌, Some, None}
-use Rattle.wire_spec.specs.Datagram.{version, ether_type_ipv4, ether_type_ipv6}
+use Rattle.std.specs.Prelude.{ℕ, Bool, true, List, [], map, if◌then◌else◌, Some, None}
+use Rattle.wire_spec.specs.Datagram.{ether_type_of}
 use Rattle.ip_datagram.specs.Destination.{destination_of}
 use Rattle.addr_rules.specs.Macs.{mac_of_address}
 use Rattle.ts_spec.specs.Packet.{PacketFields}
@@ -14,10 +14,6 @@ use Rattle.plan_spec.specs.Plan.{KindFields, ule, mpe, fec, gse, ServiceFields}
 -- the address of the receivers that a datagram is for: that of its group, or the service's own
 abbrev pub mac_for : List ℕ → List ℕ → List ℕ
 mac_for unicast datagram = mac_of_address (destination_of datagram) unicast
-
--- EtherType of a datagram
-abbrev pub ether_type_of : List ℕ → ℕ
-ether_type_of datagram = if version datagram == 4 then ether_type_ipv4 else ether_type_ipv6
 
 -- the SNDU of a datagram, with an NPA address where the service has them
 abbrev pub sndu_of : Bool → List ℕ → List ℕ → List ℕ

@@ -1,6 +1,5 @@
 -- What the bytes of an SNDU can be written of.
-use Rattle.std.specs.Prelude.{◌≡◌, ℕ, ◌<◌, ◌≤◌, ◌^◌, ◌==◌, List, length, Option, Some, None, if◌then◌else◌}
-use Rattle.wire_spec.specs.Datagram.{version, ether_type_ipv4, ether_type_ipv6}
+use Rattle.std.specs.Prelude.{◌≡◌, ℕ, ◌<◌, ◌≤◌, ◌^◌, List, length, Option, Some, None}
 
 -- an address of 6 bytes (RFC 4326 section 4.5), or none
 abbrev pub IsAddress : Option (List ℕ) → Type 0
@@ -12,7 +11,3 @@ pub record IsWritable (npa : Option (List ℕ)) (first_type : ℕ) (pdu : List �
   pub address : IsAddress npa
   pub sixteen_bits : first_type < 2 ^ 16
   pub size : length pdu ≤ 32757
-
--- Type of the SNDU that carries a datagram (section 4.4.2)
-abbrev pub ether_type_of : List ℕ → ℕ
-ether_type_of datagram = if version datagram == 4 then ether_type_ipv4 else ether_type_ipv6

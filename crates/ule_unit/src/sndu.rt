@@ -7,7 +7,8 @@ ghost use Rattle.std.specs.Prelude.{◌≡◌, ◌<◌, ◌≤◌, ◌+◌, ◌+
 ghost use Rattle.std.specs.Result.{result_err};
 ghost use Rattle.ts_spec.specs.Sndu.{is_sndu, sndu_fields, has_right_length, sndu_bytes, sndu_front, address_bytes, head_number};
 ghost use Rattle.ule_unit.specs.Views.{fields_in, refusal};
-ghost use Rattle.ule_unit.specs.Writable.{IsAddress, ether_type_of};
+ghost use Rattle.ule_unit.specs.Writable.{IsAddress};
+ghost use Rattle.wire_spec.specs.Datagram.{ether_type_of};
 
 use crate::form::{ADDRESS, CRC, D, HEAD, NO_ADDRESS, TYPE, has_its_crc, span_of};
 use byte_slices::put;

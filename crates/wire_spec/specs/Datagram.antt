@@ -63,6 +63,10 @@ ether_type_ipv4 = 0x0800
 abbrev pub ether_type_ipv6 : ℕ
 ether_type_ipv6 = 0x86DD
 
+-- EtherType of a datagram
+abbrev pub ether_type_of : List ℕ → ℕ
+ether_type_of datagram = if version datagram == 4 then ether_type_ipv4 else ether_type_ipv6
+
 -- the datagram at the front of what an EtherType announces, where it is of that version
 abbrev pub datagram_of_type : ℕ → List ℕ → Option (List ℕ)
 datagram_of_type ether_type b =
