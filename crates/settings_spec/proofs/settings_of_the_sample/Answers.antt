@@ -3,6 +3,6 @@ use Rattle.settings_spec.specs.Keys.{text_or, number_or, flag_or, address_or, it
 use Rattle.settings_spec.specs.Settings.{says_baseband, is_sliced_mode, kind_of, plan_of}
 use Rattle.settings_spec.proofs.settings_of_the_sample.Goals as goal
 
-pub returns-clause-plan : goal.returns-clause-plan
+pub returns : goal.returns
 unfolding text_or number_or flag_or address_or items_at table_at says_baseband is_sliced_mode kind_of plan_of
-returns-clause-plan c = refl
+returns c = record { plan = refl }
