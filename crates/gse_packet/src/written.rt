@@ -1,12 +1,13 @@
 //! Packets, written to the front of some bytes.
 //!
 //! Profile: fragments after the first have LT = 3.
-ghost use Rattle.std.specs.Prelude.{◌≡◌, ◌+◌, ◌*◌, ◌≤◌, ◌++◌, take, drop, length};
+ghost use Rattle.std.specs.Prelude.{◌≡◌, ◌+◌, ◌*◌, ◌≤◌, ◌++◌, drop, length};
 ghost use Rattle.gse_spec.specs.Written.{label_bytes, written_label, with_length, complete_bytes, start_bytes, middle_bytes, end_bytes};
 
 use crate::fields::{HEAD, REUSED};
 use crate::label::{bytes_of, type_of};
 use addr_rules::Label;
+use byte_slices::put;
 
 /// S and E, of a packet with a whole PDU.
 const COMPLETE: u16 = 3;
@@ -125,12 +126,4 @@ fn write_pieces(
     put(into, HEAD + front.len(), middle);
     put(into, HEAD + front.len() + middle.len(), back);
     HEAD + length
-}
-
-/// Puts `piece` into `into`, from byte `at` on.
-fn put(into: &mut [u8], at: usize, piece: &[u8])
-    requires { at + length piece.now ≤ length into.old }
-    ensures put { into.new ≡ take at into.old ++ (piece.now ++ drop (at + length piece.now) into.old) }
-{
-    into[at..at + piece.len()].copy_from_slice(piece);
 }
