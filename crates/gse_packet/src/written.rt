@@ -21,6 +21,12 @@ const MIDDLE: u16 = 0;
 /// S and E of the last fragment.
 const LAST: u16 = 1;
 
+/// S and E stand above LT and the 12 bits of GSE Length.
+const MARKS_UNIT: u16 = 16384;
+
+/// LT stands above the 12 bits of GSE Length.
+const LABEL_TYPE_UNIT: u16 = 4096;
+
 /// Writes a packet with a whole PDU and answers its length; without a label it re-uses the one before it in the frame.
 ///
 /// What stands after it in `into` stays.
@@ -120,7 +126,7 @@ fn write_pieces(
     ensures written { into.new ≡ with_length marks label_type (front.now ++ middle.now ++ back.now) ++ drop result into.old }
 {
     let length = front.len() + middle.len() + back.len();
-    let head = marks * 16384 + label_type * 4096 + length as u16;
+    let head = marks * MARKS_UNIT + label_type * LABEL_TYPE_UNIT + length as u16;
     put(into, 0, &head.to_be_bytes());
     put(into, HEAD, front);
     put(into, HEAD + front.len(), middle);
