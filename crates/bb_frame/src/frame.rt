@@ -29,11 +29,17 @@ pub enum FrameFault {
     Dfl = 3,
 }
 
+/// The place of DFL, after MATYPE and UPL.
+const DFL: usize = 4;
+
 /// Bytes of the header.
 const HEADER: usize = 10;
 
 /// The byte of CRC-8, which covers all before it.
 const CRC: usize = 9;
+
+/// TS/GS stands above six bits of MATYPE's first byte (EN 302 307-1 clause 5.1.6).
+const KIND_UNIT: u8 = 64;
 
 /// TS/GS, the upper two bits of MATYPE: generic continuous.
 const GENERIC_CONTINUOUS: u8 = 1;
@@ -58,10 +64,10 @@ pub fn parse(bytes: &[u8]) -> Result<Frame<'_>, FrameFault>
     if crc8(&bytes[..CRC]) != bytes[CRC] {
         return Err(FrameFault::Crc);
     }
-    if bytes[0] / 64 != GENERIC_CONTINUOUS {
+    if bytes[0] / KIND_UNIT != GENERIC_CONTINUOUS {
         return Err(FrameFault::Kind);
     }
-    let bits = usize::from(bytes[4]) * 256 + usize::from(bytes[5]);
+    let bits = usize::from(bytes[DFL]) * 256 + usize::from(bytes[DFL + 1]);
     if bits % 8 != 0 || HEADER + bits / 8 > bytes.len() {
         return Err(FrameFault::Dfl);
     }

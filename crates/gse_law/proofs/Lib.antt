@@ -15,7 +15,6 @@ pub mod Written
 pub mod WrittenFrames
 pub mod Reassembled
 pub mod Packing
-pub mod CheckSum
 pub mod PackedFrames
 pub mod PduEvents
 pub mod OwnFrames

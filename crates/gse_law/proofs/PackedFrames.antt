@@ -20,7 +20,7 @@ use Rattle.gse_spec.specs.Sending.{frames_with, frames_for}
 use Rattle.gse_law.specs.Streams.{frames_of}
 use Rattle.gse_law.specs.Writable.{IsWritable, AreWritable, IsFrameRead}
 use Rattle.gse_law.specs.Packed.{placed_frames, last_one, last_packets, pdu_in, AllFit, IsSendable, AreSendable, AllFramesFit, RestFits, ChoosesSendable}
-use Rattle.gse_law.proofs.CheckSum.{crc32_below}
+use Rattle.crc_law.proofs.CheckSum.{crc32_below}
 use Rattle.gse_law.proofs.Openers.{equals_itself}
 use Rattle.gse_law.proofs.Written.{written_read}
 use Rattle.gse_law.proofs.WrittenFrames.{frame_read}

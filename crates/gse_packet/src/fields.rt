@@ -6,8 +6,17 @@ ghost use Rattle.gse_spec.specs.Packet.{has_start as is_start, has_end as is_end
 
 use addr_rules::Label;
 
-/// The bytes of S, E, LT and GSE Length.
+/// The bytes of S, E, LT and GSE Length (TS 102 606-1 clause 4.2).
 pub(crate) const HEAD: usize = 2;
+
+/// The bytes of a Frag ID.
+pub(crate) const FRAG_ID: usize = 1;
+
+/// The bytes of Total Length.
+pub(crate) const TOTAL_LENGTH: usize = 2;
+
+/// The bytes of Protocol Type.
+pub(crate) const PROTOCOL_TYPE: usize = 2;
 
 /// The bytes of a CRC-32.
 pub(crate) const CRC: usize = 4;
@@ -17,6 +26,21 @@ const START: u8 = 0x80;
 
 /// E, in byte 0.
 const END: u8 = 0x40;
+
+/// LT stands above the four upper bits of GSE Length, which byte 0 ends with.
+const LABEL_TYPE_UNIT: u8 = 16;
+
+/// LT, 2 bits, has so many values.
+const LABEL_TYPES: u8 = 4;
+
+/// LT of a packet with a label of 6 bytes.
+pub(crate) const SIX: u8 = 0;
+
+/// LT of a packet with a label of 3 bytes.
+pub(crate) const THREE: u8 = 1;
+
+/// LT of a packet for all receivers: there is no label.
+pub(crate) const BROADCAST: u8 = 2;
 
 /// LT of a packet that re-uses a label.
 pub(crate) const REUSED: u8 = 3;
@@ -45,7 +69,7 @@ pub(crate) fn label_type(bytes: &[u8]) -> u8
     requires { 1 ≤ length bytes.now }
     ensures read { result ≡ type_of_label bytes.now }
 {
-    bytes[0] / 16 % 4
+    bytes[0] / LABEL_TYPE_UNIT % LABEL_TYPES
 }
 
 /// GSE Length: the bytes after it.
@@ -62,8 +86,8 @@ pub(crate) fn size_of_label(bytes: &[u8]) -> u8
     ensures read { result ≡ label_size bytes.now }
 {
     match label_type(bytes) {
-        0 => 6,
-        1 => 3,
+        SIX => 6,
+        THREE => 3,
         _ => 0,
     }
 }
@@ -74,10 +98,12 @@ pub(crate) fn size_of_fields(bytes: &[u8]) -> usize
     ensures read { result ≡ fields_size bytes.now }
 {
     match (has_start(bytes), has_end(bytes)) {
-        (true, true) => 2 + usize::from(size_of_label(bytes)),
-        (true, false) => 5 + usize::from(size_of_label(bytes)),
-        (false, true) => 1 + CRC,
-        (false, false) => 1,
+        (true, true) => PROTOCOL_TYPE + usize::from(size_of_label(bytes)),
+        (true, false) => {
+            FRAG_ID + TOTAL_LENGTH + PROTOCOL_TYPE + usize::from(size_of_label(bytes))
+        }
+        (false, true) => FRAG_ID + CRC,
+        (false, false) => FRAG_ID,
     }
 }
 
@@ -88,7 +114,7 @@ fn written_label(bytes: &[u8], at: usize) -> Label
     ensures read { result ≡ label_at bytes.now at }
 {
     match label_type(bytes) {
-        0 => Label::Six([
+        SIX => Label::Six([
             bytes[at],
             bytes[at + 1],
             bytes[at + 2],
@@ -96,7 +122,7 @@ fn written_label(bytes: &[u8], at: usize) -> Label
             bytes[at + 4],
             bytes[at + 5],
         ]),
-        1 => Label::Three([bytes[at], bytes[at + 1], bytes[at + 2]]),
+        THREE => Label::Three([bytes[at], bytes[at + 1], bytes[at + 2]]),
         _ => Label::Broadcast,
     }
 }

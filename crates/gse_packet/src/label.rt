@@ -2,6 +2,7 @@
 ghost use Rattle.std.specs.Prelude.{◌≡◌, ◌≤◌};
 ghost use Rattle.gse_spec.specs.Written.{label_bytes, type_of_label};
 
+use crate::fields::{BROADCAST, SIX, THREE};
 use addr_rules::Label;
 
 /// LT of a label that stands in the packet: 0 has 6 bytes, 1 has 3, 2 none.
@@ -10,9 +11,9 @@ pub(crate) fn type_of(label: &Label) -> u16
     ensures most { result ≤ 2 }
 {
     match label {
-        Label::Six(_) => 0,
-        Label::Three(_) => 1,
-        Label::Broadcast => 2,
+        Label::Six(_) => u16::from(SIX),
+        Label::Three(_) => u16::from(THREE),
+        Label::Broadcast => u16::from(BROADCAST),
     }
 }
 

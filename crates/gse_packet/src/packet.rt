@@ -4,10 +4,22 @@ ghost use Rattle.gse_spec.specs.Packet.{is_cut, is_short, packet_at_front, readi
 ghost use Rattle.gse_packet.specs.Views.{packet_in, reading_in, HoldsPacket};
 
 use crate::fields::{
-    CRC, HEAD, REUSED, has_end, has_start, label_type, length_of, read_label, size_of_fields,
-    size_of_label,
+    CRC, FRAG_ID, HEAD, PROTOCOL_TYPE, REUSED, TOTAL_LENGTH, has_end, has_start, label_type,
+    length_of, read_label, size_of_fields, size_of_label,
 };
 use addr_rules::Label;
+
+/// The place of the label of a whole PDU, after Protocol Type.
+const COMPLETE_LABEL: usize = HEAD + PROTOCOL_TYPE;
+
+/// The place after a Frag ID: of Total Length in a first fragment, of the PDU's bytes in the others.
+const AFTER_ID: usize = HEAD + FRAG_ID;
+
+/// The place of Protocol Type in a first fragment.
+const FIRST_PROTOCOL: usize = AFTER_ID + TOTAL_LENGTH;
+
+/// The place of the label in a first fragment.
+const FIRST_LABEL: usize = FIRST_PROTOCOL + PROTOCOL_TYPE;
 
 /// A packet, its bytes of a PDU lent out of the data field.
 #[derive(Clone, Copy, Debug, PartialEq, Eq)]
@@ -93,31 +105,31 @@ fn fields_of(before: Option<Label>, bytes: &[u8]) -> Gse<'_>
     let end = HEAD + length_of(bytes);
     match (has_start(bytes), has_end(bytes)) {
         (true, true) => Gse::Complete {
-            protocol: u16::from(bytes[2]) * 256 + u16::from(bytes[3]),
-            label: read_label(before, bytes, 4),
-            pdu: &bytes[4 + usize::from(size_of_label(bytes))..end],
+            protocol: u16::from(bytes[HEAD]) * 256 + u16::from(bytes[HEAD + 1]),
+            label: read_label(before, bytes, COMPLETE_LABEL),
+            pdu: &bytes[COMPLETE_LABEL + usize::from(size_of_label(bytes))..end],
         },
         (true, false) => Gse::Start {
-            id: bytes[2],
-            total: u16::from(bytes[3]) * 256 + u16::from(bytes[4]),
-            protocol: u16::from(bytes[5]) * 256 + u16::from(bytes[6]),
-            label: read_label(before, bytes, 7),
+            id: bytes[HEAD],
+            total: u16::from(bytes[AFTER_ID]) * 256 + u16::from(bytes[AFTER_ID + 1]),
+            protocol: u16::from(bytes[FIRST_PROTOCOL]) * 256 + u16::from(bytes[FIRST_PROTOCOL + 1]),
+            label: read_label(before, bytes, FIRST_LABEL),
             written: size_of_label(bytes),
-            pdu: &bytes[7 + usize::from(size_of_label(bytes))..end],
+            pdu: &bytes[FIRST_LABEL + usize::from(size_of_label(bytes))..end],
         },
         (false, true) => Gse::End {
-            id: bytes[2],
-            pdu: &bytes[3..end - CRC],
+            id: bytes[HEAD],
+            pdu: &bytes[AFTER_ID..end - CRC],
             crc: u32::from_be_bytes([
-                bytes[end - 4],
-                bytes[end - 3],
-                bytes[end - 2],
-                bytes[end - 1],
+                bytes[end - CRC],
+                bytes[end - CRC + 1],
+                bytes[end - CRC + 2],
+                bytes[end - CRC + 3],
             ]),
         },
         (false, false) => Gse::Middle {
-            id: bytes[2],
-            pdu: &bytes[3..end],
+            id: bytes[HEAD],
+            pdu: &bytes[AFTER_ID..end],
         },
     }
 }

@@ -1,12 +1,13 @@
 //! Packets, written to the front of some bytes.
 //!
 //! Profile: fragments after the first have LT = 3.
-ghost use Rattle.std.specs.Prelude.{◌≡◌, ◌+◌, ◌*◌, ◌≤◌, ◌++◌, take, drop, length};
+ghost use Rattle.std.specs.Prelude.{◌≡◌, ◌+◌, ◌*◌, ◌≤◌, ◌++◌, drop, length};
 ghost use Rattle.gse_spec.specs.Written.{label_bytes, written_label, with_length, complete_bytes, start_bytes, middle_bytes, end_bytes};
 
 use crate::fields::{HEAD, REUSED};
 use crate::label::{bytes_of, type_of};
 use addr_rules::Label;
+use byte_slices::put;
 
 /// S and E, of a packet with a whole PDU.
 const COMPLETE: u16 = 3;
@@ -19,6 +20,12 @@ const MIDDLE: u16 = 0;
 
 /// S and E of the last fragment.
 const LAST: u16 = 1;
+
+/// S and E stand above LT and the 12 bits of GSE Length.
+const MARKS_UNIT: u16 = 16384;
+
+/// LT stands above the 12 bits of GSE Length.
+const LABEL_TYPE_UNIT: u16 = 4096;
 
 /// Writes a packet with a whole PDU and answers its length; without a label it re-uses the one before it in the frame.
 ///
@@ -119,18 +126,10 @@ fn write_pieces(
     ensures written { into.new ≡ with_length marks label_type (front.now ++ middle.now ++ back.now) ++ drop result into.old }
 {
     let length = front.len() + middle.len() + back.len();
-    let head = marks * 16384 + label_type * 4096 + length as u16;
+    let head = marks * MARKS_UNIT + label_type * LABEL_TYPE_UNIT + length as u16;
     put(into, 0, &head.to_be_bytes());
     put(into, HEAD, front);
     put(into, HEAD + front.len(), middle);
     put(into, HEAD + front.len() + middle.len(), back);
     HEAD + length
-}
-
-/// Puts `piece` into `into`, from byte `at` on.
-fn put(into: &mut [u8], at: usize, piece: &[u8])
-    requires { at + length piece.now ≤ length into.old }
-    ensures put { into.new ≡ take at into.old ++ (piece.now ++ drop (at + length piece.now) into.old) }
-{
-    into[at..at + piece.len()].copy_from_slice(piece);
 }

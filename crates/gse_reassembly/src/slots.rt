@@ -1,8 +1,8 @@
 //! What is open on each Frag ID: fragments come in, their bytes are kept, and the last one gives the PDU.
 ghost use Rattle.std.specs.Prelude.{◌≡◌, ◌+◌, ◌≤◌, length, take, drop};
-ghost use Rattle.gse_reassembly.specs.Buffers.{written_at};
 
 use addr_rules::Label;
+use byte_slices::put;
 use gse_packet::check_sum;
 use std::alloc::Allocator;
 use std::marker::Model;
@@ -103,15 +103,6 @@ impl<A: Allocator> Model for Slots<A> {
     ghost invariant = { λ s. (vec_len s.buffer ≡ 16778240) × (vec_len s.slots ≡ 256) × All FitsSlot s.slots.items };
 }
 
-/// Puts `piece` to a place of a buffer.
-fn put(buffer: &mut [u8], at: usize, piece: &[u8])
-    requires room { at + length piece.now ≤ length buffer.old }
-    ensures put { buffer.new ≡ written_at buffer.old at piece.now }
-{
-    let end = at + piece.len();
-    buffer[at..end].copy_from_slice(piece);
-}
-
 /// The bytes from a place on.
 fn piece_at(buffer: &[u8], from: usize, size: usize) -> &[u8]
     requires room { from + size ≤ length buffer.now }
@@ -121,7 +112,7 @@ fn piece_at(buffer: &[u8], from: usize, size: usize) -> &[u8]
 }
 
 impl<A: Allocator> Slots<A> {
-    ghost use Rattle.std.specs.Prelude.{◌≡◌, ◌⊎◌, ℕ, ◌+◌, ◌<◌, length, vec_len, None, []};
+    ghost use Rattle.std.specs.Prelude.{◌≡◌, ℕ, ◌+◌, ◌<◌, length, vec_len, None, []};
     ghost use Rattle.gse_spec.specs.Packet.{start_packet, middle_packet, end_packet};
     ghost use Rattle.std.specs.Borrow.{sem};
     ghost use Rattle.std.specs.Io.BufRead.{Rests};
@@ -129,7 +120,6 @@ impl<A: Allocator> Slots<A> {
     ghost use Rattle.gse_spec.specs.Reassembly.{outcome_after};
     ghost use Rattle.gse_reassembly.specs.Outcomes.{Tells};
     ghost use Rattle.gse_spec.specs.Slots.{open_after};
-    ghost use Rattle.gse_spec.specs.Written.{label_bytes};
     ghost use Rattle.gse_reassembly.specs.Slots.{SlotsState, open_on, start_answer, middle_answer, Stands};
 
     /// Slots with nothing open and no frame counted, over a buffer of 65,540 bytes and a slot for each of 256 Frag IDs.

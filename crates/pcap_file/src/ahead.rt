@@ -1,10 +1,11 @@
 //! A source's bytes, read ahead into one buffer -> those that are asked for, lent out of it.
-ghost use Rattle.std.specs.Prelude.{◌≡◌, ℕ, ◌+◌, ◌-◌, ◌<◌, ◌≤◌, true, false, length, drop, IfOk, OnErr, [], Ok};
+ghost use Rattle.std.specs.Prelude.{◌≡◌, ◌+◌, ◌-◌, ◌<◌, ◌≤◌, true, false, length, drop, IfOk, OnErr, [], Ok};
 ghost use Rattle.std.specs.Io.KnownBytes.{IsAtEnd};
 ghost use Rattle.wire_spec.specs.Causes.{HasCause};
 ghost use Rattle.pcap_file.specs.Reading.{longest_record};
 ghost use Rattle.pcap_file.specs.Ahead.{Holds, IsWithin, given_last, held_in};
 
+use byte_slices::zeros;
 use ipe_io::{Failed, Source};
 use std::alloc::{AllocError as OutOfMemory, Global};
 
@@ -23,15 +24,8 @@ pub(crate) struct Ahead {
     to: usize,
 }
 
-/// As many zeros.
-fn zeros(alloc: Global, count: usize) -> Result<Vec<u8>, OutOfMemory>
-    ensures { IfOk result (λ v. length v.items ≡ count) }
-{
-    vec![in alloc; 0u8; count]
-}
-
 impl Ahead {
-    ghost use Rattle.std.specs.Prelude.{◌≡◌, ℕ, ◌+◌, ◌-◌, ◌<◌, ◌≤◌, true, false, length, drop, IfOk, OnErr, [], Ok};
+    ghost use Rattle.std.specs.Prelude.{◌≡◌, ◌+◌, ◌-◌, ◌<◌, ◌≤◌, true, false, length, drop, IfOk, OnErr, [], Ok};
     ghost use Rattle.std.specs.Io.KnownBytes.{IsAtEnd};
     ghost use Rattle.wire_spec.specs.Causes.{HasCause};
     ghost use Rattle.pcap_file.specs.Reading.{longest_record};

@@ -22,6 +22,12 @@ const IPV4: u16 = 0x0800;
 /// The EtherType of IPv6.
 const IPV6: u16 = 0x86DD;
 
+/// The place of the EtherType in an Ethernet frame, after two addresses of 6 bytes (IEEE 802.3 clause 3.1.1).
+const ETHER_TYPE: usize = 12;
+
+/// Version stands above four bits of a datagram's first byte (RFC 791 section 3.1).
+const VERSION_UNIT: u8 = 16;
+
 /// The bytes before an Ethernet frame's payload: two addresses of 6 and the EtherType (IEEE 802.3 clause 3.1.1).
 const ETHERNET_HEADER: usize = 14;
 
@@ -52,7 +58,7 @@ fn datagram_in_frame(frame: &[u8]) -> Option<&[u8]>
     if frame.len() < ETHERNET_HEADER {
         return None;
     }
-    let ether_type = u16::from(frame[12]) * 256 + u16::from(frame[13]);
+    let ether_type = u16::from(frame[ETHER_TYPE]) * 256 + u16::from(frame[ETHER_TYPE + 1]);
     datagram_announced(ether_type, &frame[ETHERNET_HEADER..])
 }
 
@@ -64,7 +70,7 @@ fn datagram_announced(ether_type: u16, bytes: &[u8]) -> Option<&[u8]>
         Ok(length) => length,
         Err(_) => return None,
     };
-    let version = bytes[0] / 16;
+    let version = bytes[0] / VERSION_UNIT;
     if (ether_type == IPV4 && version == 4) || (ether_type == IPV6 && version == 6) {
         Some(&bytes[..length])
     } else {

@@ -13,6 +13,9 @@ use ipe_io::{Failed, Source};
 /// The bytes of a record's head.
 const HEAD: usize = 16;
 
+/// The place of the captured length in a record's head, after the two numbers of its time.
+const LENGTH: usize = 8;
+
 /// Profile: the most bytes of a record.
 const LONGEST_RECORD: usize = 262_144;
 
@@ -38,7 +41,7 @@ fn record_length(
     ensures few { OnOk result (records < most_records) }
     ensures refused { IfErr result (λ fault. (rest : List ℕ) → record_fault least_first records bytes (head.now ++ rest) ≡ Some fault) }
 {
-    let length = u32_at(head, 8, least_first);
+    let length = u32_at(head, LENGTH, least_first);
     if records >= MOST_RECORDS {
         Err(CaptureFault::TooMany)
     } else if length as usize > LONGEST_RECORD {

@@ -12,6 +12,12 @@ const NO_MOMENT: u64 = 1 << 62;
 /// Arrival times of an m2ts recording go round at this number (30 bits).
 const ROUND: u64 = 1 << 30;
 
+/// The bytes of a stamp in microseconds.
+const STAMP: usize = 8;
+
+/// The bytes of an m2ts stamp: two bits of copy permission and an arrival time of 30.
+const M2TS_STAMP: usize = 4;
+
 /// The bytes before each packet.
 pub(crate) fn stamp_size(recording: Recording) -> usize
     ensures size { result ≡ size_of_stamp (form_of recording) }
@@ -19,8 +25,8 @@ pub(crate) fn stamp_size(recording: Recording) -> usize
 {
     match recording {
         Recording::Plain => 0,
-        Recording::Stamped => 8,
-        Recording::M2ts => 4,
+        Recording::Stamped => STAMP,
+        Recording::M2ts => M2TS_STAMP,
     }
 }
 

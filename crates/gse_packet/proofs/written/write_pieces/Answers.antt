@@ -1,7 +1,7 @@
 -- Each piece is put after those before it.
-use Rattle.std.proofs.Common.{◌≡◌, ℕ, ◌+◌, ◌*◌, List, [], ◌++◌, length, drop, refl, ap, sym, ◌∙◌, length-append, append_assoc, arith}
+use Rattle.std.proofs.Common.{◌≡◌, ℕ, ◌+◌, ◌*◌, List, [], ◌++◌, length, drop, refl, ap, ◌∙◌, length-append, append_assoc, arith}
 use Rattle.std.specs.Int.{w16, to_be_bytes}
-use Rattle.gse_packet.proofs.Puts.{put_behind}
+use Rattle.byte_slices.proofs.Puts.{put_behind}
 use Rattle.gse_packet.proofs.written.write_pieces.Goals as goal
 
 -- the same pieces in a row

@@ -29,9 +29,9 @@ pub returns-then-sum-crc : goal.returns-then-sum-crc
 returns-then-sum-crc g c =
     let is = held_is c.self.inside.slots.items c.from-at.result c.index.result.now (Some c.in-Some.open) (omega arith) c.index.ensures c.in-Some.is in
     let fits = held_fits c.self.inside.slots.items c.from-at.result c.in-Some.open c.self.invariant.2 is in
-    let new : List ℕ = take c.self.inside.buffer.len (c.put.new.buffer ++ drop (length c.put.new.buffer) c.self.inside.buffer.items) in
+    let new : List ℕ = take c.self.inside.buffer.len (c.put.new.into ++ drop (length c.put.new.into) c.self.inside.buffer.items) in
     let new_is =
-    refilled c.self.inside.buffer.items c.deref_mut.result.now c.put.new.buffer c.args.pdu.now (drop (length c.put.new.buffer) c.self.inside.buffer.items) c.self.inside.buffer.len
+    refilled c.self.inside.buffer.items c.deref_mut.result.now c.put.new.into c.args.pdu.now (drop (length c.put.new.into) c.self.inside.buffer.items) c.self.inside.buffer.len
     (c.from-at.result * 65540 + c.in-Some.open.fill) (omega arith) (omega (arith, fits.0, fits.1)) c.put.ensures.put c.deref_mut.ensures.value in
     let bytes_is = c.piece_at.ensures.part ∙ ap (λ (t : List ℕ). take (c.in-Some.open.fill + length c.args.pdu.now) (drop (c.from-at.result * 65540) t)) c.deref.ensures.value in (
       (
@@ -56,9 +56,9 @@ pub returns : goal.returns
 returns g c =
     let is = held_is c.self.inside.slots.items c.from-at.result c.index.result.now (Some c.in-Some.open) (omega arith) c.index.ensures c.in-Some.is in
     let fits = held_fits c.self.inside.slots.items c.from-at.result c.in-Some.open c.self.invariant.2 is in
-    let new : List ℕ = take c.self.inside.buffer.len (c.put.new.buffer ++ drop (length c.put.new.buffer) c.self.inside.buffer.items) in
+    let new : List ℕ = take c.self.inside.buffer.len (c.put.new.into ++ drop (length c.put.new.into) c.self.inside.buffer.items) in
     let new_is =
-    refilled c.self.inside.buffer.items c.deref_mut.result.now c.put.new.buffer c.args.pdu.now (drop (length c.put.new.buffer) c.self.inside.buffer.items) c.self.inside.buffer.len
+    refilled c.self.inside.buffer.items c.deref_mut.result.now c.put.new.into c.args.pdu.now (drop (length c.put.new.into) c.self.inside.buffer.items) c.self.inside.buffer.len
     (c.from-at.result * 65540 + c.in-Some.open.fill) (omega arith) (omega (arith, fits.0, fits.1)) c.put.ensures.put c.deref_mut.ensures.value in
     let bytes_is = c.piece_at.ensures.part ∙ ap (λ (t : List ℕ). take (c.in-Some.open.fill + length c.args.pdu.now) (drop (c.from-at.result * 65540) t)) c.deref.ensures.value in (
       (
