@@ -14,7 +14,7 @@ use Rattle.service_plan.specs.Reading.{AnswersOrWants}
 use Rattle.service_plan.specs.declared.fault.PlanError.{PlanError}
 use Rattle.service_plan.specs.Services.{IsEnded, IsServiceOf}
 use Rattle.plan.specs.declared.service.Kind.{Kind}
-use Rattle.service_plan.specs.declared.draft.ServiceDraft.{ServiceDraft}
+use Rattle.service_plan.specs.declared.service_draft.ServiceDraft.{ServiceDraft}
 
 -- the kinds
 pub kind_of_ule : (m : Members) (pid : ℕ) (address packing : Bool) → kind_text m ≡ codes "ule" → pid ≡ number_or 0 (codes "pid") m

@@ -6,7 +6,7 @@ ghost use Rattle.settings_spec.specs.Settings.{kind_key, mode_key, kind_text, is
 ghost use Rattle.service_plan.specs.Reading.{AnswersOrWants};
 ghost use Rattle.service_plan.specs.Services.{IsServiceOf};
 
-use crate::draft::{ServiceDraft, filter, finish};
+use crate::service_draft::{ServiceDraft, filter, finish};
 use crate::fault::PlanError;
 use plan::Kind;
 use addr_rules::MacList;

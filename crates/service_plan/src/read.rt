@@ -11,8 +11,8 @@ ghost use Rattle.service_plan.specs.Accepted.{IsAcceptedTable};
 
 use crate::fault::{PlanError, PlanFault};
 use plan::Plan;
-use crate::tables::{Draft, read_tables};
-use crate::whole::check_whole;
+use crate::settings_draft::{Draft, read_tables};
+use crate::plan_checks::check_whole;
 use std::alloc::Global;
 use toml::Table;
 
