@@ -6,7 +6,8 @@ use Rattle.service_plan.proofs.int_packets.table_packets.Goals as goal
 
 pub returns-in-Some : goal.returns-in-Some
 returns-in-Some c = record {
-  read = packets_counted (draft_seen c.args.draft.now) _ c.args.draft.now.services _ (ap (option_map int_seen) c.in-Some.is) refl (rw c.items.ensures.read at c.entries_size-size.ensures.read);
+  read = packets_counted (draft_seen c.args.draft.now) _ c.args.draft.now.services _ _ (ap (option_map int_seen) c.in-Some.is) refl
+      (rw c.items.ensures.read at c.entries_size.ensures.read) c.section_size-size.ensures.counted;
 }
 
 pub returns-in-None : goal.returns-in-None
