@@ -26,10 +26,8 @@ pub(crate) struct ServiceDraft {
 pub(crate) fn filter(alloc: Global, table: &Table) -> Result<MacList, PlanError>
     ensures read { AnswersOrWants result (key_fault filter_key (table_view table.now)) (λ list. list ≡ macs_of (items_at (codes "filter") (table_view table.now))) }
 {
-    let items = match filter_items(table) {
-        Ok(Some(items)) => items,
-        Ok(None) => return Ok(MacList::new(alloc)),
-        Err(fault) => return Err(PlanError::Fault(fault)),
+    let Some(items) = filter_items(table)? else {
+        return Ok(MacList::new(alloc));
     };
     match addresses(alloc, items)? {
         Some(list) => Ok(list),

@@ -62,18 +62,9 @@ pub(crate) fn read_tables(alloc: Global, top: &Table) -> Result<Draft, PlanError
     refuse_unknown(top, &TOP_KEYS)?;
     let values = top_values(top)?;
     let int = int_table(top)?;
-    let items = match service_items(top, most(values.baseband)) {
-        Ok(items) => items,
-        Err(fault) => return Err(PlanError::Fault(fault)),
-    };
-    let table = match read_int(int) {
-        Ok(table) => table,
-        Err(fault) => return Err(PlanError::Fault(fault)),
-    };
-    let read = match read_services(alloc, items) {
-        Ok(read) => read,
-        Err(error) => return Err(error),
-    };
+    let items = service_items(top, most(values.baseband))?;
+    let table = read_int(int)?;
+    let read = read_services(alloc, items)?;
     Ok(Draft {
         recording: values.recording,
         packet_rate: values.packet_rate,
