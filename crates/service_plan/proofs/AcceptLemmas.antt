@@ -18,7 +18,7 @@ use Rattle.service_plan.specs.Drafts.{rules_seen, HaveRulesOf}
 use Rattle.service_plan.specs.Plans.{parts_fault, draft_seen, IsDraftOf}
 use Rattle.service_plan.specs.Order.{first_met, whole_fault}
 use Rattle.plan.specs.declared.service.Service.{Service}
-use Rattle.service_plan.specs.declared.tables.Draft.{Draft}
+use Rattle.service_plan.specs.declared.settings_draft.Draft.{Draft}
 use Rattle.settings_spec.specs.Keys.{no_document}
 use Rattle.settings_spec.specs.Refusal.{IsDocument, IsNoDocument, IsAccepted, IsRefused}
 use Rattle.settings_spec.proofs.OneAnswer.{acceptance_is_no_refusal}
@@ -251,16 +251,16 @@ refused_by : (o : Option SettingsFault) (fails : SettingsFault → Type 0) (f : 
 refused_by None fails f e = absurd (let h = e in cc)
 refused_by (Some g) fails f e = let h = e in cc
 
-refused_behind : (o : Option SettingsFault) (fails : SettingsFault → Type 0) (f : SettingsFault) → o ≡ None → IsFirst fails whole_checks f → MatchOption o (IsFirst fails whole_checks f) (λ first. f ≡ first)
-refused_behind None fails f e first = first
-refused_behind (Some g) fails f e first = absurd (let h = e in cc)
+refused_later : (o : Option SettingsFault) (fails : SettingsFault → Type 0) (f : SettingsFault) → o ≡ None → IsFirst fails whole_checks f → MatchOption o (IsFirst fails whole_checks f) (λ first. f ≡ first)
+refused_later None fails f e first = first
+refused_later (Some g) fails f e first = absurd (let h = e in cc)
 
 pub refused_tables : (top : Members) (e : PlanError) → Faults e (parts_fault top) → OnFault e (IsRefusedTable top)
 refused_tables top (error.Fault f) wrong = refused_by (tables_fault top) (Fails top) (fault_seen f) (tables_parts top ∙ wrong)
 refused_tables top error.OutOfMemory wrong = tt
 
 pub refused_table : (top : Members) (draft : Draft) (f : SettingsFault) → IsDraftOf top draft → parts_fault top ≡ None → whole_fault draft.spelled (draft_seen draft) ≡ Some f → IsRefusedTable top f
-refused_table top draft f is tables met = refused_behind (tables_fault top) (Fails top) f (tables_parts top ∙ tables) (refused_whole top draft f is met)
+refused_table top draft f is tables met = refused_later (tables_fault top) (Fails top) f (tables_parts top ∙ tables) (refused_whole top draft f is met)
 
 -- the settings
 pub refused_text : (bytes : List ℕ) (e : PlanError) → OnFault e (λ f. (f ≡ no_document) × IsNoDocument bytes) → OnFault e (IsRefused bytes)

@@ -1,5 +1,5 @@
 -- A service of a table: its kind, its filter, and what is wrong with it.
-use Rattle.std.proofs.Common.{◌≡◌, ℕ, Bool, true, false, List, [], Option, Some, None, codes, bytes_eq, if◌then◌else◌, Result, sym, ◌∙◌, ap, subst}
+use Rattle.std.proofs.Common.{◌≡◌, ℕ, Bool, true, false, List, [], Option, Some, None, codes, bytes_eq, if◌then◌else◌, Result, Ok, Err, sym, ◌∙◌, ap, subst}
 use Rattle.std.specs.List.{filter_map}
 use Rattle.toml.specs.Data.{Data, Members}
 use Rattle.addr_rules.specs.Texts.{mac_of_text}
@@ -10,11 +10,12 @@ use Rattle.settings_spec.specs.Settings.{kind_key, mode_key, ule_keys, mpe_keys,
 use Rattle.plan_spec.specs.Valid.{is_valid_kind, has_valid_values}
 use Rattle.plan.specs.Parts.{kind_seen}
 use Rattle.settings_keys.specs.Lists.{macs_of}
+use Rattle.service_plan.specs.Keys.{Faults}
 use Rattle.service_plan.specs.Reading.{AnswersOrWants}
 use Rattle.service_plan.specs.declared.fault.PlanError.{PlanError}
 use Rattle.service_plan.specs.Services.{IsEnded, IsServiceOf}
 use Rattle.plan.specs.declared.service.Kind.{Kind}
-use Rattle.service_plan.specs.declared.draft.ServiceDraft.{ServiceDraft}
+use Rattle.service_plan.specs.declared.service_draft.ServiceDraft.{ServiceDraft}
 
 -- the kinds
 pub kind_of_ule : (m : Members) (pid : ℕ) (address packing : Bool) → kind_text m ≡ codes "ule" → pid ≡ number_or 0 (codes "pid") m
@@ -74,6 +75,12 @@ ended_is_service m place name kind items filter draft ended n k i f named valid 
 -- an answer about one fault is one about an equal fault
 pub answers_for : {T : Type 0} (result : Result T PlanError) (a b : Option SettingsFault) (P : T → Type 0) → a ≡ b → AnswersOrWants result b P → AnswersOrWants result a P
 answers_for result a b P same answers = subst (λ (fault : Option SettingsFault). AnswersOrWants result fault P) (sym same) answers
+
+-- and what is so of the draft follows
+pub answers_as : (result : Result ServiceDraft PlanError) (a b : Option SettingsFault) (P Q : ServiceDraft → Type 0) → a ≡ b → ((draft : ServiceDraft) → P draft → Q draft)
+    → AnswersOrWants result b P → AnswersOrWants result a Q
+answers_as (Ok draft) a b P Q same follows answers = (same ∙ answers.0, follows draft answers.1)
+answers_as (Err error) a b P Q same follows answers = subst (λ (fault : Option SettingsFault). Faults error fault) (sym same) answers
 
 -- what is wrong with a service, by its kind
 pub service_fault_ule : (m : Members) → key_fault kind_key m ≡ None → kind_text m ≡ codes "ule" → service_fault m ≡ table_fault ule_keys m

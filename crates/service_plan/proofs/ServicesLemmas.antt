@@ -18,7 +18,7 @@ use Rattle.settings_keys.specs.Lists.{views, tables_of}
 use Rattle.service_plan.specs.Services.{IsServiceOf, HasRulesOf, ruled}
 use Rattle.service_plan.specs.Drafts.{rules_seen, texts_of_rules, AreServicesOf}
 use Rattle.plan.specs.declared.service.Service.{Service}
-use Rattle.service_plan.specs.declared.draft.ServiceDraft.{ServiceDraft}
+use Rattle.service_plan.specs.declared.service_draft.ServiceDraft.{ServiceDraft}
 use Rattle.service_plan.specs.declared.services.ServicesDraft.{ServicesDraft}
 
 -- what was read of all tables, the rest of them still to come

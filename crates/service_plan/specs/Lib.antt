@@ -7,4 +7,3 @@ pub mod Plans
 pub mod Wholes
 pub mod Order
 pub mod Accepted
-pub mod Sizes

@@ -8,7 +8,7 @@ use Rattle.settings_spec.specs.Settings.{top_keys, value_keys, int_key, service_
 use Rattle.plan_spec.specs.Valid.{has_valid_top, has_valid_values}
 use Rattle.plan.specs.Parts.{plan_seen, services_seen}
 use Rattle.service_plan.specs.Drafts.{rules_seen, HaveRulesOf}
-use Rattle.service_plan.specs.declared.tables.Draft.{Draft}
+use Rattle.service_plan.specs.declared.settings_draft.Draft.{Draft}
 
 -- what is wrong with the tables, table by table
 abbrev pub parts_fault : Members → Option SettingsFault

@@ -12,7 +12,7 @@ use Rattle.plan_spec.specs.Valid.{has_valid_values}
 use Rattle.plan.specs.Parts.{kind_seen, service_seen}
 use Rattle.settings_keys.specs.Lists.{texts_of}
 use Rattle.plan.specs.declared.service.Kind.{Kind}
-use Rattle.service_plan.specs.declared.draft.ServiceDraft.{ServiceDraft}
+use Rattle.service_plan.specs.declared.service_draft.ServiceDraft.{ServiceDraft}
 
 -- its rules are those of the texts, where each text is a rule
 pub record HasRulesOf (texts : List (List ℕ)) (draft : ServiceDraft) : Type 0 where

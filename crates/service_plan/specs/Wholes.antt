@@ -4,7 +4,7 @@ use Rattle.std.specs.List.{list_any, filter_map}
 use Rattle.plan_spec.specs.Plan.{KindFields, IntFields, PlanFields, pid_of, isi_of, SlicedFields, sliced_of}
 use Rattle.plan.specs.Parts.{kind_seen}
 use Rattle.plan.specs.declared.service.Service.{Service}
-use Rattle.service_plan.specs.declared.windows.Sliced.{Sliced}
+use Rattle.service_plan.specs.declared.window_checks.Sliced.{Sliced}
 
 -- the ISI in baseband frames, the PID in packets
 abbrev pub id_seen : Bool → KindFields → Option ℕ

@@ -6,7 +6,7 @@ ghost use Rattle.settings_spec.specs.Settings.{kind_key, mode_key, kind_text, is
 ghost use Rattle.service_plan.specs.Reading.{AnswersOrWants};
 ghost use Rattle.service_plan.specs.Services.{IsServiceOf};
 
-use crate::draft::{ServiceDraft, filter, finish};
+use crate::service_draft::{ServiceDraft, filter, finish};
 use crate::fault::PlanError;
 use plan::Kind;
 use addr_rules::MacList;
@@ -104,10 +104,7 @@ fn ule(alloc: Global, place: u8, table: &Table) -> Result<ServiceDraft, PlanErro
         address,
         packing,
     };
-    match finish(alloc, place, table, name, kind, items, filter) {
-        Ok(draft) => Ok(draft),
-        Err(error) => Err(error),
-    }
+    finish(alloc, place, table, name, kind, items, filter)
 }
 
 /// Reads an MPE service.
@@ -123,10 +120,7 @@ fn mpe(alloc: Global, place: u8, table: &Table) -> Result<ServiceDraft, PlanErro
     let items = rule_items(table)?;
     let filter = filter(alloc, table)?;
     let kind = Kind::Mpe { pid };
-    match finish(alloc, place, table, name, kind, items, filter) {
-        Ok(draft) => Ok(draft),
-        Err(error) => Err(error),
-    }
+    finish(alloc, place, table, name, kind, items, filter)
 }
 
 /// Reads a service with indexed frames.
@@ -151,10 +145,7 @@ fn indexed(alloc: Global, place: u8, table: &Table) -> Result<ServiceDraft, Plan
         parity: parity as u8,
         window: None,
     };
-    match finish(alloc, place, table, name, kind, items, filter) {
-        Ok(draft) => Ok(draft),
-        Err(error) => Err(error),
-    }
+    finish(alloc, place, table, name, kind, items, filter)
 }
 
 /// Reads a service with sliced frames.
@@ -181,10 +172,7 @@ fn sliced(alloc: Global, place: u8, table: &Table) -> Result<ServiceDraft, PlanE
         parity: parity as u8,
         window: Some((start, length)),
     };
-    match finish(alloc, place, table, name, kind, items, filter) {
-        Ok(draft) => Ok(draft),
-        Err(error) => Err(error),
-    }
+    finish(alloc, place, table, name, kind, items, filter)
 }
 
 /// Reads a GSE service.
@@ -206,10 +194,7 @@ fn gse(alloc: Global, place: u8, table: &Table) -> Result<ServiceDraft, PlanErro
         isi: isi as u8,
         address,
     };
-    match finish(alloc, place, table, name, kind, items, filter) {
-        Ok(draft) => Ok(draft),
-        Err(error) => Err(error),
-    }
+    finish(alloc, place, table, name, kind, items, filter)
 }
 
 /// Reads a service with frames.

@@ -4,20 +4,20 @@
 //! Begin with `read_plan`. The types and calls of `plan` are passed on.
 #![tactic(auto)]
 
-mod draft;
 mod fault;
 mod int;
+mod int_packets;
 mod kinds;
-mod pairs;
+mod plan_checks;
 mod read;
+mod service_draft;
 mod services;
-mod signalling;
-mod tables;
+mod settings_draft;
 #[cfg(test)]
 mod tests;
 mod top;
-mod whole;
-mod windows;
+mod unique_checks;
+mod window_checks;
 
 pub use fault::{PlanError, PlanFault};
 pub use plan::{IntPlan, Kind, Name, Plan, Service, ServiceList, longest, route, sample_plan, ule_plan};

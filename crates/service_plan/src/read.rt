@@ -11,8 +11,8 @@ ghost use Rattle.service_plan.specs.Accepted.{IsAcceptedTable};
 
 use crate::fault::{PlanError, PlanFault};
 use plan::Plan;
-use crate::tables::{Draft, read_tables};
-use crate::whole::check_whole;
+use crate::settings_draft::{Draft, read_tables};
+use crate::plan_checks::check_whole;
 use std::alloc::Global;
 use toml::Table;
 
@@ -38,32 +38,25 @@ fn plan_of_table(alloc: Global, top: &Table) -> Result<Plan, PlanError>
     ensures read { IfOk result (λ plan. IsAcceptedTable (table_view top.now) (plan_fields plan)) }
     ensures refused { IfErr result (λ e. OnFault e (IsRefusedTable (table_view top.now))) }
 {
-    let draft = match read_tables(alloc, top) {
-        Ok(draft) => draft,
-        Err(error) => return Err(error),
-    };
-    match check_whole(&draft) {
-        Ok(()) => {
-            let Draft {
-                recording,
-                packet_rate,
-                cycle,
-                frame_bytes,
-                table,
-                services,
-                spelled: _,
-            } = draft;
-            Ok(Plan {
-                recording,
-                packet_rate,
-                cycle,
-                frame_bytes,
-                table,
-                services,
-            })
-        }
-        Err(fault) => Err(PlanError::Fault(fault)),
-    }
+    let draft = read_tables(alloc, top)?;
+    check_whole(&draft)?;
+    let Draft {
+        recording,
+        packet_rate,
+        cycle,
+        frame_bytes,
+        table,
+        services,
+        spelled: _,
+    } = draft;
+    Ok(Plan {
+        recording,
+        packet_rate,
+        cycle,
+        frame_bytes,
+        table,
+        services,
+    })
 }
 
 /// Reads a plan from settings, a TOML document.
@@ -75,12 +68,6 @@ pub fn read_plan(alloc: Global, text: &[u8]) -> Result<Plan, PlanError>
     ensures refused { IfErr result (λ e. OnFault e (IsRefused text.now)) }
     ensures only { (plan : PlanFields) → IsAccepted text.now plan → IfErr result (λ e. e ≡ PlanError.OutOfMemory) }
 {
-    let top = match document(alloc, text) {
-        Ok(top) => top,
-        Err(error) => return Err(error),
-    };
-    match plan_of_table(alloc, &top) {
-        Ok(plan) => Ok(plan),
-        Err(error) => Err(error),
-    }
+    let top = document(alloc, text)?;
+    plan_of_table(alloc, &top)
 }

@@ -38,10 +38,7 @@ pub(crate) fn read_services(alloc: Global, items: &[Value]) -> Result<ServicesDr
             None => continue,
         };
         let place = list.len() as u8;
-        let draft = match read_service(alloc, place, table) {
-            Ok(draft) => draft,
-            Err(error) => return Err(error),
-        };
+        let draft = read_service(alloc, place, table)?;
         spelled = both(spelled, draft.spelled);
         list.push(draft.service)?;
     }

@@ -85,10 +85,8 @@ pub fn pid(table: &Table) -> Result<u16, PlanFault>
     ensures read { Reads result (rule_for Key.Pid true (range 32 8190)) (table_view table.now) (λ n. n ≡ number_or 0 (codes "pid") (table_view table.now)) }
     ensures within { IfOk result (λ n. (32 ≤ n) × (n ≤ 8190)) }
 {
-    match number(table, Key::Pid, 32, 8190, None) {
-        Ok(number) => Ok(number as u16),
-        Err(fault) => Err(fault),
-    }
+    let number = number(table, Key::Pid, 32, 8190, None)?;
+    Ok(number as u16)
 }
 
 /// The rows of a frame: 256, 512, 768 or 1024, which is the default.

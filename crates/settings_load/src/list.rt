@@ -63,17 +63,14 @@ fn put_services<O: Sink>(plan: &Plan, output: &mut O) -> Result<(), Failed>
     ensures cause { HasCause (O.told output.old).faults (O.told output.new).faults result }
 {
     for place in 0..plan.services.len() {
-        match put_service(plan.services.at(place), output) {
-            Ok(()) => {}
-            Err(failed) => return Err(failed),
-        }
+        put_service(plan.services.at(place), output)?;
     }
     Ok(())
 }
 
 /// Puts one line for each service, and flushes all of it.
 ///
-/// A line is the name, the kind and the PID or ISI in decimal, parted by one space. On `Failed` a prefix of the lines was
+/// A line is the name, the kind and the PID or ISI in decimal, separated by one space. On `Failed` a prefix of the lines was
 /// appended, and nothing more is flushed.
 pub fn list_services<O: Sink>(plan: &Plan, output: &mut O) -> Result<(), Failed>
     ensures written { Puts result (O.told output.old).held (O.told output.new).held (check_text (plan_fields plan.now)) }
@@ -81,8 +78,6 @@ pub fn list_services<O: Sink>(plan: &Plan, output: &mut O) -> Result<(), Failed>
     ensures unflushed { OnErr result (Stays (O.told output.old).flushed (O.told output.new).flushed) }
     ensures cause { HasCause (O.told output.old).faults (O.told output.new).faults result }
 {
-    match put_services(plan, output) {
-        Ok(()) => output.flush(),
-        Err(failed) => Err(failed),
-    }
+    put_services(plan, output)?;
+    output.flush()
 }

@@ -1,0 +1,77 @@
+//! All tables of settings -> the plan that they give, not yet checked as a whole.
+ghost use Rattle.std.specs.Prelude.{◌≡◌, ◌<◌, Some, None, if◌then◌else◌};
+ghost use Rattle.toml.specs.View.{table_view};
+ghost use Rattle.plan_spec.specs.Valid.{most_services};
+ghost use Rattle.service_plan.specs.Reading.{AnswersOrWants};
+ghost use Rattle.service_plan.specs.Plans.{IsDraftOf, parts_fault};
+
+use crate::fault::PlanError;
+use crate::int::read_int;
+use plan::IntPlan;
+use plan::ServiceList;
+use crate::services::read_services;
+use crate::top::{int_table, top_values};
+use ipe_io::Recording;
+use settings_keys::{Key, refuse_unknown, service_items};
+use std::alloc::Global;
+use toml::Table;
+
+/// A plan, and whether each text of its rules is one.
+#[derive(Drop)]
+pub(crate) struct Draft {
+    pub(crate) recording: Recording,
+    pub(crate) packet_rate: u32,
+    pub(crate) cycle: u32,
+    pub(crate) frame_bytes: Option<u16>,
+    pub(crate) table: Option<IntPlan>,
+    pub(crate) services: ServiceList,
+    pub(crate) spelled: bool,
+}
+
+/// The keys of the top table.
+const TOP_KEYS: [Key; 7] = [
+    Key::Carrier,
+    Key::Recording,
+    Key::PacketRate,
+    Key::Cycle,
+    Key::FrameBytes,
+    Key::Int,
+    Key::Service,
+];
+
+/// How many services there may be.
+fn most(baseband: bool) -> usize
+    ensures { result ≡ most_services baseband }
+{
+    if baseband { 16 } else { 64 }
+}
+
+/// The bytes of baseband frames, where these carry the stream.
+fn frame_size(baseband: bool, bytes: u32) -> Option<u16>
+    requires { bytes < 65536 }
+    ensures { result ≡ (if baseband then Some bytes else None) }
+{
+    if baseband { Some(bytes as u16) } else { None }
+}
+
+/// Reads the top table, then that of the INT, then those of the services.
+#[tactic(auto, using(settings_keys::proofs::KeyLemmas::first_here, settings_keys::proofs::KeyLemmas::first_later))]
+pub(crate) fn read_tables(alloc: Global, top: &Table) -> Result<Draft, PlanError>
+    ensures read { AnswersOrWants result (parts_fault (table_view top.now)) (IsDraftOf (table_view top.now)) }
+{
+    refuse_unknown(top, &TOP_KEYS)?;
+    let values = top_values(top)?;
+    let int = int_table(top)?;
+    let items = service_items(top, most(values.baseband))?;
+    let table = read_int(int)?;
+    let read = read_services(alloc, items)?;
+    Ok(Draft {
+        recording: values.recording,
+        packet_rate: values.packet_rate,
+        cycle: values.cycle,
+        frame_bytes: frame_size(values.baseband, values.frame_bytes),
+        table,
+        services: read.services,
+        spelled: read.spelled,
+    })
+}
