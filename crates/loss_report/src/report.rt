@@ -1,8 +1,8 @@
 //! A report: lines are added, and then its text is made.
-ghost use Rattle.std.specs.Prelude.{◌≡◌, ◌++◌, ◌∷◌, [], IfOk, OnOk, OnErr};
+ghost use Rattle.std.specs.Prelude.{◌≡◌, ◌++◌, ◌∷◌, [], true, IfOk, OnOk, OnErr};
+ghost use Rattle.plan_spec.specs.Checks.{is_service_name};
 ghost use Rattle.loss_report.specs.Counts.{service_lines, stream_lines, table_lines};
 ghost use Rattle.loss_report.specs.Lines.{report_text};
-ghost use Rattle.loss_report.specs.Names.{IsServiceName};
 ghost use Rattle.loss_report.specs.Parts.{part_lines};
 ghost use Rattle.loss_report.specs.RuleText.{rule_line};
 
@@ -49,7 +49,7 @@ impl Report {
 
     /// Puts the 13 lines of a service after the others. When out of memory the report stays as it was.
     pub fn add_service(&mut self, name: &str, counts: ServiceCounts) -> Result<(), OutOfMemory>
-        requires { IsServiceName name.now }
+        requires { is_service_name name.now ≡ true }
         ensures written { OnOk result (self.new ≡ self.old ++ service_lines name.now counts) }
         ensures unchanged { OnErr result (self.new ≡ self.old) }
     {
