@@ -4,9 +4,9 @@ ghost use Rattle.wire_spec.specs.Causes.{Rose, raised};
 ghost use Rattle.wire_spec.specs.Content.{Stays};
 ghost use Rattle.ts_spec.specs.Recording.{record_size, Record as ReadRecord};
 ghost use Rattle.plan_spec.specs.Plan.{ServiceFields};
+ghost use Rattle.plan_spec.specs.Checks.{is_service_name};
 ghost use Rattle.plan.specs.PlanView.{plan_fields};
 ghost use Rattle.ipe_io.specs.Counts.{IsFlushed};
-ghost use Rattle.loss_report.specs.Names.{IsServiceName};
 ghost use Rattle.demux_core.specs.Receiving.{HasReceived};
 ghost use Rattle.plan_spec.specs.Built.{are_received};
 ghost use Rattle.receive_command.specs.Files.{AddsHeads};
@@ -97,7 +97,7 @@ fn put_report<O: Sink>(
 ) -> ReceiveEnd
     requires same { receiver.now.plan ≡ plan_fields plan.now }
     requires few { length plan.now.services ≤ 64 }
-    requires named { (k : ℕ) (service : ServiceFields) → slice_get (plan_fields plan.now).services k ≡ Some service → IsServiceName service.name }
+    requires named { (k : ℕ) (service : ServiceFields) → slice_get (plan_fields plan.now).services k ≡ Some service → is_service_name service.name ≡ true }
     ensures done { (records : List ReadRecord) → HasReceived (plan_fields plan.now) records receiver.now → result ≡ ReceiveEnd.Done
         → Reports (plan_fields plan.now) records tail (O.told output.old).held (O.told output.new).held }
     ensures report { (records : List ReadRecord) → HasReceived (plan_fields plan.now) records receiver.now → result ≡ ReceiveEnd.SinkFault

@@ -1,12 +1,12 @@
 //! The report of a reception: counts and the address table -> lines of text.
-ghost use Rattle.std.specs.Prelude.{◌≡◌, ℕ, ◌≤◌, ◌++◌, List, flat_map, length, Some, slice_get, IfOk, OnOk};
+ghost use Rattle.std.specs.Prelude.{◌≡◌, ℕ, ◌≤◌, ◌++◌, true, List, flat_map, length, Some, slice_get, IfOk, OnOk};
 ghost use Rattle.ts_spec.specs.Recording.{Record as ReadRecord};
 ghost use Rattle.int_spec.specs.Reading.{carried};
 ghost use Rattle.plan_spec.specs.Plan.{ServiceFields};
+ghost use Rattle.plan_spec.specs.Checks.{is_service_name};
 ghost use Rattle.plan.specs.PlanView.{plan_fields};
 ghost use Rattle.demux_core.specs.Receiving.{HasReceived};
 ghost use Rattle.int_table.specs.Views.{entry_in};
-ghost use Rattle.loss_report.specs.Names.{IsServiceName};
 ghost use Rattle.receive_command.specs.Report.{IsReport, AddsTable, AddsSection, fault_number, lines_of_service, lines_of_entry, lines_of_rules};
 
 use demux_core::Receiver;
@@ -25,7 +25,7 @@ pub(crate) fn report_of(
 ) -> Result<Vec<u8>, OutOfMemory>
     requires same { receiver.now.plan ≡ plan_fields plan.now }
     requires few { length plan.now.services ≤ 64 }
-    requires named { (k : ℕ) (service : ServiceFields) → slice_get (plan_fields plan.now).services k ≡ Some service → IsServiceName service.name }
+    requires named { (k : ℕ) (service : ServiceFields) → slice_get (plan_fields plan.now).services k ≡ Some service → is_service_name service.name ≡ true }
     ensures written { (records : List ReadRecord) → HasReceived (plan_fields plan.now) records receiver.now
         → IfOk result (λ text. IsReport (plan_fields plan.now) records tail text.items) }
 {
@@ -45,7 +45,7 @@ fn add_services(
 ) -> Result<(), OutOfMemory>
     requires same { receiver.now.plan ≡ plan_fields plan.now }
     requires few { length plan.now.services ≤ 64 }
-    requires named { (k : ℕ) (service : ServiceFields) → slice_get (plan_fields plan.now).services k ≡ Some service → IsServiceName service.name }
+    requires named { (k : ℕ) (service : ServiceFields) → slice_get (plan_fields plan.now).services k ≡ Some service → is_service_name service.name ≡ true }
     ensures written { (records : List ReadRecord) → HasReceived (plan_fields plan.now) records receiver.now
         → OnOk result (report.new ≡ report.old ++ flat_map (lines_of_service records) (plan_fields plan.now).services) }
 {

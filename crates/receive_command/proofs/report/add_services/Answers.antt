@@ -1,10 +1,10 @@
-use Rattle.std.proofs.Common.{◌≡◌, ◌++◌, List, ℕ, ap, sym, ◌∙◌, subst, map, Some, option_map}
+use Rattle.std.proofs.Common.{◌≡◌, true, ◌++◌, List, ℕ, ap, sym, ◌∙◌, subst, map, Some, option_map}
 use Rattle.std.specs.List.{slice_get}
 use Rattle.std.proofs.lemmas.Option.{slice_get-map}
+use Rattle.plan_spec.specs.Checks.{is_service_name}
 use Rattle.plan.specs.Parts.{service_seen}
 use Rattle.plan.specs.PlanView.{plan_fields}
 use Rattle.loss_report.specs.Counts.{service_lines}
-use Rattle.loss_report.specs.Names.{IsServiceName}
 use Rattle.loss_report.specs.declared.counts.ServiceCounts.{ServiceCounts}
 use Rattle.receive_command.specs.Report.{lines_of_service}
 use Rattle.receive_command.proofs.Lines.{flat_more}
@@ -12,7 +12,7 @@ use Rattle.receive_command.proofs.report.add_services.Goals as goal
 
 pub add_service-requires : goal.add_service-requires
 add_service-requires c =
-    subst IsServiceName (sym c.text.ensures.read)
+    subst (λ (n : List ℕ). is_service_name n ≡ true) (sym c.text.ensures.read)
     (c.requires.named c.loop-k.k (service_seen c.at.result.now) (slice_get-map service_seen c.args.plan.now.services c.loop-k.k ∙ ap (option_map service_seen) c.at.ensures.read))
 
 pub loop-k-preserved : goal.loop-k-preserved
