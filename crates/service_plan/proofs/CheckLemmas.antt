@@ -1,9 +1,9 @@
 -- Services against each other.
-use Rattle.std.proofs.Common.{◌≡◌, lit≤, sum_by, option_map, not, if◌then◌else◌, ℕ, ◌+◌, ◌<◌, ◌≤◌, Bool, true, false, ◌||◌, ◌&&◌, ◌==◌, nat_le, ◌++◌, List, [], ◌∷◌, length, map, get_or, drop, Option, Some, None, nat_lt, is_some, refl, ap, sym, ◌∙◌, arith}
+use Rattle.std.proofs.Common.{◌≡◌, sum_by, option_map, not, if◌then◌else◌, ℕ, ◌+◌, ◌<◌, ◌≤◌, Bool, true, false, ◌||◌, ◌&&◌, ◌==◌, nat_le, ◌++◌, List, [], ◌∷◌, length, map, get_or, drop, Option, Some, None, nat_lt, is_some, refl, ap, sym, ◌∙◌, arith}
 use Rattle.std.specs.List.{list_any, list_all, filter_map, cons_option}
 use Rattle.std.proofs.lemmas.List.{drop_more, drop_all}
 use Rattle.std.proofs.lemmas.Bool.Decides.{nat_tests}
-use Rattle.plan_spec.specs.Plan.{is_baseband, KindFields, ServiceFields, IntFields, PlanFields, SlicedFields, sliced_of, pid_of, isi_of, table_pids}
+use Rattle.plan_spec.specs.Plan.{KindFields, ServiceFields, IntFields, PlanFields, SlicedFields, sliced_of, pid_of, isi_of, table_pids}
 use Rattle.plan_spec.specs.Checks.{has_pair, is_wrong_window, overlaps, is_gse, is_plain, is_between}
 use Rattle.settings_spec.specs.Keys.{holds}
 use Rattle.plan.specs.Parts.{kind_seen, int_seen, services_seen}
@@ -12,7 +12,7 @@ use Rattle.plan.specs.declared.service.Service.{Service}
 use Rattle.plan.specs.declared.plan.IntPlan.{IntPlan}
 use Rattle.ts_spec.specs.Recording.{RecordingForm}
 use Rattle.addr_rules.specs.declared.rules.Rule.{Rule}
-use Rattle.plan_spec.specs.Valid.{has_valid_top, is_valid_frame_size, is_valid_int, most_services}
+use Rattle.plan_spec.specs.Valid.{has_valid_top}
 use Rattle.std.proofs.lemmas.List.Sums.{sum_by-cons}
 use Rattle.std.proofs.lemmas.Bool.{and_parts}
 

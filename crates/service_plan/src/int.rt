@@ -46,10 +46,10 @@ pub(crate) fn read_int(int: Option<&Table>) -> Result<Option<IntPlan>, PlanFault
     ensures read { Answers result (int_fault (option_map (λ t. table_view t.now) int.entry)) (λ r. (option_map int_seen r ≡ option_map int_of (option_map (λ t. table_view t.now) int.entry)) × (is_valid_int (option_map int_seen r) ≡ true)) }
 {
     match int {
-        Some(int) => {
-            let plan = read_table(int)?;
-            Ok(Some(plan))
-        }
+        Some(int) => match read_table(int) {
+            Ok(plan) => Ok(Some(plan)),
+            Err(fault) => Err(fault),
+        },
         None => Ok(None),
     }
 }

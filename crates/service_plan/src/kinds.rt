@@ -6,10 +6,10 @@ ghost use Rattle.settings_spec.specs.Settings.{kind_key, mode_key, kind_text, is
 ghost use Rattle.service_plan.specs.Reading.{AnswersOrWants};
 ghost use Rattle.service_plan.specs.Services.{IsServiceOf};
 
-use crate::service_draft::{ServiceDraft, filter, finish};
 use crate::fault::PlanError;
-use plan::Kind;
+use crate::service_draft::{ServiceDraft, filter, finish};
 use addr_rules::MacList;
+use plan::Kind;
 use settings_keys::{
     Key, flag, kind_word, name_text, number, pid, refuse_unknown, rows, rule_items, word,
 };

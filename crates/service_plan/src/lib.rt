@@ -20,6 +20,8 @@ mod unique_checks;
 mod window_checks;
 
 pub use fault::{PlanError, PlanFault};
-pub use plan::{IntPlan, Kind, Name, Plan, Service, ServiceList, longest, route, sample_plan, ule_plan};
+pub use plan::{
+    IntPlan, Kind, Name, Plan, Service, ServiceList, longest, route, sample_plan, ule_plan,
+};
 pub use read::read_plan;
 pub use settings_keys::Key;

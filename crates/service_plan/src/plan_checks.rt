@@ -10,11 +10,13 @@ ghost use Rattle.service_plan.specs.Reading.{Answers, Always};
 ghost use Rattle.service_plan.specs.Order.{whole_fault};
 
 use crate::fault::PlanFault;
-use crate::unique_checks::{any_of, has_same_name, has_same_pid};
-use plan::{Kind, Service};
 use crate::int_packets::table_packets;
 use crate::settings_draft::Draft;
-use crate::window_checks::{has_long_cycle, has_short_gap, has_wrong_window, is_plain, needs_stamps};
+use crate::unique_checks::{any_of, has_same_name, has_same_pid};
+use crate::window_checks::{
+    has_long_cycle, has_short_gap, has_wrong_window, is_plain, needs_stamps,
+};
+use plan::{Kind, Service};
 
 /// The rules of all services together, at most.
 const MOST_RULES: usize = 128;

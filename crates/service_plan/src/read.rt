@@ -10,9 +10,9 @@ ghost use Rattle.plan.specs.PlanView.{plan_fields};
 ghost use Rattle.service_plan.specs.Accepted.{IsAcceptedTable};
 
 use crate::fault::{PlanError, PlanFault};
-use plan::Plan;
-use crate::settings_draft::{Draft, read_tables};
 use crate::plan_checks::check_whole;
+use crate::settings_draft::{Draft, read_tables};
+use plan::Plan;
 use std::alloc::Global;
 use toml::Table;
 
@@ -38,25 +38,32 @@ fn plan_of_table(alloc: Global, top: &Table) -> Result<Plan, PlanError>
     ensures read { IfOk result (λ plan. IsAcceptedTable (table_view top.now) (plan_fields plan)) }
     ensures refused { IfErr result (λ e. OnFault e (IsRefusedTable (table_view top.now))) }
 {
-    let draft = read_tables(alloc, top)?;
-    check_whole(&draft)?;
-    let Draft {
-        recording,
-        packet_rate,
-        cycle,
-        frame_bytes,
-        table,
-        services,
-        spelled: _,
-    } = draft;
-    Ok(Plan {
-        recording,
-        packet_rate,
-        cycle,
-        frame_bytes,
-        table,
-        services,
-    })
+    let draft = match read_tables(alloc, top) {
+        Ok(draft) => draft,
+        Err(error) => return Err(error),
+    };
+    match check_whole(&draft) {
+        Ok(()) => {
+            let Draft {
+                recording,
+                packet_rate,
+                cycle,
+                frame_bytes,
+                table,
+                services,
+                spelled: _,
+            } = draft;
+            Ok(Plan {
+                recording,
+                packet_rate,
+                cycle,
+                frame_bytes,
+                table,
+                services,
+            })
+        }
+        Err(fault) => Err(PlanError::Fault(fault)),
+    }
 }
 
 /// Reads a plan from settings, a TOML document.

@@ -9,8 +9,8 @@ ghost use Rattle.service_plan.specs.Reading.{AnswersOrWants};
 ghost use Rattle.service_plan.specs.Services.{IsEnded};
 
 use crate::fault::{PlanError, PlanFault};
-use plan::{Kind, Name, Service};
 use addr_rules::MacList;
+use plan::{Kind, Name, Service};
 use settings_keys::{Key, addresses, filter_items, number, rules, unicast};
 use std::alloc::Global;
 use toml::{Table, Value};
@@ -26,8 +26,10 @@ pub(crate) struct ServiceDraft {
 pub(crate) fn filter(alloc: Global, table: &Table) -> Result<MacList, PlanError>
     ensures read { AnswersOrWants result (key_fault filter_key (table_view table.now)) (λ list. list ≡ macs_of (items_at (codes "filter") (table_view table.now))) }
 {
-    let Some(items) = filter_items(table)? else {
-        return Ok(MacList::new(alloc));
+    let items = match filter_items(table) {
+        Ok(Some(items)) => items,
+        Ok(None) => return Ok(MacList::new(alloc)),
+        Err(fault) => return Err(PlanError::Fault(fault)),
     };
     match addresses(alloc, items)? {
         Some(list) => Ok(list),

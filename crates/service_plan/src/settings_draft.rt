@@ -7,11 +7,10 @@ ghost use Rattle.service_plan.specs.Plans.{IsDraftOf, parts_fault};
 
 use crate::fault::PlanError;
 use crate::int::read_int;
-use plan::IntPlan;
-use plan::ServiceList;
 use crate::services::read_services;
 use crate::top::{int_table, top_values};
 use ipe_io::Recording;
+use plan::{IntPlan, ServiceList};
 use settings_keys::{Key, refuse_unknown, service_items};
 use std::alloc::Global;
 use toml::Table;

@@ -7,9 +7,8 @@ ghost use Rattle.plan.specs.Parts.{kind_seen, int_seen};
 ghost use Rattle.service_plan.specs.Plans.{draft_seen};
 ghost use Rattle.service_plan.specs.Wholes.{id_seen, ids_seen, int_shares};
 
-use plan::IntPlan;
-use plan::{Kind, Service};
 use crate::settings_draft::Draft;
+use plan::{IntPlan, Kind, Service};
 
 /// Whether one of the services has this name.
 fn has_name(services: &[Service], name: &str) -> bool

@@ -8,11 +8,11 @@ ghost use Rattle.plan.specs.Parts.{kind_seen, form_of};
 ghost use Rattle.service_plan.specs.Plans.{draft_seen};
 ghost use Rattle.service_plan.specs.Wholes.{has_slices, sliced_view, is_small_gap};
 
-use crate::unique_checks::{after, any_of};
-use plan::{Kind, Service};
 use crate::services::both;
 use crate::settings_draft::Draft;
+use crate::unique_checks::{after, any_of};
 use ipe_io::Recording;
+use plan::{Kind, Service};
 
 /// A sliced service: its frames and its window.
 #[derive(Clone, Copy)]

@@ -63,7 +63,10 @@ fn put_services<O: Sink>(plan: &Plan, output: &mut O) -> Result<(), Failed>
     ensures cause { HasCause (O.told output.old).faults (O.told output.new).faults result }
 {
     for place in 0..plan.services.len() {
-        put_service(plan.services.at(place), output)?;
+        match put_service(plan.services.at(place), output) {
+            Ok(()) => {}
+            Err(failed) => return Err(failed),
+        }
     }
     Ok(())
 }

@@ -1,37 +1,24 @@
-use Rattle.std.proofs.Common.{◌≡◌, None, Some, ◌∙◌, subst, codes}
+use Rattle.std.proofs.Common.{◌≡◌, None, ◌∙◌, subst, codes}
 use Rattle.toml.specs.Data.{Members}
 use Rattle.toml.specs.View.{table_view}
 use Rattle.settings_spec.specs.Keys.{KeyRule, key_fault, table_at, tables_at}
 use Rattle.settings_spec.specs.Settings.{service_key, int_fault, services_fault}
-use Rattle.service_plan.specs.Keys.{fault_seen}
-use Rattle.service_plan.specs.Drafts.{AreServicesOf}
-use Rattle.service_plan.proofs.KeyLemmas.{first_here, first_later}
+use Rattle.service_plan.proofs.KeyLemmas.{first_later}
 use Rattle.service_plan.proofs.PlanLemmas.{service_key_is, plan_of_parts, frame_said, top_is_valid, rules_of_texts, counted_services}
 use Rattle.service_plan.proofs.settings_draft.read_tables.Goals as goal
-
-pub returns-in-Err : goal.returns-in-Err
-returns-in-Err c =
-    let values = c.in_ok-values.ensures.read in
-    let m : Members = table_view c.args.top.now in
-    let key = service_key_is m _ _ c.most.ensures values.1.baseband in
-    let wrong : key_fault (service_key m) m ≡ Some (fault_seen c.in-Err.fault) =
-    subst (λ (r : KeyRule). key_fault r m ≡ Some (fault_seen c.in-Err.fault)) key c.in-Err.ensures.read in
-    record {
-      read = first_later _ _ _ c.in_ok-refuse_unknown.ensures.read.0 (first_later _ _ _ values.0 (first_later _ _ _ c.in_ok-int.ensures.read.0 (first_here _ _ _ wrong)));
-    }
 
 pub returns : goal.returns
 returns c =
     let values = c.in_ok-values.ensures.read in
     let m : Members = table_view c.args.top.now in
     let key = service_key_is m _ _ c.most.ensures values.1.baseband in
-    let items = c.in-Ok.ensures in
+    let items = c.in_ok-items.ensures in
     let listed : key_fault (service_key m) m ≡ None = subst (λ (r : KeyRule). key_fault r m ≡ None) key items.read.0 in
-    let table = c.in-Ok-read_int.ensures.read in
-    let services = c.in-Ok-read_services.ensures.read in
+    let table = c.in_ok-table.ensures.read in
+    let services = c.in_ok-read.ensures.read in
     let int_right : int_fault (table_at (codes "int") m) ≡ None = rw c.in_ok-int.ensures.read.1 at table.0 in
     let services_right : services_fault (tables_at (codes "service") m) ≡ None = rw items.read.1 at services.0 in
-    let are : AreServicesOf (tables_at (codes "service") m) c.in-Ok-read_services.read = rw items.read.1 at services.1 in
+    let are = rw items.read.1 at services.1 in
     let count = counted_services _ _ _ services.1.count items.all items.within.0 (rw c.most.ensures at items.within.1) in
     record {
       read = (

@@ -3,17 +3,17 @@ use Rattle.settings_load.specs.Lines.{check_text}
 use Rattle.settings_load.proofs.Texts.{puts_kept, stays_at_err, cause_kept}
 use Rattle.settings_load.proofs.list.list_services.Goals as goal
 
-pub returns-in-Ok-clause-written : goal.returns-in-Ok-clause-written
-returns-in-Ok-clause-written g c =
+pub returns-clause-written : goal.returns-clause-written
+returns-clause-written g c =
     puts_kept c.flush.result (g.O.Sink.told c.args.output.now).held (g.O.Sink.told c.put_services.new.output).held (g.O.Sink.told c.flush.new.self).held
-    (check_text (plan_fields c.args.plan.now)) c.in-Ok.ensures.written c.flush.ensures.kept
+    (check_text (plan_fields c.args.plan.now)) c.in_ok-put_services.ensures.written c.flush.ensures.kept
 
-pub returns-in-Ok-clause-unflushed : goal.returns-in-Ok-clause-unflushed
-returns-in-Ok-clause-unflushed g c =
+pub returns-clause-unflushed : goal.returns-clause-unflushed
+returns-clause-unflushed g c =
     stays_at_err c.flush.result (g.O.Sink.told c.args.output.now).flushed (g.O.Sink.told c.put_services.new.output).flushed (g.O.Sink.told c.flush.new.self).flushed
-    c.in-Ok.ensures.flushed c.flush.ensures.unchanged
+    c.in_ok-put_services.ensures.flushed c.flush.ensures.unchanged
 
-pub returns-in-Ok-clause-cause : goal.returns-in-Ok-clause-cause
-returns-in-Ok-clause-cause g c =
+pub returns-clause-cause : goal.returns-clause-cause
+returns-clause-cause g c =
     cause_kept c.flush.result (g.O.Sink.told c.args.output.now).faults (g.O.Sink.told c.put_services.new.output).faults (g.O.Sink.told c.flush.new.self).faults
-    c.in-Ok.ensures.cause.kept c.flush.ensures.cause
+    c.in_ok-put_services.ensures.cause.kept c.flush.ensures.cause
