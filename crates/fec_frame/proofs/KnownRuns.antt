@@ -1,0 +1,53 @@
+-- Runs of known bytes of a table.
+use Rattle.std.proofs.Common.{◌≡◌, ◌⊎◌, inl, inr, ℕ, zero, suc, ◌+◌, ◌-◌, ◌<◌, ◌≤◌, Bool, true, false, cond, List, [], ◌∷◌, length, get_or, drop, take, Option, Some, None, refl, ap, sym, ◌∙◌, arith}
+use Rattle.std.proofs.lemmas.Bool.{cond-true, cond-false}
+use Rattle.std.proofs.lemmas.List.{drop_more, length-drop}
+use Rattle.frame_spec.specs.Starts.{run_on, run_within}
+use Rattle.fec_frame.specs.Marks.{is_known_mark, marked_byte, marked_run, IsRun}
+
+-- the known bytes of a run
+known_byte_is : (bytes marks : List ℕ) (place : ℕ) → is_known_mark (get_or marks place 0) ≡ true → marked_byte bytes marks place ≡ Some (get_or bytes place 0)
+unfolding marked_byte
+known_byte_is bytes marks place known = cond-true (is_known_mark (get_or marks place 0)) (Some (get_or bytes place 0)) None known
+
+unknown_byte_is : (bytes marks : List ℕ) (place : ℕ) → is_known_mark (get_or marks place 0) ≡ false → marked_byte bytes marks place ≡ None
+unfolding marked_byte
+unknown_byte_is bytes marks place unknown = cond-false (is_known_mark (get_or marks place 0)) (Some (get_or bytes place 0)) None unknown
+
+run_is : (bytes marks : List ℕ) (limit size most place : ℕ) → limit ≤ length bytes → size ≤ most → place + most ≡ limit
+    → ((i : ℕ) → place ≤ i → i < place + size → is_known_mark (get_or marks i 0) ≡ true)
+    → (place + size < limit → is_known_mark (get_or marks (place + size) 0) ≡ false)
+    → run_within (marked_byte bytes marks) most place ≡ take size (drop place bytes)
+unfolding run_within
+run_is bytes marks limit zero zero place long order at known over = refl
+run_is bytes marks limit zero (suc most) place long order at known over =
+    let e : place + 0 ≡ place = omega arith in
+    ap (λ (o : Option ℕ). run_on o (run_within (marked_byte bytes marks) most (place + 1)))
+    (unknown_byte_is bytes marks place (ap (λ (p : ℕ). is_known_mark (get_or marks p 0)) (sym e) ∙ over (omega arith)))
+run_is bytes marks limit (suc size) zero place long order at known over = absurd (omega arith)
+run_is bytes marks limit (suc size) (suc most) place long order at known over =
+    let e : place + 1 + size ≡ place + suc size = omega arith in
+    ap (λ (o : Option ℕ). run_on o (run_within (marked_byte bytes marks) most (place + 1))) (known_byte_is bytes marks place (known place (omega arith) (omega arith)))
+    ∙ ap (λ (l : List ℕ). get_or bytes place 0 ∷ l)
+    (run_is bytes marks limit size most (place + 1) long (omega arith) (omega arith)
+    (λ i from below. known i (omega (arith, from)) (omega (arith, below)))
+    (λ below. ap (λ (p : ℕ). is_known_mark (get_or marks p 0)) e ∙ over (omega (arith, below))))
+    ∙ ap (take (suc size)) (sym (drop_more bytes place 0 (omega arith)))
+
+-- a run goes on after its first byte
+pub run_later : (marks : List ℕ) (limit start end : ℕ) → IsRun marks limit start end → start + 1 < end → IsRun marks limit (start + 1) end
+run_later marks limit start end run some = record {
+  order = omega (arith, some);
+  within = run.within;
+  known = λ place from below. run.known place (omega (arith, from)) below;
+  over = run.over;
+}
+
+pub marked_run_is : (bytes marks : List ℕ) (limit place end : ℕ) → limit ≤ length bytes → place ≤ limit → IsRun marks limit place end
+    → marked_run bytes marks limit place ≡ take (end - place) (drop place bytes)
+unfolding marked_run
+marked_run_is bytes marks limit place end long below run =
+    let e : place + (end - place) ≡ end = omega (arith, run.order) in
+    run_is bytes marks limit (end - place) (limit - place) place long (omega (arith, run.within)) (omega arith)
+    (λ i from low. run.known i from (omega (arith, low, e)))
+    (λ low. ap (λ (p : ℕ). is_known_mark (get_or marks p 0)) e ∙ run.over (omega (arith, low, e)))

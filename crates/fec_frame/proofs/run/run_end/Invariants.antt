@@ -1,0 +1,14 @@
+use Rattle.std.proofs.Common.{◌-◌, ◌≡◌, ◌≤◌, ◌<◌, ℕ, true}
+use Rattle.std.specs.Prelude.{slice_index}
+use Rattle.fec_frame.specs.Marks.{is_known_mark}
+use Rattle.fec_frame.proofs.run.run_end.Given as goal
+
+abbrev pub invariant-loop-end : goal.invariant-loop-end
+invariant-loop-end l = record {
+  order : l.start ≤ l.end;
+  within : l.end ≤ l.limit;
+  known : (place : ℕ) → l.start ≤ place → place < l.end → is_known_mark (slice_index l.marks place) ≡ true;
+}
+
+abbrev pub decreases-loop-end : goal.decreases-loop-end
+decreases-loop-end l = l.limit - l.end

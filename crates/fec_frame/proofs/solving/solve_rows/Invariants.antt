@@ -1,0 +1,13 @@
+use Rattle.std.proofs.Common.{◌≤◌, ◌+◌, ◌-◌}
+use Rattle.fec_frame.specs.Runs.{AreRowsSolved}
+use Rattle.fec_frame.proofs.solving.solve_rows.Given as goal
+
+abbrev pub invariant-loop-from : goal.invariant-loop-from
+invariant-loop-from l = record {
+  solved : AreRowsSolved l.rows 0 l.from l.initial.bytes l.initial.marks l.bytes l.marks l.mended l.left;
+  most : l.from ≤ l.rows;
+  few : l.mended + l.left ≤ l.from;
+}
+
+abbrev pub decreases-loop-from : goal.decreases-loop-from
+decreases-loop-from l = l.rows - l.from

@@ -1,0 +1,5 @@
+pub mod Marks
+pub mod Marking
+pub mod Filled
+pub mod Stands
+pub mod Runs

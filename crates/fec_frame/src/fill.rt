@@ -1,0 +1,52 @@
+//! Bytes and marks of a table, filled.
+ghost use Rattle.std.specs.Prelude.{◌≡◌, ◌+◌, ◌-◌, ◌≤◌, length, slice_index, true};
+ghost use Rattle.fec_frame.specs.Filled.{IsFilled};
+ghost use Rattle.fec_frame.specs.Marks.{is_known_mark, is_start_mark};
+
+/// Answers whether the byte at the place of a mark is known.
+pub fn is_known(mark: u8) -> bool
+    ensures { result ≡ is_known_mark mark }
+{
+    mark & 1 != 0
+}
+
+/// The mark, with the bit of a known byte.
+pub fn with_known(mark: u8) -> u8
+    ensures known { is_known_mark result ≡ true }
+    ensures start { is_start_mark result ≡ is_start_mark mark }
+{
+    mark | 1
+}
+
+/// The mark, with the bit of a start.
+pub fn with_start(mark: u8) -> u8
+    ensures start { is_start_mark result ≡ true }
+    ensures known { is_known_mark result ≡ is_known_mark mark }
+{
+    mark | 2
+}
+
+/// Fills a piece in, from a place on.
+pub fn fill_piece(bytes: &mut [u8], marks: &mut [u8], from: usize, piece: &[u8])
+    requires within { from + length piece.now ≤ length bytes.old }
+    requires marks_within { from + length piece.now ≤ length marks.old }
+    ensures filled { IsFilled bytes.old marks.old bytes.new marks.new from (from + length piece.now) (λ place. slice_index piece.now (place - from)) }
+{
+    for i in 0..piece.len() {
+        bytes[from + i] = piece[i];
+        marks[from + i] = with_known(marks[from + i]);
+    }
+}
+
+/// Fills zeros in, from a place on and before another.
+pub fn fill_zeros(bytes: &mut [u8], marks: &mut [u8], from: usize, to: usize)
+    requires order { from ≤ to }
+    requires within { to ≤ length bytes.old }
+    requires marks_within { to ≤ length marks.old }
+    ensures filled { IsFilled bytes.old marks.old bytes.new marks.new from to (λ place. 0) }
+{
+    for place in from..to {
+        bytes[place] = 0;
+        marks[place] = with_known(marks[place]);
+    }
+}

@@ -1,0 +1,163 @@
+//! Rows of a table, corrected in runs that lack the same columns.
+ghost use Rattle.std.specs.Prelude.{◌≡◌, ◌+◌, ◌*◌, ◌-◌, ◌<◌, ◌≤◌, ◌||◌, List, false, true, count_by, length, slice_index, ◌==◌, if◌then◌else◌, ℕ};
+ghost use Rattle.std.specs.List.{range_with_len};
+ghost use Rattle.frame_spec.specs.Sections.{FrameSection};
+ghost use Rattle.fec_frame.specs.Marks.{is_known_mark, is_start_mark};
+ghost use Rattle.fec_frame.specs.Runs.{AreRowsSolved, IsColumnMarked, IsMarked, IsPattern, is_good};
+
+use crate::fill::{is_known, with_known};
+use crate::pattern::{pattern_end, unknown_in};
+use rs_erasure::decode_run;
+
+/// Rows that lacked a byte of the application data table.
+#[derive(Clone, Copy, PartialEq, Eq)]
+pub struct RowCounts {
+    /// Those that were corrected.
+    pub mended: u32,
+    /// Those that were not.
+    pub left: u32,
+}
+
+/// The mark of a byte in a corrected row, which is known where the row is good.
+fn with_row(mark: u8, bad: u8) -> u8
+    ensures known { is_known_mark result ≡ (is_known_mark mark || (bad == 0)) }
+    ensures start { is_start_mark result ≡ is_start_mark mark }
+{
+    if bad == 0 { with_known(mark) } else { mark }
+}
+
+/// Marks the good rows of a run as known in a column.
+fn mark_column(marks: &mut [u8], rows: usize, j: usize, from: usize, to: usize, bad: &[u8])
+    requires column { j < 255 }
+    requires rows_most { rows ≤ 1024 }
+    requires long { length marks.old ≡ 255 * rows }
+    requires bad_long { length bad.now ≡ rows }
+    requires order { from ≤ to }
+    requires within { to ≤ rows }
+    ensures marked { IsColumnMarked rows j from to bad.now marks.old marks.new }
+{
+    for r in from..to {
+        marks[j * rows + r] = with_row(marks[j * rows + r], bad[r]);
+    }
+}
+
+/// Marks the good rows of a run as known in the application data table.
+fn mark_rows(marks: &mut [u8], rows: usize, from: usize, to: usize, bad: &[u8])
+    requires rows_most { rows ≤ 1024 }
+    requires long { length marks.old ≡ 255 * rows }
+    requires bad_long { length bad.now ≡ rows }
+    requires order { from ≤ to }
+    requires within { to ≤ rows }
+    ensures marked { IsMarked rows 191 from to bad.now marks.old marks.new }
+{
+    for j in 0..191usize {
+        mark_column(marks, rows, j, from, to, bad);
+    }
+}
+
+/// 1 for a good row.
+fn one_of(bad: u8) -> u32
+    ensures { result ≡ (if bad == 0 then 1 else 0) }
+{
+    if bad == 0 { 1 } else { 0 }
+}
+
+/// How many rows of a run are good.
+fn count_good(bad: &[u8], from: usize, to: usize) -> u32
+    requires order { from ≤ to }
+    requires within { to ≤ length bad.now }
+    requires most { to ≤ 1024 }
+    ensures count { result ≡ count_by (is_good bad.now) (range_with_len from (to - from)) }
+    ensures few { result ≤ to - from }
+{
+    let mut count = 0u32;
+    for r in from..to {
+        count += one_of(bad[r]);
+    }
+    count
+}
+
+/// Answers whether a row lacks a byte of the application data table.
+fn lacks_data(marks: &[u8], rows: usize, r: usize) -> bool
+    requires row { r < rows }
+    requires rows_most { rows ≤ 1024 }
+    requires long { length marks.now ≡ 255 * rows }
+    ensures yes { result ≡ true → (j : ℕ) × (j < 191) × (is_known_mark (slice_index marks.now (j * rows + r)) ≡ false) }
+    ensures no { result ≡ false → (j : ℕ) → j < 191 → is_known_mark (slice_index marks.now (j * rows + r)) ≡ true }
+{
+    for j in 0..191usize {
+        if !is_known(marks[j * rows + r]) {
+            return true;
+        }
+    }
+    false
+}
+
+/// Corrects the rows of a run that lack the same columns. `work` and `bad` have 64 bytes and one for each row.
+fn solve_run(
+    bytes: &mut [u8],
+    marks: &mut [u8],
+    work: &mut [u8],
+    bad: &mut [u8],
+    rows: usize,
+    from: usize,
+    to: usize,
+) -> RowCounts
+    requires rows_most { rows ≤ 1024 }
+    requires bytes_long { length bytes.old ≡ 255 * rows }
+    requires marks_long { length marks.old ≡ 255 * rows }
+    requires work_long { length work.old ≡ 64 * rows }
+    requires bad_long { length bad.old ≡ rows }
+    requires order { from < to }
+    requires within { to ≤ rows }
+    requires pattern { IsPattern rows marks.old 255 from to }
+    ensures solved { AreRowsSolved rows from to bytes.old marks.old bytes.new marks.new result.mended result.left }
+    ensures few { result.mended + result.left ≤ to - from }
+{
+    if !lacks_data(marks, rows, from) {
+        return RowCounts { mended: 0, left: 0 };
+    }
+    let unknown = unknown_in(marks, rows, from);
+    let count = (to - from) as u32;
+    if unknown.len() > 64 {
+        return RowCounts {
+            mended: 0,
+            left: count,
+        };
+    }
+    decode_run(bytes, rows, from, to, &unknown, work, bad);
+    mark_rows(marks, rows, from, to, bad);
+    let mended = count_good(bad, from, to);
+    RowCounts {
+        mended,
+        left: count - mended,
+    }
+}
+
+/// Corrects all rows.
+pub fn solve_rows(
+    bytes: &mut [u8],
+    marks: &mut [u8],
+    work: &mut [u8],
+    bad: &mut [u8],
+    rows: usize,
+) -> RowCounts
+    requires rows_most { rows ≤ 1024 }
+    requires bytes_long { length bytes.old ≡ 255 * rows }
+    requires marks_long { length marks.old ≡ 255 * rows }
+    requires work_long { length work.old ≡ 64 * rows }
+    requires bad_long { length bad.old ≡ rows }
+    ensures solved { AreRowsSolved rows 0 rows bytes.old marks.old bytes.new marks.new result.mended result.left }
+{
+    let mut mended = 0u32;
+    let mut left = 0u32;
+    let mut from = 0;
+    while from < rows {
+        let to = pattern_end(marks, rows, from);
+        let counts = solve_run(bytes, marks, work, bad, rows, from, to);
+        mended += counts.mended;
+        left += counts.left;
+        from = to;
+    }
+    RowCounts { mended, left }
+}

@@ -1,0 +1,109 @@
+//! The walk over a table: an iterator of the datagrams in it, in rising places.
+ghost use Rattle.std.specs.Prelude.{◌≡◌, ◌<◌, ◌≤◌, [], ◌∷◌, IfNone, IfSome, length};
+ghost use Rattle.frame_walk.specs.Found.{front_list};
+ghost use Rattle.fec_frame.specs.Marks.{IsRun};
+
+use fec_frame::{Table, is_start, run_end};
+use ip_datagram::front;
+use std::alloc::Allocator;
+
+/// Answers the datagram at the front of some bytes.
+fn front_of(run: &[u8]) -> Option<&[u8]>
+    ensures some { IfSome result (λ d. front_list run.now ≡ d.now ∷ []) }
+    ensures none { IfNone result (front_list run.now ≡ []) }
+{
+    match front(run) {
+        Ok(size) => Some(&run[..size]),
+        Err(_) => None,
+    }
+}
+
+/// Lends the datagrams of a table out of its bytes.
+#[derive(Drop)]
+pub struct Walk<'t> {
+    bytes: &'t [u8],
+    marks: &'t [u8],
+    limit: usize,
+    at: usize,
+    run: usize,
+    ghost bytes_long: { limit ≤ length bytes.now },
+    ghost marks_long: { limit ≤ length marks.now },
+    ghost known: { at < run → IsRun marks.now limit at run },
+}
+
+impl<'t> Walk<'t> {
+    ghost use Rattle.std.specs.Prelude.{◌≡◌, ◌≤◌, ◌<◌, ◌∷◌, ◌+◌, ◌*◌, List, IfNone, IfSome, length};
+    ghost use Rattle.frame_spec.specs.Sections.{FrameSection};
+    ghost use Rattle.frame_spec.specs.Delivered.{frame_datagrams};
+    ghost use Rattle.fec_frame.specs.Marks.{IsRun};
+    ghost use Rattle.fec_frame.specs.Stands.{IsSolved};
+    ghost use Rattle.frame_walk.specs.Found.{found_from};
+    ghost use Rattle.frame_walk.specs.Views.{left_of};
+
+    /// A walk over a table whose rows were corrected: it yields the datagrams of the frame, in rising places, lent out of the table.
+    pub fn over<A: Allocator>(table: &'t Table<A>) -> Walk<'t>
+        ensures datagrams { (sections : List FrameSection) → IsSolved table.now sections → left_of result ≡ frame_datagrams table.now.rows sections }
+    {
+        Walk {
+            bytes: table.bytes(),
+            marks: table.marks(),
+            limit: 191 * table.rows(),
+            at: 0,
+            run: 0,
+        }
+    }
+
+    /// Answers where the known bytes end that begin here.
+    fn end(&self) -> usize
+        requires below { self.now.at < self.now.limit }
+        ensures run { IsRun self.now.marks.now self.now.limit self.now.at result }
+    {
+        if self.at < self.run {
+            self.run
+        } else {
+            run_end(self.marks, self.at, self.limit)
+        }
+    }
+
+    /// Goes one place on, and answers the datagram that stands at the place before.
+    fn step(&mut self) -> Option<&'t [u8]>
+        requires before { self.old.at < self.old.limit }
+        ensures some { IfSome result (λ d. left_of self.old ≡ d.now ∷ left_of self.new) }
+        ensures none { IfNone result (left_of self.old ≡ left_of self.new) }
+        ensures at { self.old.at < self.new.at }
+        ensures limit { self.new.limit ≡ self.old.limit }
+    {
+        let start = self.at;
+        let marks = self.marks;
+        let bytes = self.bytes;
+        let limit = self.limit;
+        if !is_start(marks[start]) {
+            self.at = start + 1;
+            return None;
+        }
+        let end = self.end();
+        self.run = end;
+        self.at = start + 1;
+        front_of(&bytes[start..end])
+    }
+}
+
+impl<'t> Iterator for Walk<'t> {
+    ghost use Rattle.std.specs.Iterator.{YieldsFirstRef, item_count};
+    ghost use Rattle.frame_walk.specs.Views.{left_of};
+
+    type Item = &'t [u8];
+
+    ghost next_gives = { YieldsFirstRef left_of };
+
+    ghost remaining = { item_count left_of };
+
+    fn next(&mut self) -> Option<&'t [u8]> {
+        while self.at < self.limit {
+            if let Some(datagram) = self.step() {
+                return Some(datagram);
+            }
+        }
+        None
+    }
+}
