@@ -27,12 +27,12 @@ ReadsKind (Mpe reception) kind = IsMpe kind
 pub record HasReceivedOne (it : ServiceFields) (receiver : ServiceReceiver) (records : List Record) : Type 0 where
   pub pid_is : pid_of it.kind ≡ Some receiver.pid
   pub reads : ReadsKind receiver.reception it.kind
-  pub received : one.HasReceived it (state_of receiver.reception) records
+  pub received : one.HasTaken it (state_of receiver.reception) records
 
 -- the reception reads the units of the service, and nothing was received of it
 pub record IsFresh (it : ServiceFields) (reception : ByKind) : Type 0 where
   pub reads : ReadsKind reception it.kind
-  pub received : (pid : ℕ) → pid_of it.kind ≡ Some pid → one.HasReceived it (state_of reception) []
+  pub received : (pid : ℕ) → pid_of it.kind ≡ Some pid → one.HasTaken it (state_of reception) []
 
 -- the receiver was given these records, fewer than 2^32 of them, and one more packet of this PID is to be taken
 pub record IsReceivingOne (filter : List (List ℕ)) (pid : ℕ) (it : ServiceFields) (receiver : ServiceReceiver) (records : List Record) : Type 0 where

@@ -62,14 +62,8 @@ impl<'a> Receiver<'a> {
         ensures is_open { IfOk result (λ receiver. receiver.is_open ≡ true) }
         ensures plan { IfOk result (λ receiver. receiver.plan ≡ plan_fields plan.now) }
     {
-        let table = match open_table(arena, &plan.table) {
-            Ok(table) => table,
-            Err(error) => return Err(error),
-        };
-        let services = match open_services(arena, &plan.services) {
-            Ok(services) => services,
-            Err(error) => return Err(error),
-        };
+        let table = open_table(arena, &plan.table)?;
+        let services = open_services(arena, &plan.services)?;
         Ok(Receiver {
             plan,
             is_open: true,

@@ -49,10 +49,7 @@ pub(crate) fn zeros(arena: &Bump, count: usize) -> Result<Vec<u8, &Bump>, OutOfM
 fn ule_reception(arena: &Bump) -> Result<ByKind<'_>, OutOfMemory>
     ensures received { IfOk result (λ reception. (it : ServiceFields) → IsUle it.kind → IsFresh it reception) }
 {
-    let buffer = match zeros(arena, UleForm::LONGEST) {
-        Ok(buffer) => buffer,
-        Err(error) => return Err(error),
-    };
+    let buffer = zeros(arena, UleForm::LONGEST)?;
     Ok(ByKind::Ule(Reception::over(buffer)))
 }
 
@@ -60,10 +57,7 @@ fn ule_reception(arena: &Bump) -> Result<ByKind<'_>, OutOfMemory>
 fn mpe_reception(arena: &Bump) -> Result<ByKind<'_>, OutOfMemory>
     ensures received { IfOk result (λ reception. (it : ServiceFields) → IsMpe it.kind → IsFresh it reception) }
 {
-    let buffer = match zeros(arena, SectionForm::LONGEST) {
-        Ok(buffer) => buffer,
-        Err(error) => return Err(error),
-    };
+    let buffer = zeros(arena, SectionForm::LONGEST)?;
     Ok(ByKind::Mpe(Reception::over(buffer)))
 }
 

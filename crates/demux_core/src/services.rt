@@ -21,10 +21,7 @@ pub(crate) fn open_services<'a>(
 {
     let mut receivers = Vec::with_capacity(arena, list.len())?;
     for at in 0..list.len() {
-        let receiver = match ServiceReceiver::open(arena, &list.at(at).kind) {
-            Ok(receiver) => receiver,
-            Err(error) => return Err(error),
-        };
+        let receiver = ServiceReceiver::open(arena, &list.at(at).kind)?;
         receivers.push(receiver)?;
     }
     Ok(receivers)

@@ -35,14 +35,8 @@ pub(crate) fn open_table<'a>(
         Some(int) => int.pid,
         None => return Ok(None),
     };
-    let buffer = match zeros(arena, LONGEST) {
-        Ok(buffer) => buffer,
-        Err(error) => return Err(error),
-    };
-    let kept = match zeros(arena, LONGEST) {
-        Ok(kept) => kept,
-        Err(error) => return Err(error),
-    };
+    let buffer = zeros(arena, LONGEST)?;
+    let kept = zeros(arena, LONGEST)?;
     let reception = TableReception::over(buffer, kept);
     Ok(Some(TableReceiver { pid, reception }))
 }

@@ -16,7 +16,7 @@ use Rattle.ts_packet.specs.Links.{link_of}
 use Rattle.unit_stream.specs.Joining.{JoinerState, Stands, IsGiving, packets_with}
 use Rattle.service_reception.specs.declared.counts.Counts.{Counts}
 use Rattle.service_reception.specs.Counting.{on_pid, of_units, counted_link, units_in}
-use Rattle.service_reception.specs.Taking.{IsTaking, HasTaken, TakesAll, TakesPart, delivered_of}
+use Rattle.service_reception.specs.Taking.{IsTaking, HasTakenPackets, TakesAll, TakesPart, delivered_of}
 use Rattle.service_reception.specs.Telling.{Told, StopsWithin}
 use Rattle.service_reception.specs.Reception.{ReceptionState, HasTaken, packet_record, added_by}
 use Rattle.service_reception.proofs.Counted.{delivered_of-append}
@@ -93,7 +93,7 @@ added_of form pid it records r events form_is pid_is told =
 -- all its events are counted
 pub record_received : (form : UnitForm) (pid : ℕ) (it : ServiceFields) (records : List Record) (moment : ℕ) (bytes : List ℕ) (last now_last : Option (List ℕ)) (joiner now : JoinerState) (before after : Counts)
     → form_of_kind it.kind ≡ form → pid_of it.kind ≡ Some pid → HasOn form pid it last joiner before records → is_of pid bytes ≡ true → now_last ≡ Some bytes
-    → HasTaken form it now (received_packets pid (records ++ packet_record moment bytes ∷ [])) (pid_numbers form pid (records ++ packet_record moment bytes ∷ [])) after
+    → HasTakenPackets form it now (received_packets pid (records ++ packet_record moment bytes ∷ [])) (pid_numbers form pid (records ++ packet_record moment bytes ∷ [])) after
     → HasTaken it (state_of now_last now after) (records ++ packet_record moment bytes ∷ [])
 record_received form pid it records moment bytes last now_last joiner now before after form_is pid_is on of_pid seen taken =
     has_received form pid it now_last now after (records ++ packet_record moment bytes ∷ []) form_is pid_is (record {

@@ -36,7 +36,7 @@ pub record IsTaking (form : UnitForm) (service : ServiceFields) (joiner : Joiner
   pub of_units_are : of_units counts ≡ unit_numbers service (units_in given)
 
 -- all are given and counted
-pub record HasTaken (form : UnitForm) (service : ServiceFields) (joiner : JoinerState) (packets : List Arrival) (links : PidNumbers) (counts : Counts) : Type 0 where
+pub record HasTakenPackets (form : UnitForm) (service : ServiceFields) (joiner : JoinerState) (packets : List Arrival) (links : PidNumbers) (counts : Counts) : Type 0 where
   pub stands : Stands form joiner packets
   pub on_pid_are : on_pid counts ≡ with_events links (events_of form packets)
   pub of_units_are : of_units counts ≡ unit_numbers service (units_in (events_of form packets))
@@ -58,7 +58,7 @@ pub record TakesAll (form : UnitForm) (service : ServiceFields) (joiner : Joiner
     (old new : List (ℕ × List ℕ) → Type 0) (number : ℕ) : Type 0 where
   pub events : List Event
   pub events_are : events_of form packets ≡ given ++ events
-  pub taken : HasTaken form service joiner packets links counts
+  pub taken : HasTakenPackets form service joiner packets links counts
   pub told : Told old new number (delivered_of service events)
 
 -- a datagram of the others was refused

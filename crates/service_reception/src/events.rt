@@ -9,7 +9,7 @@ ghost use Rattle.ts_packet.specs.Fields.{fields_in};
 ghost use Rattle.unit_stream.specs.Joining.{steps_left};
 ghost use Rattle.unit_stream.specs.States.{event_in};
 ghost use Rattle.service_reception.specs.Services.{IsServed};
-ghost use Rattle.service_reception.specs.Taking.{IsProper, CountsEvent, IsTaking, HasTaken, CountsMore, TakesMore, TakesAll, TakesPart, delivered_of};
+ghost use Rattle.service_reception.specs.Taking.{IsProper, CountsEvent, IsTaking, HasTakenPackets, CountsMore, TakesMore, TakesAll, TakesPart, delivered_of};
 ghost use Rattle.service_reception.specs.Telling.{Told, StopsWithin};
 
 use crate::carried::UnitReader;
@@ -33,7 +33,7 @@ pub(crate) fn take_events<K: UnitReader, A: Allocator, T: Outlet>(
     requires { service < T.services outlet.old }
     ensures counted { (it : ServiceFields) (packets : List Arrival) (links : PidNumbers) (given : List Event) → IsServed K.IsOfKind filter.now it
         → IsTaking K.form it joiner.old (fields_in packet.now) packets links counts.old given
-        → HasTaken K.form it joiner.new packets links counts.new }
+        → HasTakenPackets K.form it joiner.new packets links counts.new }
     ensures taken { (it : ServiceFields) (packets : List Arrival) (links : PidNumbers) (given : List Event) → IsServed K.IsOfKind filter.now it
         → IsTaking K.form it joiner.old (fields_in packet.now) packets links counts.old given
         → OnOk result (TakesAll K.form it joiner.new packets links counts.new given (T.StandsFor outlet.old) (T.StandsFor outlet.new) service) }
@@ -110,7 +110,7 @@ fn count_rest<K: UnitReader, A: Allocator>(
 )
     ensures counted { (it : ServiceFields) (packets : List Arrival) (links : PidNumbers) (given : List Event) → IsServed K.IsOfKind filter.now it
         → IsTaking K.form it joiner.old (fields_in packet.now) packets links counts.old given
-        → HasTaken K.form it joiner.new packets links counts.new }
+        → HasTakenPackets K.form it joiner.new packets links counts.new }
 {
     match take_accepted(joiner, counts, packet, filter, 0, &mut Nowhere {}) {
         Ok(()) => {}

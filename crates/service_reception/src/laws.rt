@@ -20,7 +20,7 @@ pub fn what_was_delivered_stays()
 /// A record without a moment, one that is no packet to be read, and a packet of another PID change nothing.
 pub fn a_record_of_another_pid_changes_nothing()
     ensures service { (it : ServiceFields) (pid : ℕ) (state : ReceptionState) (records : List Record) (r : Record) → pid_of it.kind ≡ Some pid → is_on pid r ≡ false
-        → HasReceived it state records → HasReceived it state (records ++ r ∷ []) }
+        → HasTaken it state records → HasTaken it state (records ++ r ∷ []) }
     ensures delivered { (it : ServiceFields) (pid : ℕ) (records : List Record) (r : Record) → pid_of it.kind ≡ Some pid → is_on pid r ≡ false
         → added_by it records r ≡ [] }
     ensures table { (pid : ℕ) (state : TableState) (records : List Record) (r : Record) → is_on pid r ≡ false

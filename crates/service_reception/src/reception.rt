@@ -13,7 +13,7 @@ use unit_stream::Joiner;
 
 /// The reception of one service, by the kind of its units.
 ///
-/// It is known by the records that were received: contracts see what `HasReceived` ties to these.
+/// It is known by the records that were received: contracts see what `HasTaken` ties to these.
 #[derive(Drop)]
 pub struct Reception<K: UnitReader, A: Allocator> {
     continuity: Continuity,
@@ -75,7 +75,7 @@ impl<K: UnitReader, A: Allocator> Reception<K, A> {
         requires read { fields_in packet.now ≡ fields_of bytes.now }
         requires served { service < T.services outlet.old }
         ensures received { (it : ServiceFields) (records : List Record) → IsReceiving K.IsOfKind filter.now packet.now.pid it self.old records
-            → HasReceived it self.new (records ++ packet_record moment bytes.now ∷ []) }
+            → HasTaken it self.new (records ++ packet_record moment bytes.now ∷ []) }
         ensures delivered { (it : ServiceFields) (records : List Record) → IsReceiving K.IsOfKind filter.now packet.now.pid it self.old records
             → OnOk result (Told (T.StandsFor outlet.old) (T.StandsFor outlet.new) service (added_by it records (packet_record moment bytes.now))) }
         ensures failed { (it : ServiceFields) (records : List Record) → IsReceiving K.IsOfKind filter.now packet.now.pid it self.old records

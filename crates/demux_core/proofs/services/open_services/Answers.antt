@@ -11,5 +11,5 @@ open-requires c = built_at c.args.list.now c.loop-at.at c.at.result.now c.requir
 pub loop-at-preserved : goal.loop-at-preserved
 loop-at-preserved c =
     subst (λ (t : List ServiceReceiver). HaveReceived (map service_seen (take (c.loop-at.at + 1) c.args.list.now)) t []) (sym c.in_ok-push.ensures.items)
-    (have_next c.args.list.now c.loop-at.receivers.items c.loop-at.at c.at.result.now c.in-Ok.receiver c.at.ensures.read c.loop-at.invariant
-    (c.in-Ok.ensures.received (service_seen c.at.result.now) refl))
+    (have_next c.args.list.now c.loop-at.receivers.items c.loop-at.at c.at.result.now c.in_ok-receiver.receiver c.at.ensures.read c.loop-at.invariant
+    (c.in_ok-receiver.ensures.received (service_seen c.at.result.now) refl))

@@ -9,7 +9,7 @@ open_services-requires c = built_seen c.args.plan.now.services ∙ c.requires.bu
 
 pub invariant_of-result : goal.invariant_of-result
 invariant_of-result c = record {
-  count_is = c.in-Ok-open_services.services.ok.0 ∙ as_many (map service_seen c.args.plan.now.services) c.in-Ok-open_services.services.items [] c.in-Ok-open_services.ensures.received;
+  count_is = c.in_ok-services.services.ok.0 ∙ as_many (map service_seen c.args.plan.now.services) c.in_ok-services.services.items [] c.in_ok-services.ensures.received;
   few = few_services (plan_fields c.args.plan.now) c.args.plan.now.valid;
   differ = pids_differ (plan_fields c.args.plan.now) c.args.plan.now.valid;
 }
@@ -18,5 +18,5 @@ pub returns-clause-received : goal.returns-clause-received
 returns-clause-received c = record {
   plan_is = refl;
   stream = c.nothing_counted.ensures (plan_fields c.args.plan.now);
-  all = record { services = c.in-Ok-open_services.ensures.received; int = c.in-Ok.ensures.received };
+  all = record { services = c.in_ok-services.ensures.received; int = c.in_ok-table.ensures.received };
 }

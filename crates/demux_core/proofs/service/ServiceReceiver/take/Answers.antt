@@ -9,7 +9,7 @@ returns-in-Ule-clause-delivered g c = λ it records h. c.take.ensures.delivered 
   served = record { kind = subst (λ (b : ByKind). ReadsKind b it.kind) c.in-Ule.is h.has.reads; filter_is = h.filter_is };
   of_pid = h.has.pid_is ∙ ap (λ (p : ℕ). Some p) h.of_pid;
   few = h.few;
-  received = subst (λ (b : ByKind). one.HasReceived it (state_of b) records) c.in-Ule.is h.has.received;
+  received = subst (λ (b : ByKind). one.HasTaken it (state_of b) records) c.in-Ule.is h.has.received;
 })
 
 pub returns-in-Mpe-clause-delivered : goal.returns-in-Mpe-clause-delivered
@@ -17,5 +17,5 @@ returns-in-Mpe-clause-delivered g c = λ it records h. c.take-in-Mpe.ensures.del
   served = record { kind = subst (λ (b : ByKind). ReadsKind b it.kind) c.in-Mpe.is h.has.reads; filter_is = h.filter_is };
   of_pid = h.has.pid_is ∙ ap (λ (p : ℕ). Some p) h.of_pid;
   few = h.few;
-  received = subst (λ (b : ByKind). one.HasReceived it (state_of b) records) c.in-Mpe.is h.has.received;
+  received = subst (λ (b : ByKind). one.HasTaken it (state_of b) records) c.in-Mpe.is h.has.received;
 })
