@@ -9,4 +9,3 @@ pub mod Units
 pub mod Taken
 pub mod Fronts
 pub mod Keeping
-pub mod Sections

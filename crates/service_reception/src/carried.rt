@@ -1,9 +1,8 @@
 //! A unit -> the label and the datagram that it carries, by the kind of unit.
-ghost use Rattle.std.specs.Prelude.{◌≡◌, ◌≤◌, length};
+ghost use Rattle.std.specs.Prelude.{◌≡◌};
 ghost use Rattle.ts_spec.specs.Form.{IsUnit};
 ghost use Rattle.ts_spec.specs.Sndu.{sndu_form};
-ghost use Rattle.section_spec.specs.Section.{section_form, section_fields};
-ghost use Rattle.section_codec.specs.Views.{fields_in};
+ghost use Rattle.section_spec.specs.Section.{section_form};
 ghost use Rattle.plan_spec.specs.Plan.{KindFields};
 ghost use Rattle.stream_spec.specs.Services.{form_of_kind};
 ghost use Rattle.reception_spec.specs.Units.{label_of_npa};
@@ -12,19 +11,10 @@ ghost use Rattle.service_reception.specs.Carried.{ReadsAs};
 
 use addr_rules::Label;
 use mpe_section::read_mpe;
-use section_codec::{SectionForm, SectionRef};
+use section_codec::{SectionForm, parse_checked, sections_are_units};
 use ule_extension::datagram;
 use ule_unit::{UleForm, read_checked};
 use unit_stream::UnitForm;
-
-/// table_id and section_length, in front of a section's body (ISO/IEC 13818-1 clause 2.4.4).
-const HEAD: usize = 3;
-
-/// CRC_32, after it.
-const CRC: usize = 4;
-
-/// The fewest bytes of a section: its head, a body of 5 bytes, and CRC_32.
-const LEAST_SECTION: usize = 12;
 
 /// What a unit carries.
 #[derive(Clone, Copy, Debug, PartialEq, Eq)]
@@ -96,25 +86,16 @@ fn label_of(npa: Option<[u8; 6]>) -> Label
     }
 }
 
-/// The section that these bytes are: its length and its CRC_32 were compared before.
-fn section_in(unit: &[u8]) -> SectionRef<'_>
-    requires { 7 ≤ length unit.now }
-    ensures read { fields_in result ≡ section_fields unit.now }
-{
-    SectionRef {
-        table_id: unit[0],
-        body: &unit[HEAD..unit.len() - CRC],
-    }
-}
-
 /// The datagram of a datagram_section (EN 301 192 clause 7). Reassembly has compared its CRC_32.
 fn read_section(unit: &[u8]) -> Option<Carried<'_>>
     ensures read { (kind : KindFields) → IsMpe kind → IsUnit section_form unit.now → ReadsAs kind unit.now result }
 {
-    if unit.len() < LEAST_SECTION {
-        return None;
-    }
-    match read_mpe(&section_in(unit)) {
+    sections_are_units();
+    let section = match parse_checked(unit) {
+        Some(section) => section,
+        None => return None,
+    };
+    match read_mpe(&section) {
         Ok(mpe) => Some(Carried {
             label: Label::Six(mpe.mac),
             datagram: mpe.datagram,

@@ -1,12 +1,12 @@
 //! Sections -> how many came, and the first of an INT, kept.
-ghost use Rattle.std.specs.Prelude.{◌≡◌, ◌≤◌, ◌++◌, length, drop};
+ghost use Rattle.std.specs.Prelude.{◌≡◌};
 ghost use Rattle.reception_spec.specs.Table.{is_int_section};
 
+use byte_slices::put;
+use section_codec::{SectionForm, table_id};
 use std::alloc::Allocator;
 use std::marker::Model;
-
-/// The longest section (ISO/IEC 13818-1 clause 2.4.4).
-const LONGEST: usize = 4096;
+use unit_stream::UnitForm;
 
 /// table_id of the IP/MAC notification table (EN 301 192 clause 8.4).
 const INT: u8 = 0x4C;
@@ -53,8 +53,8 @@ impl<A: Allocator> Kept<A> {
         ensures first { length section.now ≤ 4096 → self.new.first ≡ first_with self.old.first section.now }
     {
         self.units = self.units.saturating_add(1);
-        if self.size.is_none() && is_int(section) && section.len() <= LONGEST {
-            put(&mut self.buffer, section);
+        if self.size.is_none() && is_int(section) && section.len() <= SectionForm::LONGEST {
+            put(&mut self.buffer, 0, section);
             self.size = Some(section.len());
         }
     }
@@ -81,13 +81,8 @@ impl<A: Allocator> Kept<A> {
 fn is_int(section: &[u8]) -> bool
     ensures { result ≡ is_int_section section.now }
 {
-    !section.is_empty() && section[0] == INT
-}
-
-/// Puts `piece` to the front of `into`.
-fn put(into: &mut [u8], piece: &[u8])
-    requires { length piece.now ≤ length into.old }
-    ensures put { into.new ≡ piece.now ++ drop (length piece.now) into.old }
-{
-    into[..piece.len()].copy_from_slice(piece);
+    match table_id(section) {
+        Some(id) => id == INT,
+        None => false,
+    }
 }
