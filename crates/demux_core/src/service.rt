@@ -14,9 +14,10 @@ ghost use Rattle.demux_core.specs.Services.{HasReceivedOne, IsReceivingOne, IsFr
 
 use addr_rules::MacList;
 use bumpalo::Bump;
+use byte_slices::zeros;
 use ipe_io::{Failed, OutOfMemory, Outlet};
-use section_codec::SectionForm;
 use plan::Kind;
+use section_codec::SectionForm;
 use service_reception::{Counts, Reception};
 use ts_packet::Packet;
 use ule_unit::UleForm;
@@ -36,13 +37,6 @@ pub(crate) enum ByKind<'a> {
 pub(crate) struct ServiceReceiver<'a> {
     pub(crate) pid: u16,
     pub(crate) reception: ByKind<'a>,
-}
-
-/// Bytes in the arena.
-pub(crate) fn zeros(arena: &Bump, count: usize) -> Result<Vec<u8, &Bump>, OutOfMemory>
-    ensures { IfOk result (λ buffer. vec_len buffer ≡ count) }
-{
-    vec![in arena; 0u8; count]
 }
 
 /// A reception of SNDUs that was given nothing.

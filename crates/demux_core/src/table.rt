@@ -7,8 +7,8 @@ ghost use Rattle.service_reception.specs.Reception.{packet_record};
 ghost use Rattle.demux_core.specs.Contents.{IsRead};
 ghost use Rattle.demux_core.specs.Services.{HasReceivedInt, is_table_pid};
 
-use crate::service::zeros;
 use bumpalo::Bump;
+use byte_slices::zeros;
 use ipe_io::OutOfMemory;
 use plan::IntPlan;
 use service_reception::TableReception;
