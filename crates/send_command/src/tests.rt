@@ -1,76 +1,21 @@
 //! Small captures, and the streams that are sent of them; packets by hand from RFC 4326 and ISO/IEC 13818-1.
-ghost use Rattle.std.specs.Prelude.{◌≤◌};
-
 use super::*;
 use ipe_io::{MemSink, MemSource};
 use pcap_file::CaptureFault;
 use service_plan::{Plan, read_plan};
 use std::alloc::Global;
 use std::test::Fail;
+use test_recordings::settings::FILES;
+use test_recordings::{capture_of_files, packet_of_files};
 
-/// SNDUs for 239.2.0.0/16 on PID 513, with NPA addresses, packed.
-const SETTINGS: &[u8] = br#"
-[[service]]
-name = "files"
-kind = "ule"
-pid = 513
-rules = ["239.2.0.0/16"]
-"#;
-
-/// The head of a capture of link type 101 (draft-ietf-opsawg-pcap section 4).
-const HEAD: [u8; 24] = [
-    0xD4, 0xC3, 0xB2, 0xA1, 2, 0, 4, 0, 0, 0, 0, 0, 0, 0, 0, 0, 0, 0, 4, 0, 0x65, 0, 0, 0,
-];
-
-/// An IPv4 datagram of 28 bytes (RFC 791 section 3.1) to 239.2.0.9.
-const DATAGRAM: [u8; 28] = [
-    0x45, 0, 0, 28, 0, 0, 0, 0, 64, 17, 0, 0, 10, 0, 0, 1, 239, 2, 0, 9, 0, 0, 0, 0, 0, 0, 0, 0,
-];
-
-/// What stands before it in its SNDU: Length, Type and NPA address (RFC 4326 section 4, RFC 1112 section 6.4).
-const SNDU_HEAD: [u8; 10] = [0, 38, 8, 0, 1, 0, 0x5E, 2, 0, 9];
-
-/// The CRC-32 after it, by long division with other means.
-const CRC: [u8; 4] = [0x8F, 0x01, 0xBA, 0x4A];
-
-/// The packet of as many of its SNDUs, the first of its PID.
-fn packet(count: usize) -> [u8; 188]
-    requires { count ≤ 4 }
-{
-    let mut bytes = [0xFF; 188];
-    bytes[..5].copy_from_slice(&[0x47, 0x42, 0x01, 0x10, 0]);
-    for i in 0..count {
-        let at = 5 + 42 * i;
-        bytes[at..at + 10].copy_from_slice(&SNDU_HEAD);
-        bytes[at + 10..at + 38].copy_from_slice(&DATAGRAM);
-        bytes[at + 38..at + 42].copy_from_slice(&CRC);
-    }
-    bytes
-}
-
-/// A capture of this many of the datagrams, of ten bytes that are none, and of a datagram to 10.0.0.9.
-fn capture(alloc: Global, count: usize) -> Result<Vec<u8>, Fail> {
-    let mut bytes = Vec::from_slice(alloc, &HEAD)?;
-    for _ in 0..count {
-        bytes.extend_from_slice(&[0, 0, 0, 0, 0, 0, 0, 0, 28, 0, 0, 0, 28, 0, 0, 0])?;
-        bytes.extend_from_slice(&DATAGRAM)?;
-    }
-    bytes.extend_from_slice(&[0, 0, 0, 0, 0, 0, 0, 0, 10, 0, 0, 0, 10, 0, 0, 0])?;
-    bytes.extend_from_slice(&[0; 10])?;
-    bytes.extend_from_slice(&[0, 0, 0, 0, 0, 0, 0, 0, 28, 0, 0, 0, 28, 0, 0, 0])?;
-    bytes.extend_from_slice(&DATAGRAM[..16])?;
-    bytes.extend_from_slice(&[10, 0, 0, 9, 0, 0, 0, 0, 0, 0, 0, 0])?;
-    Ok(bytes)
-}
-
-/// How a send of these bytes ends, and what it wrote.
+/// How a send of these bytes ends, and what it wrote. A read gives 7 bytes at most.
 fn sent(
     alloc: Global,
     bytes: &[u8],
     source_fails: &[u32],
     sink_fails: &[u32],
 ) -> Result<(SendEnd, MemSink), Fail> {
-    let Ok(plan) = read_plan(alloc, SETTINGS) else {
+    let Ok(plan) = read_plan(alloc, FILES.as_bytes()) else {
         return Err(Fail::new("settings"));
     };
     if !can_send(&plan) {
@@ -82,74 +27,161 @@ fn sent(
     Ok((end, output))
 }
 
+/// A capture of the files and two other records, and how its send ends.
+#[derive(Clone, Copy)]
+struct Case<'a> {
+    name: &'a str,
+    /// How many of the files' datagrams the capture has, and how many of its bytes come.
+    datagrams: usize,
+    bytes: usize,
+    input_fails: &'a [u32],
+    output_fails: &'a [u32],
+    end: SendEnd,
+    /// How many bytes of the packet are written, and flushed.
+    written: usize,
+    flushed: usize,
+}
+
 /// Both SNDUs of two datagrams begin in one packet (RFC 4326 section 7.2).
+const SENT: Case = Case {
+    name: "two datagrams",
+    datagrams: 2,
+    bytes: 182,
+    input_fails: &[],
+    output_fails: &[],
+    end: SendEnd::Done(Tally {
+        offered: 2,
+        not_ip: 1,
+        unrouted: 1,
+        too_long: 0,
+    }),
+    written: 188,
+    flushed: 188,
+};
+
+const ONE: Case = Case {
+    name: "one datagram",
+    datagrams: 1,
+    bytes: 138,
+    end: SendEnd::Done(Tally {
+        offered: 1,
+        not_ip: 1,
+        unrouted: 1,
+        too_long: 0,
+    }),
+    ..SENT
+};
+
+const INPUT: Case = Case {
+    name: "the input fails",
+    end: SendEnd::SourceFault,
+    written: 0,
+    flushed: 0,
+    ..ONE
+};
+
+const OUTPUT: Case = Case {
+    name: "the output fails",
+    end: SendEnd::SinkFault,
+    flushed: 0,
+    ..ONE
+};
+
+/// The third record begins at byte 112, and has a head of 16 bytes and 10 others. What stands before a fault of the capture is sent.
+static CASES: [Case; 11] = [
+    ONE,
+    SENT,
+    Case {
+        name: "no byte",
+        bytes: 0,
+        end: SendEnd::Capture {
+            fault: CaptureFault::Empty,
+            place: 0,
+        },
+        written: 0,
+        flushed: 0,
+        ..SENT
+    },
+    Case {
+        name: "a cut head of the capture",
+        bytes: 23,
+        end: SendEnd::Capture {
+            fault: CaptureFault::CutHead,
+            place: 0,
+        },
+        written: 0,
+        flushed: 0,
+        ..SENT
+    },
+    Case {
+        name: "a cut head of the first record",
+        bytes: 39,
+        end: SendEnd::Capture {
+            fault: CaptureFault::CutHead,
+            place: 1,
+        },
+        written: 0,
+        flushed: 0,
+        ..SENT
+    },
+    Case {
+        name: "a cut head of the third record",
+        bytes: 127,
+        end: SendEnd::Capture {
+            fault: CaptureFault::CutHead,
+            place: 3,
+        },
+        ..SENT
+    },
+    Case {
+        name: "a cut third record",
+        bytes: 137,
+        end: SendEnd::Capture {
+            fault: CaptureFault::CutRecord,
+            place: 3,
+        },
+        ..SENT
+    },
+    Case {
+        input_fails: &[0],
+        ..INPUT
+    },
+    Case {
+        input_fails: &[9],
+        ..INPUT
+    },
+    Case {
+        output_fails: &[0],
+        written: 0,
+        ..OUTPUT
+    },
+    Case {
+        output_fails: &[1],
+        ..OUTPUT
+    },
+];
+
 #[test]
-fn a_capture_is_sent_and_its_records_are_counted(rt: HostRuntime) -> Result<(), Fail> {
-    let alloc = rt.alloc();
-    for count in 1..3usize {
-        let (end, output) = sent(alloc, &capture(alloc, count)?, &[], &[])?;
-        let tally = Tally {
-            offered: count as u32,
-            not_ip: 1,
-            unrouted: 1,
-            too_long: 0,
-        };
-        assert_eq!(rt; end, SendEnd::Done(tally));
-        assert_eq!(rt; output.bytes(), &packet(count)[..]);
-        assert_eq!(rt; output.flushed(), 188);
+fn a_capture_is_sent_up_to_a_fault(rt: HostRuntime) -> Result<(), Fail> {
+    for case in &CASES {
+        let capture = capture_of_files(rt.alloc(), case.datagrams)?;
+        let packet = packet_of_files(rt.alloc(), case.datagrams)?;
+        let bytes = capture.get(..case.bytes).ok_or("no such front")?;
+        let (end, output) = sent(rt.alloc(), bytes, case.input_fails, case.output_fails)?;
+        assert_eq!(rt; end, case.end, "{}", case.name);
+        assert!(rt;
+            Some(output.bytes()) == packet.get(..case.written),
+            "{}",
+            case.name
+        );
+        assert_eq!(rt; output.flushed(), case.flushed, "{}", case.name);
     }
     Ok(())
 }
 
-/// Bytes of a capture of two datagrams; its fault, the record that has it, and how many packets are sent before.
-type Case = (usize, CaptureFault, u32, usize);
-
-/// The third record begins at byte 112, and has a head of 16 bytes and 10 others.
+/// The lines that are reported, with the least and the largest numbers.
 #[test]
-fn a_cut_capture_is_sent_up_to_its_fault(rt: HostRuntime) -> Result<(), Fail> {
-    let alloc = rt.alloc();
-    let whole = capture(alloc, 2)?;
-    let cases: [Case; 5] = [
-        (0, CaptureFault::Empty, 0, 0),
-        (23, CaptureFault::CutHead, 0, 0),
-        (39, CaptureFault::CutHead, 1, 0),
-        (127, CaptureFault::CutHead, 3, 1),
-        (137, CaptureFault::CutRecord, 3, 1),
-    ];
-    for (size, fault, place, packets) in cases {
-        assert!(rt; size <= whole.len());
-        let (end, output) = sent(alloc, &whole[..size], &[], &[])?;
-        assert_eq!(rt; end, SendEnd::Capture { fault, place });
-        assert_eq!(rt; output.bytes().len(), 188 * packets);
-        if packets == 1 {
-            assert_eq!(rt; output.bytes(), &packet(2)[..]);
-        }
-        assert_eq!(rt; output.flushed(), output.bytes().len());
-    }
-    Ok(())
-}
-
-#[test]
-fn a_failing_input_sends_nothing_and_a_failing_output_ends_it(rt: HostRuntime) -> Result<(), Fail> {
-    let alloc = rt.alloc();
-    let cases: [(&[u32], &[u32], SendEnd, usize); 4] = [
-        (&[0], &[], SendEnd::SourceFault, 0),
-        (&[9], &[], SendEnd::SourceFault, 0),
-        (&[], &[0], SendEnd::SinkFault, 0),
-        (&[], &[1], SendEnd::SinkFault, 188),
-    ];
-    for (source_fails, sink_fails, want, size) in cases {
-        let (end, output) = sent(alloc, &capture(alloc, 1)?, source_fails, sink_fails)?;
-        assert_eq!(rt; end, want);
-        assert_eq!(rt; output.bytes().len(), size);
-        assert_eq!(rt; output.flushed(), 0);
-    }
-    Ok(())
-}
-
-/// The lines that are told, with the least and the largest numbers.
-#[test]
-fn lines_are_told(rt: HostRuntime) -> Result<(), Fail> {
+fn lines_are_reported(rt: HostRuntime) -> Result<(), Fail> {
     let mut sink = MemSink::new(rt.alloc(), 1000, &[])?;
     let tally = Tally {
         offered: 1,
