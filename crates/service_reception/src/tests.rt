@@ -1,207 +1,59 @@
 //! What is counted of packets by hand, and which datagrams are delivered.
-use crate::by_hand::{
-    ADDRESSED, DATAGRAM, INT, MAC, NEXT_INT, OTHER, SECTION, SNDU, Seen, TOO_SHORT, numbers,
-    one_unit, packet, take,
-};
-use crate::{Reception, TableReception, UnitReader};
+use crate::by_hand::{Case, SECTIONS, SNDUS, TWO};
+use crate::{Counts, Reception, TableReception, UnitReader};
 use addr_rules::MacList;
+use ipe_io::Failed;
 use section_codec::SectionForm;
 use std::alloc::Global;
 use std::test::Fail;
+use test_recordings::units::{DATAGRAM, INT, NEXT_INT, OTHER, SECTION, SNDU};
+use test_recordings::{NotedOutlet, go_on, start};
 use ts_packet::parse;
 use ule_unit::UleForm;
 use unit_stream::UnitForm;
 
-/// A packet, how often it comes, and the numbers after it and a packet with a good unit.
-#[derive(Clone, Copy)]
-struct Case<'a> {
-    pointer: u8,
-    unit: &'a [u8],
-    times: u8,
-    want: [u64; 10],
-}
+/// The service of all tests.
+const SERVICE: u32 = 3;
 
-/// The numbers, and how many right datagrams the outlet has.
-fn ran<K: UnitReader>(
-    alloc: Global,
-    good: &[u8],
+/// Takes a packet, where it can be read.
+fn take<K: UnitReader>(
+    reception: &mut Reception<K, Global>,
+    bytes: &[u8; 188],
     filter: &MacList,
-    case: &Case<'_>,
-) -> Result<([u64; 10], u64), Fail> {
-    let mut reception = Reception::<K, Global>::over(vec![in alloc; 0u8; K::LONGEST]?);
-    let mut seen = Seen::new(100);
-    let first = one_unit(0, case.pointer, case.unit);
-    for _ in 0..case.times {
-        take(&mut reception, &first, filter, &mut seen)?;
+    noted: &mut NotedOutlet,
+) -> Result<(), Failed> {
+    match parse(bytes) {
+        Ok(packet) => reception.take(bytes, &packet, 0, filter, SERVICE, noted),
+        Err(_) => Ok(()),
     }
-    let last = one_unit(1, 0, good);
-    take(&mut reception, &last, filter, &mut seen)?;
-    Ok((numbers(&reception), u64::from(seen.right)))
 }
 
-/// The same of one unit, at a service whose filter lists one address.
-fn ran_with<K: UnitReader>(
-    alloc: Global,
-    good: &[u8],
-    mac: [u8; 6],
-    unit: &[u8],
-) -> Result<([u64; 10], u64), Fail> {
+/// Whether a case gives its numbers, and as many right datagrams.
+fn is_counted<K: UnitReader>(alloc: Global, good: &[u8], case: &Case<'_>) -> Result<bool, Fail> {
     let mut filter = MacList::new(alloc);
-    filter.push(mac)?;
-    let case = Case {
-        pointer: 0,
-        unit,
-        times: 1,
-        want: [0; 10],
-    };
-    ran::<K>(alloc, good, &filter, &case)
+    if let Some(mac) = case.filter {
+        filter.push(mac)?;
+    }
+    let mut reception = Reception::<K, Global>::over(vec![in alloc; 0u8; K::LONGEST]?);
+    let mut noted = NotedOutlet::new(100);
+    let first = start(0, case.pointer, case.unit);
+    for _ in 0..case.times {
+        take(&mut reception, &first, &filter, &mut noted)?;
+    }
+    take(&mut reception, &start(1, 0, good), &filter, &mut noted)?;
+    let right = noted.order().len() as u64;
+    Ok(reception.counts() == case.counts && right == case.counts.datagrams)
 }
 
-/// RFC 4326 sections 4 and 7, ISO/IEC 13818-1 clause 2.4.3.3: what a packet makes of the numbers, and the unit after it arrives.
 #[test]
-fn a_good_sndu_behind_each_packet_arrives(rt: HostRuntime) -> Result<(), Fail> {
-    let mut damaged = SNDU;
-    damaged[27] = 0;
-    let cases = [
-        Case {
-            pointer: 0,
-            unit: &SNDU,
-            times: 1,
-            want: [2, 0, 0, 2, 0, 0, 0, 0, 0, 2],
-        },
-        Case {
-            pointer: 0,
-            unit: &SNDU,
-            times: 2,
-            want: [2, 1, 0, 2, 0, 0, 0, 0, 0, 2],
-        },
-        Case {
-            pointer: 0,
-            unit: &SNDU,
-            times: 4,
-            want: [2, 3, 0, 2, 0, 0, 0, 0, 0, 2],
-        },
-        // None before it: no gap.
-        Case {
-            pointer: 0,
-            unit: &SNDU,
-            times: 0,
-            want: [1, 0, 0, 1, 0, 0, 0, 0, 0, 1],
-        },
-        // A pointer of 183 ends the payload; 184 and 255 pass it.
-        Case {
-            pointer: 183,
-            unit: &SNDU,
-            times: 1,
-            want: [2, 0, 0, 1, 0, 0, 0, 0, 0, 1],
-        },
-        Case {
-            pointer: 184,
-            unit: &SNDU,
-            times: 1,
-            want: [2, 0, 0, 1, 0, 1, 0, 0, 0, 1],
-        },
-        Case {
-            pointer: 255,
-            unit: &SNDU,
-            times: 1,
-            want: [2, 0, 0, 1, 0, 1, 0, 0, 0, 1],
-        },
-        // D and a Length of 3.
-        Case {
-            pointer: 0,
-            unit: &[0x80, 3, 8, 0, 1, 2, 3],
-            times: 1,
-            want: [2, 0, 0, 1, 0, 0, 1, 0, 0, 1],
-        },
-        Case {
-            pointer: 0,
-            unit: &damaged,
-            times: 1,
-            want: [2, 0, 0, 1, 1, 0, 0, 0, 0, 1],
-        },
-        // A length of 204: the good unit's packet does not go on with it.
-        Case {
-            pointer: 0,
-            unit: &[0x80, 200, 8, 0],
-            times: 1,
-            want: [2, 0, 0, 1, 0, 1, 0, 0, 0, 1],
-        },
-    ];
-    let filter = MacList::new(rt.alloc());
-    for case in cases {
-        let ended = ran::<UleForm>(rt.alloc(), &SNDU, &filter, &case)?;
-        assert_eq!(rt; ended, (case.want, case.want[9]));
+fn each_packet_and_a_good_unit_after_it_are_counted(rt: HostRuntime) -> Result<(), Fail> {
+    for case in &SNDUS {
+        let counted = is_counted::<UleForm>(rt.alloc(), &SNDU, case)?;
+        assert!(rt; counted, "{}", case.name);
     }
-    Ok(())
-}
-
-/// ISO/IEC 13818-1 clause 2.4.4, EN 301 192 clause 7: the same of sections.
-#[test]
-fn a_good_section_behind_each_packet_arrives(rt: HostRuntime) -> Result<(), Fail> {
-    let cases = [
-        Case {
-            pointer: 0,
-            unit: &SECTION,
-            times: 3,
-            want: [2, 2, 0, 2, 0, 0, 0, 0, 0, 2],
-        },
-        // section_length 4,094.
-        Case {
-            pointer: 0,
-            unit: &[0x3E, 0xBF, 0xFE],
-            times: 1,
-            want: [2, 0, 0, 1, 0, 0, 1, 0, 0, 1],
-        },
-        Case {
-            pointer: 0,
-            unit: &TOO_SHORT,
-            times: 1,
-            want: [2, 0, 0, 2, 0, 0, 0, 1, 0, 1],
-        },
-        Case {
-            pointer: 0,
-            unit: &OTHER,
-            times: 1,
-            want: [2, 0, 0, 2, 0, 0, 0, 1, 0, 1],
-        },
-        Case {
-            pointer: 184,
-            unit: &SECTION,
-            times: 1,
-            want: [2, 0, 0, 1, 0, 1, 0, 0, 0, 1],
-        },
-    ];
-    let filter = MacList::new(rt.alloc());
-    for case in cases {
-        let ended = ran::<SectionForm>(rt.alloc(), &SECTION, &filter, &case)?;
-        assert_eq!(rt; ended, (case.want, case.want[9]));
-    }
-    Ok(())
-}
-
-/// A filter wants the units to a listed address and those without one; a unit without a datagram is unread, whoever it is for.
-#[test]
-fn a_filter_parts_the_units(rt: HostRuntime) -> Result<(), Fail> {
-    let ules: [([u8; 6], &[u8], [u64; 10]); 4] = [
-        (MAC, &ADDRESSED, [2, 0, 0, 2, 0, 0, 0, 0, 0, 2]),
-        (MAC, &SNDU, [2, 0, 0, 2, 0, 0, 0, 0, 0, 2]),
-        ([2; 6], &ADDRESSED, [2, 0, 0, 2, 0, 0, 0, 0, 1, 1]),
-        ([2; 6], &SNDU, [2, 0, 0, 2, 0, 0, 0, 0, 0, 2]),
-    ];
-    for (mac, unit, want) in ules {
-        let ended = ran_with::<UleForm>(rt.alloc(), &SNDU, mac, unit)?;
-        assert_eq!(rt; ended, (want, want[9]));
-    }
-    let sections: [([u8; 6], &[u8], [u64; 10]); 4] = [
-        (MAC, &SECTION, [2, 0, 0, 2, 0, 0, 0, 0, 0, 2]),
-        (MAC, &TOO_SHORT, [2, 0, 0, 2, 0, 0, 0, 1, 0, 1]),
-        ([2; 6], &SECTION, [2, 0, 0, 2, 0, 0, 0, 0, 2, 0]),
-        ([2; 6], &TOO_SHORT, [2, 0, 0, 2, 0, 0, 0, 1, 1, 0]),
-    ];
-    for (mac, unit, want) in sections {
-        let ended = ran_with::<SectionForm>(rt.alloc(), &SECTION, mac, unit)?;
-        assert_eq!(rt; ended, (want, want[9]));
+    for case in &SECTIONS {
+        let counted = is_counted::<SectionForm>(rt.alloc(), &SECTION, case)?;
+        assert!(rt; counted, "{}", case.name);
     }
     Ok(())
 }
@@ -217,68 +69,130 @@ fn two_thousand_headers_are_passed(rt: HostRuntime) -> Result<(), Fail> {
     unit[4002] = 8;
     unit[4004..4024].copy_from_slice(&DATAGRAM);
     unit[4024..].copy_from_slice(&[0xD4, 0xEF, 0x46, 0xC7]);
-    let buffer = vec![in rt.alloc(); 0u8; UleForm::LONGEST]?;
     let filter = MacList::new(rt.alloc());
+    let buffer = vec![in rt.alloc(); 0u8; UleForm::LONGEST]?;
     let mut reception = Reception::<UleForm, Global>::over(buffer);
-    let mut seen = Seen::new(100);
-    let first = one_unit(0, 0, &unit);
-    assert!(rt; take(&mut reception, &first, &filter, &mut seen).is_ok());
+    let mut noted = NotedOutlet::new(100);
+    take(&mut reception, &start(0, 0, &unit), &filter, &mut noted)?;
     for place in 0..21usize {
-        let bytes = packet(false, place as u8 + 1, &unit[183 + 184 * place..]);
-        assert!(rt; take(&mut reception, &bytes, &filter, &mut seen).is_ok());
+        let packet = go_on(place as u8 + 1, &unit[183 + 184 * place..]);
+        take(&mut reception, &packet, &filter, &mut noted)?;
     }
-    let last = one_unit(0, 0, &SNDU);
-    assert!(rt; take(&mut reception, &last, &filter, &mut seen).is_ok());
-    assert_eq!(rt; numbers(&reception), [23, 0, 1, 2, 0, 0, 0, 0, 0, 2]);
-    assert_eq!(rt; seen.right, 2);
+    take(&mut reception, &start(0, 0, &SNDU), &filter, &mut noted)?;
+    let counts = Counts {
+        heard: 23,
+        gaps: 1,
+        ..TWO
+    };
+    assert_eq!(rt; reception.counts(), counts);
+    assert_eq!(rt; noted.order().len(), 2);
     Ok(())
 }
 
-/// Two units in a packet: where the outlet refuses the first, the second is not offered.
+/// Of two units in a packet: from which call on the outlet refuses, how many calls there are, and how many datagrams are right.
+#[derive(Clone, Copy)]
+struct Refusal {
+    refuses_from: usize,
+    calls: usize,
+    right: usize,
+    is_ok: bool,
+}
+
+static REFUSALS: [Refusal; 3] = [
+    Refusal {
+        refuses_from: 1,
+        calls: 1,
+        right: 0,
+        is_ok: false,
+    },
+    Refusal {
+        refuses_from: 2,
+        calls: 2,
+        right: 1,
+        is_ok: false,
+    },
+    Refusal {
+        refuses_from: 3,
+        calls: 2,
+        right: 2,
+        is_ok: true,
+    },
+];
+
+/// Where the outlet refuses the first of two units, the second is not offered.
 #[test]
-fn behind_a_refused_datagram_none_is_offered(rt: HostRuntime) -> Result<(), Fail> {
+fn after_a_refused_datagram_none_is_offered(rt: HostRuntime) -> Result<(), Fail> {
     let mut units = [0u8; 56];
     units[..28].copy_from_slice(&SNDU);
     units[28..].copy_from_slice(&SNDU);
-    let bytes = one_unit(0, 0, &units);
+    let packet = start(0, 0, &units);
     let filter = MacList::new(rt.alloc());
-    let cases: [(u32, u32, u32, bool); 3] = [(1, 1, 0, false), (2, 2, 1, false), (3, 2, 2, true)];
-    for (refuses_from, calls, right, ok) in cases {
+    for case in &REFUSALS {
         let buffer = vec![in rt.alloc(); 0u8; UleForm::LONGEST]?;
         let mut reception = Reception::<UleForm, Global>::over(buffer);
-        let mut seen = Seen::new(refuses_from);
-        assert_eq!(rt;
-            take(&mut reception, &bytes, &filter, &mut seen).is_ok(),
-            ok
-        );
-        assert_eq!(rt; seen.calls, calls);
-        assert_eq!(rt; seen.right, right);
+        let mut noted = NotedOutlet::new(case.refuses_from);
+        let taken = take(&mut reception, &packet, &filter, &mut noted);
+        assert_eq!(rt; taken.is_ok(), case.is_ok);
+        assert_eq!(rt; noted.calls(), case.calls);
+        assert_eq!(rt; noted.order().len(), case.right);
     }
     Ok(())
 }
+
+/// A section on the INT's PID, and after it how many sections are counted and whether the first of an INT is kept.
+#[derive(Clone, Copy)]
+struct Table<'a> {
+    section: &'a [u8],
+    units: u64,
+    is_kept: bool,
+}
+
+/// The INT with another CRC-32.
+const DAMAGED_INT: [u8; 18] = [
+    0x4C, 0xF0, 0x0F, 0x01, 0x01, 0xC1, 0, 0, 0, 0, 1, 0, 0xF0, 0, 0x07, 0xE9, 0x3F, 0,
+];
+
+static TABLES: [Table; 5] = [
+    Table {
+        section: &DAMAGED_INT,
+        units: 0,
+        is_kept: false,
+    },
+    Table {
+        section: &OTHER,
+        units: 1,
+        is_kept: false,
+    },
+    Table {
+        section: &INT,
+        units: 2,
+        is_kept: true,
+    },
+    Table {
+        section: &NEXT_INT,
+        units: 3,
+        is_kept: true,
+    },
+    Table {
+        section: &OTHER,
+        units: 4,
+        is_kept: true,
+    },
+];
 
 /// EN 301 192 clause 8.4: each section counts, and the first with table_id 0x4C is kept.
 #[test]
 fn the_first_section_of_an_int_is_kept(rt: HostRuntime) -> Result<(), Fail> {
-    let mut damaged = INT;
-    damaged[17] = 0;
-    let units: [(&[u8], u64, bool); 5] = [
-        (&damaged, 0, false),
-        (&OTHER, 1, false),
-        (&INT, 2, true),
-        (&NEXT_INT, 3, true),
-        (&OTHER, 4, true),
-    ];
     let buffer = vec![in rt.alloc(); 0u8; SectionForm::LONGEST]?;
     let kept = vec![in rt.alloc(); 0u8; SectionForm::LONGEST]?;
     let mut reception = TableReception::over(buffer, kept);
-    for (counter, (unit, count, is_kept)) in units.into_iter().enumerate() {
-        let bytes = one_unit(counter as u8, 0, unit);
+    for (counter, case) in TABLES.iter().enumerate() {
+        let bytes = start(counter as u8, 0, case.section);
         if let Ok(packet) = parse(&bytes) {
             reception.take(&bytes, &packet, 0);
         }
-        assert_eq!(rt; reception.units(), count);
-        let want: Option<&[u8]> = if is_kept { Some(&INT) } else { None };
+        assert_eq!(rt; reception.units(), case.units);
+        let want: Option<&[u8]> = if case.is_kept { Some(&INT) } else { None };
         assert_eq!(rt; reception.section(), want);
     }
     Ok(())
