@@ -5,147 +5,261 @@ ghost use Rattle.demux_core.specs.Receiving.{are_built};
 
 use crate::{ReceiveEnd, UleEnd, receive, ule};
 use demux_core::can_receive;
-use ipe_io::{MemRack, MemSink, MemSource};
 use service_plan::{Plan, read_plan, ule_plan};
 use std::alloc::Global;
 use std::test::Fail;
+use test_recordings::settings::{INT, ONE_AND_TWO, settings_of};
+use test_recordings::units::{INT_OF_TWO, WRONG_HASH};
+use test_recordings::{
+    Failing, FileLeft, Given, Left, Numbers, Outside, Report, ServiceReport, TableReport,
+    faultless, recording_of_two, report_of, small_capture,
+};
 
-/// Two services of SNDUs and an INT.
-const SETTINGS: &str =
-    "[int]\npid = 600\nplatform_id = 1\nnetwork_id = 2\noriginal_network_id = 3\ntransport_stream_id = 4\n[[service]]\nname = \"one\"\nkind = \"ule\"\npid = 256\nrules = [\"239.1.0.0/16\"]\n[[service]]\nname = \"two\"\nkind = \"ule\"\npid = 257\nrules = [\"239.2.0.0/16\"]\n";
+/// How many bytes of its capture a file has, and how many of them are flushed.
+#[derive(Clone, Copy)]
+struct Held {
+    bytes: usize,
+    flushed: usize,
+}
 
-/// The front of a packet of PID 256: an SNDU whose 20 bytes are an IPv4 header for 239.1.2.3. Bytes FF follow it.
-const FRONT: [u8; 33] = [
-    0x47, 0x41, 0x00, 0x10, 0x00, 0x80, 0x18, 0x08, 0x00, 0x45, 0x00, 0x00, 0x14, 0x00, 0x00, 0x00,
-    0x00, 0x40, 0x11, 0x00, 0x00, 0x0A, 0x00, 0x00, 0x01, 0xEF, 0x01, 0x02, 0x03, 0x64, 0xAE, 0xE8,
-    0x4A,
-];
+const EMPTY: Held = Held {
+    bytes: 0,
+    flushed: 0,
+};
 
-/// The capture of its datagram: the file's head of 24 bytes, the record's head, the datagram.
-const FILE: [u8; 60] = [
-    0xD4, 0xC3, 0xB2, 0xA1, 2, 0, 4, 0, 0, 0, 0, 0, 0, 0, 0, 0, 0, 0, 4, 0, 0x65, 0, 0, 0, 0, 0, 0,
-    0, 0, 0, 0, 0, 0x14, 0, 0, 0, 0x14, 0, 0, 0, 0x45, 0, 0, 0x14, 0, 0, 0, 0, 0x40, 0x11, 0, 0,
-    0x0A, 0, 0, 1, 0xEF, 1, 2, 3,
-];
+/// The file's head.
+const HEAD: Held = Held {
+    bytes: 24,
+    flushed: 0,
+};
 
-/// An INT of two rules (EN 301 192 clause 8.4), and the same whose platform_id_hash is wrong. An independent program gave the
-/// CRC-32 of each.
-const INT: [u8; 67] = [
-    0x4C, 0xF0, 0x40, 0x01, 0x01, 0xC1, 0x00, 0x00, 0x00, 0x00, 0x01, 0x00, 0xF0, 0x00, 0xF0, 0x07,
-    0x0F, 0x05, 0xEF, 0x01, 0x00, 0x00, 0x10, 0xF0, 0x10, 0x13, 0x09, 0x00, 0x02, 0x00, 0x03, 0x00,
-    0x04, 0x00, 0x0A, 0x01, 0x77, 0x03, 0xBB, 0x07, 0x70, 0xF0, 0x07, 0x0F, 0x05, 0xEF, 0x02, 0x00,
-    0x00, 0x10, 0xF0, 0x0B, 0x13, 0x09, 0x00, 0x02, 0x00, 0x03, 0x00, 0x04, 0x00, 0x0A, 0x02, 0xE7,
-    0xA6, 0xB5, 0xA2,
-];
+/// The file's head, the record's head.
+const CUT: Held = Held {
+    bytes: 40,
+    flushed: 0,
+};
 
-const WRONG_HASH: [u8; 67] = [
-    0x4C, 0xF0, 0x40, 0x01, 0x02, 0xC1, 0x00, 0x00, 0x00, 0x00, 0x01, 0x00, 0xF0, 0x00, 0xF0, 0x07,
-    0x0F, 0x05, 0xEF, 0x01, 0x00, 0x00, 0x10, 0xF0, 0x10, 0x13, 0x09, 0x00, 0x02, 0x00, 0x03, 0x00,
-    0x04, 0x00, 0x0A, 0x01, 0x77, 0x03, 0xBB, 0x07, 0x70, 0xF0, 0x07, 0x0F, 0x05, 0xEF, 0x02, 0x00,
-    0x00, 0x10, 0xF0, 0x0B, 0x13, 0x09, 0x00, 0x02, 0x00, 0x03, 0x00, 0x04, 0x00, 0x0A, 0x02, 0x5A,
-    0x06, 0xC5, 0x20,
-];
+/// The whole capture of a datagram.
+const WHOLE: Held = Held {
+    bytes: 60,
+    flushed: 0,
+};
 
-/// The report of an empty recording.
-const EMPTY: &[u8] = b"scope,name,value
-stream,records,0
-stream,tail_bytes,0
-stream,unreadable,0
-stream,without_payload,0
-stream,other,0
-ule,heard,0
-ule,repeats,0
-ule,gaps,0
-ule,units,0
-ule,bad_check,0
-ule,delimited,0
-ule,bad_length,0
-ule,unread,0
-ule,filtered,0
-ule,frames,0
-ule,rows_mended,0
-ule,rows_left,0
-ule,datagrams,0
-";
+const FLUSHED: Held = Held {
+    bytes: 60,
+    flushed: 60,
+};
 
-/// The report of both services, one of them with a duplicate; a packet of another PID, a wrong first byte, the INT, and 187
+/// A recording of both services, and what is left of its reception.
+#[derive(Clone, Copy)]
+struct Case<'a> {
+    name: &'a str,
+    /// The section of the INT.
+    section: &'a [u8],
+    /// How many bytes stand after the last record.
+    tail: usize,
+    fails: &'a [Failing],
+    end: ReceiveEnd,
+    report: Option<Report<'a>>,
+    /// `one.pcap` and `two.pcap`, as far as they are added.
+    files: &'a [Held],
+}
+
+/// A packet and its datagram.
+const ONE_DATAGRAM: Numbers = Numbers {
+    heard: 1,
+    units: 1,
+    datagrams: 1,
+    ..Numbers::NONE
+};
+
+/// What is reported of both services, one of them with a duplicate; a packet of another PID, a wrong first byte, the INT, and 187
 /// bytes after the last record.
-const WHOLE: &[u8] = b"scope,name,value
-stream,records,6
-stream,tail_bytes,187
-stream,unreadable,1
-stream,without_payload,0
-stream,other,1
-one,heard,1
-one,repeats,1
-one,gaps,0
-one,units,1
-one,bad_check,0
-one,delimited,0
-one,bad_length,0
-one,unread,0
-one,filtered,0
-one,frames,0
-one,rows_mended,0
-one,rows_left,0
-one,datagrams,1
-two,heard,1
-two,repeats,0
-two,gaps,0
-two,units,1
-two,bad_check,0
-two,delimited,0
-two,bad_length,0
-two,unread,0
-two,filtered,0
-two,frames,0
-two,rows_mended,0
-two,rows_left,0
-two,datagrams,1
-table,units,1
-table,refused,0
-rule,239.1.0.0/16,1
-rule,239.2.0.0/16,2
-";
+const WHOLE_REPORT: Report = Report {
+    records: 6,
+    tail_bytes: 187,
+    unreadable: 1,
+    other: 1,
+    services: &[
+        ServiceReport {
+            name: "one",
+            numbers: Numbers {
+                repeats: 1,
+                ..ONE_DATAGRAM
+            },
+        },
+        ServiceReport {
+            name: "two",
+            numbers: ONE_DATAGRAM,
+        },
+    ],
+    table: Some(TableReport {
+        units: 1,
+        refused: 0,
+        rules: &[("239.1.0.0/16", 1), ("239.2.0.0/16", 2)],
+    }),
+};
 
-/// A packet of the PID 256 and this number, with an SNDU.
-fn packet(pid: u8) -> [u8; 188] {
-    let mut bytes = [0xFF; 188];
-    bytes[..33].copy_from_slice(&FRONT);
-    bytes[2] = pid;
-    bytes
-}
+const NO_TAIL_REPORT: Report = Report {
+    tail_bytes: 0,
+    ..WHOLE_REPORT
+};
 
-/// The packet of an INT on PID 600.
-fn table_packet(section: &[u8; 67]) -> [u8; 188] {
-    let mut bytes = [0xFF; 188];
-    bytes[..5].copy_from_slice(&[0x47, 0x42, 0x58, 0x10, 0x00]);
-    bytes[5..72].copy_from_slice(section);
-    bytes
-}
+/// An INT whose platform_id_hash is wrong.
+const REFUSED_TABLE: Report = Report {
+    tail_bytes: 0,
+    table: Some(TableReport {
+        units: 1,
+        refused: 5,
+        rules: &[],
+    }),
+    ..WHOLE_REPORT
+};
 
-/// A recording of both services, with a duplicate of the first.
-fn recording(alloc: Global, section: &[u8; 67], tail: usize) -> Result<Vec<u8>, Fail> {
-    let mut bytes = Vec::new(alloc);
-    bytes.extend_from_slice(&packet(0))?;
-    bytes.extend_from_slice(&packet(1))?;
-    bytes.extend_from_slice(&packet(0))?;
-    bytes.extend_from_slice(&table_packet(section))?;
-    bytes.extend_from_slice(&packet(9))?;
-    let mut wrong = packet(0);
-    wrong[0] = 0x46;
-    bytes.extend_from_slice(&wrong)?;
-    for _ in 0..tail {
-        bytes.push(0xEE)?;
-    }
-    Ok(bytes)
-}
+const RECEIVED: Case = Case {
+    name: "two services",
+    section: &INT_OF_TWO,
+    tail: 187,
+    fails: &[],
+    end: ReceiveEnd::Done,
+    report: Some(WHOLE_REPORT),
+    files: &[FLUSHED, FLUSHED],
+};
 
-/// The plan of both services.
+/// Without bytes after the last record.
+const NO_TAIL: Case = Case {
+    name: "a call that does not come",
+    tail: 0,
+    fails: &[Failing::Rack(10)],
+    report: Some(NO_TAIL_REPORT),
+    ..RECEIVED
+};
+
+const RACK: Case = Case {
+    name: "the rack fails",
+    end: ReceiveEnd::RackFault,
+    report: None,
+    ..NO_TAIL
+};
+
+const OUTPUT: Case = Case {
+    name: "the output fails",
+    end: ReceiveEnd::SinkFault,
+    report: None,
+    ..NO_TAIL
+};
+
+const INPUT: Case = Case {
+    name: "the input fails",
+    end: ReceiveEnd::SourceFault,
+    report: None,
+    ..NO_TAIL
+};
+
+/// Each file is added, has its head, the head of its record, the datagram, and is flushed. The report is written at once, and
+/// flushed. The input has two reads a record; after the second record both datagrams are written.
+static CASES: [Case; 20] = [
+    RECEIVED,
+    Case {
+        name: "a table that is refused",
+        section: &WRONG_HASH,
+        tail: 0,
+        report: Some(REFUSED_TABLE),
+        ..RECEIVED
+    },
+    NO_TAIL,
+    Case {
+        fails: &[Failing::Rack(0)],
+        files: &[],
+        ..RACK
+    },
+    Case {
+        fails: &[Failing::Rack(1)],
+        files: &[EMPTY],
+        ..RACK
+    },
+    Case {
+        fails: &[Failing::Rack(2)],
+        files: &[HEAD],
+        ..RACK
+    },
+    Case {
+        fails: &[Failing::Rack(3)],
+        files: &[HEAD, EMPTY],
+        ..RACK
+    },
+    Case {
+        fails: &[Failing::Rack(4)],
+        files: &[HEAD, HEAD],
+        ..RACK
+    },
+    Case {
+        fails: &[Failing::Rack(5)],
+        files: &[CUT, HEAD],
+        ..RACK
+    },
+    Case {
+        fails: &[Failing::Rack(6)],
+        files: &[WHOLE, HEAD],
+        ..RACK
+    },
+    Case {
+        fails: &[Failing::Rack(7)],
+        files: &[WHOLE, CUT],
+        ..RACK
+    },
+    Case {
+        fails: &[Failing::Rack(8)],
+        files: &[WHOLE, WHOLE],
+        ..RACK
+    },
+    Case {
+        fails: &[Failing::Rack(9)],
+        files: &[FLUSHED, WHOLE],
+        ..RACK
+    },
+    Case {
+        fails: &[Failing::Output(0)],
+        ..OUTPUT
+    },
+    Case {
+        name: "the output is not flushed",
+        fails: &[Failing::Output(1)],
+        report: Some(NO_TAIL_REPORT),
+        ..OUTPUT
+    },
+    Case {
+        fails: &[Failing::Input(0)],
+        files: &[HEAD, HEAD],
+        ..INPUT
+    },
+    Case {
+        fails: &[Failing::Input(1)],
+        files: &[HEAD, HEAD],
+        ..INPUT
+    },
+    Case {
+        fails: &[Failing::Input(2)],
+        files: &[WHOLE, HEAD],
+        ..INPUT
+    },
+    Case {
+        fails: &[Failing::Input(4)],
+        files: &[WHOLE, WHOLE],
+        ..INPUT
+    },
+    Case {
+        fails: &[Failing::Input(12)],
+        files: &[WHOLE, WHOLE],
+        ..INPUT
+    },
+];
+
+/// The plan of both services and an INT.
 fn plan_of(alloc: Global) -> Result<Plan, Fail>
     ensures { IfOk result (λ plan. are_built (plan_fields plan) ≡ true) }
 {
-    match read_plan(alloc, SETTINGS.as_bytes()) {
+    match read_plan(alloc, settings_of(alloc, &[INT, ONE_AND_TWO])?.as_bytes()) {
         Ok(plan) => {
             if can_receive(&plan) {
                 Ok(plan)
@@ -157,131 +271,164 @@ fn plan_of(alloc: Global) -> Result<Plan, Fail>
     }
 }
 
-/// What a reception has left after.
+/// How a reception ended, and what it left.
 #[derive(Drop)]
 struct Ended {
     end: ReceiveEnd,
-    output: MemSink,
-    rack: MemRack,
+    outside: Outside,
 }
 
-/// Receives under a plan, 100 bytes a read, with room for so many bytes in each file.
-fn received(alloc: Global, plan: &Plan, bytes: &[u8], fails: [&[u32]; 3]) -> Result<Ended, Fail>
+/// Receives under a plan.
+fn received(alloc: Global, plan: &Plan, given: &Given<'_>) -> Result<Ended, Fail>
     requires { are_built (plan_fields plan.now) ≡ true }
 {
-    let mut input = MemSource::new(alloc, bytes, 100, fails[0])?;
-    let mut output = MemSink::new(alloc, 2000, fails[1])?;
-    let mut rack = MemRack::new(alloc, 2, 1000, fails[2])?;
-    let end = receive(alloc, plan, &mut input, &mut output, &mut rack);
-    Ok(Ended { end, output, rack })
-}
-
-#[test]
-fn an_empty_recording_gives_a_head_and_nineteen_lines(rt: HostRuntime) -> Result<(), Fail> {
-    let plan = ule_plan(rt.alloc(), 256)?;
-    let ended = received(rt.alloc(), &plan, &[], [&[], &[], &[]])?;
-    assert_eq!(rt; ended.end, ReceiveEnd::Done);
-    assert_eq!(rt; ended.output.bytes(), EMPTY);
-    assert_eq!(rt; ended.output.flushed(), EMPTY.len());
-    assert_eq!(rt; ended.rack.files(), 1);
-    if ended.rack.files() == 1 {
-        assert_eq!(rt; ended.rack.name(0), "ule.pcap");
-        assert_eq!(rt; ended.rack.file(0), &FILE[..24]);
-        assert_eq!(rt; ended.rack.flushed(0), 24);
-    }
-    Ok(())
-}
-
-#[test]
-fn two_services_are_received_and_reported(rt: HostRuntime) -> Result<(), Fail> {
-    let plan = plan_of(rt.alloc())?;
-    let bytes = recording(rt.alloc(), &INT, 187)?;
-    let ended = received(rt.alloc(), &plan, &bytes, [&[], &[], &[]])?;
-    assert_eq!(rt; ended.end, ReceiveEnd::Done);
-    assert_eq!(rt; ended.output.bytes(), WHOLE);
-    assert_eq!(rt; ended.rack.files(), 2);
-    if ended.rack.files() == 2 {
-        assert_eq!(rt; ended.rack.name(0), "one.pcap");
-        assert_eq!(rt; ended.rack.name(1), "two.pcap");
-        for at in 0..2 {
-            assert_eq!(rt; ended.rack.file(at), FILE.as_slice());
-            assert_eq!(rt; ended.rack.flushed(at), 60);
-        }
-    }
-    let bytes = recording(rt.alloc(), &WRONG_HASH, 0)?;
-    let ended = received(rt.alloc(), &plan, &bytes, [&[], &[], &[]])?;
-    assert_eq!(rt; ended.end, ReceiveEnd::Done);
-    assert!(rt;
-        ended
-            .output
-            .bytes()
-            .ends_with(b"table,units,1\ntable,refused,5\n")
+    let mut outside = Outside::new(alloc, given)?;
+    let end = receive(
+        alloc,
+        plan,
+        &mut outside.input,
+        &mut outside.output,
+        &mut outside.rack,
     );
-    Ok(())
+    Ok(Ended { end, outside })
+}
+
+/// What a reception leaves of a case differs so; an empty text where it does not.
+fn difference(alloc: Global, ended: &Ended, case: &Case<'_>) -> Result<&'static str, Fail> {
+    let capture = small_capture(alloc, 1)?;
+    let mut files = Vec::new(alloc);
+    for (at, held) in case.files.iter().enumerate() {
+        files.push(FileLeft {
+            name: if at == 0 { "one.pcap" } else { "two.pcap" },
+            bytes: capture.get(..held.bytes).ok_or("no such front")?,
+            flushed: held.flushed,
+        })?;
+    }
+    let report = match &case.report {
+        Some(report) => report_of(alloc, report)?,
+        None => String::new(alloc),
+    };
+    let left = Left {
+        output: report.as_bytes(),
+        flushed: if case.end == ReceiveEnd::Done {
+            report.len()
+        } else {
+            0
+        },
+        line: "",
+        files: &files,
+    };
+    if ended.end != case.end {
+        return Ok("the end");
+    }
+    Ok(ended.outside.difference(&left))
 }
 
 #[test]
-fn each_failing_call_ends_the_reception(rt: HostRuntime) -> Result<(), Fail> {
+fn recordings_are_received_and_each_failing_call_ends_it(rt: HostRuntime) -> Result<(), Fail> {
     let plan = plan_of(rt.alloc())?;
-    let bytes = recording(rt.alloc(), &INT, 0)?;
-    // each file is added, has its head, the head of its record, the datagram, and is flushed
-    for call in 0..10u32 {
-        let ended = received(rt.alloc(), &plan, &bytes, [&[], &[], &[call]])?;
-        assert_eq!(rt; ended.end, ReceiveEnd::RackFault, "at {call}");
-        assert_eq!(rt; ended.output.bytes().len(), 0);
-    }
-    let ended = received(rt.alloc(), &plan, &bytes, [&[], &[], &[10]])?;
-    assert_eq!(rt; ended.end, ReceiveEnd::Done);
-    // the report is written at once, and flushed
-    for call in 0..2u32 {
-        let ended = received(rt.alloc(), &plan, &bytes, [&[], &[call], &[]])?;
-        assert_eq!(rt; ended.end, ReceiveEnd::SinkFault, "at {call}");
-        assert_eq!(rt; ended.rack.files(), 2);
-        if ended.rack.files() == 2 {
-            assert_eq!(rt; ended.rack.file(1), FILE.as_slice());
-            assert_eq!(rt; ended.rack.flushed(1), 60);
-        }
-    }
-    // two reads a record; after the second record both datagrams are written
-    for (call, lengths) in [
-        (0, [24, 24]),
-        (1, [24, 24]),
-        (2, [60, 24]),
-        (4, [60, 60]),
-        (12, [60, 60]),
-    ] {
-        let ended = received(rt.alloc(), &plan, &bytes, [&[call], &[], &[]])?;
-        assert_eq!(rt; ended.end, ReceiveEnd::SourceFault, "at {call}");
-        assert_eq!(rt; ended.output.bytes().len(), 0);
-        assert_eq!(rt; ended.rack.files(), 2);
-        if ended.rack.files() == 2 {
-            assert_eq!(rt; ended.rack.file(0).len(), lengths[0], "at {call}");
-            assert_eq!(rt; ended.rack.file(1).len(), lengths[1], "at {call}");
-        }
+    for case in &CASES {
+        let input = recording_of_two(rt.alloc(), case.section, case.tail)?;
+        let given = Given {
+            fails: case.fails,
+            ..faultless(&[], &[], &input)
+        };
+        let ended = received(rt.alloc(), &plan, &given)?;
+        assert_eq!(rt; difference(rt.alloc(), &ended, case)?, "", "{}", case.name);
     }
     Ok(())
 }
+
+/// The report of an empty recording has a head and 18 lines.
+#[test]
+fn an_empty_recording_has_a_report(rt: HostRuntime) -> Result<(), Fail> {
+    let plan = ule_plan(rt.alloc(), 256)?;
+    let ended = received(rt.alloc(), &plan, &faultless(&[], &[], &[]))?;
+    let report = Report {
+        records: 0,
+        tail_bytes: 0,
+        unreadable: 0,
+        other: 0,
+        services: &[ServiceReport {
+            name: "ule",
+            numbers: Numbers::NONE,
+        }],
+        table: None,
+    };
+    let report = report_of(rt.alloc(), &report)?;
+    let head = small_capture(rt.alloc(), 0)?;
+    let files = [FileLeft {
+        name: "ule.pcap",
+        bytes: &head,
+        flushed: 24,
+    }];
+    let left = Left {
+        output: report.as_bytes(),
+        flushed: report.len(),
+        line: "",
+        files: &files,
+    };
+    assert_eq!(rt; ended.end, ReceiveEnd::Done);
+    assert_eq!(rt; ended.outside.difference(&left), "");
+    Ok(())
+}
+
+/// A call that fails, and what is left of the reception of PID 256.
+#[derive(Clone, Copy)]
+struct UleCase {
+    fails: Failing,
+    end: UleEnd,
+    file: Held,
+}
+
+static ULE_CASES: [UleCase; 4] = [
+    UleCase {
+        fails: Failing::Rack(9),
+        end: UleEnd::Done,
+        file: FLUSHED,
+    },
+    UleCase {
+        fails: Failing::Rack(2),
+        end: UleEnd::RackFault,
+        file: HEAD,
+    },
+    UleCase {
+        fails: Failing::Rack(4),
+        end: UleEnd::RackFault,
+        file: WHOLE,
+    },
+    UleCase {
+        fails: Failing::Input(0),
+        end: UleEnd::SourceFault,
+        file: HEAD,
+    },
+];
 
 #[test]
 fn one_pid_is_received_alone(rt: HostRuntime) -> Result<(), Fail> {
-    let alloc = rt.alloc();
-    let bytes = recording(alloc, &INT, 100)?;
-    for (rack_fails, end, length) in [
-        (9, UleEnd::Done, 60),
-        (2, UleEnd::RackFault, 24),
-        (4, UleEnd::RackFault, 60),
-    ] {
-        let mut input = MemSource::new(alloc, &bytes, 100, &[])?;
-        let mut rack = MemRack::new(alloc, 1, 1000, &[rack_fails])?;
-        assert_eq!(rt; ule(alloc, 256, &mut input, &mut rack), end);
-        assert_eq!(rt; rack.files(), 1);
-        if rack.files() == 1 {
-            assert_eq!(rt; rack.name(0), "ule.pcap");
-            assert_eq!(rt; rack.file(0), &FILE[..length]);
-        }
+    let input = recording_of_two(rt.alloc(), &INT_OF_TWO, 100)?;
+    let capture = small_capture(rt.alloc(), 1)?;
+    for case in &ULE_CASES {
+        let fails = [case.fails];
+        let given = Given {
+            fails: &fails,
+            ..faultless(&[], &[], &input)
+        };
+        let mut outside = Outside::new(rt.alloc(), &given)?;
+        let end = ule(rt.alloc(), 256, &mut outside.input, &mut outside.rack);
+        let files = [FileLeft {
+            name: "ule.pcap",
+            bytes: capture.get(..case.file.bytes).ok_or("no such front")?,
+            flushed: case.file.flushed,
+        }];
+        let left = Left {
+            output: &[],
+            flushed: 0,
+            line: "",
+            files: &files,
+        };
+        assert_eq!(rt; end, case.end);
+        assert_eq!(rt; outside.difference(&left), "");
     }
-    let mut input = MemSource::new(alloc, &bytes, 100, &[0])?;
-    let mut rack = MemRack::new(alloc, 1, 1000, &[])?;
-    assert_eq!(rt; ule(alloc, 256, &mut input, &mut rack), UleEnd::SourceFault);
     Ok(())
 }
