@@ -7,8 +7,6 @@
 mod laws;
 mod lists;
 mod offered;
-#[cfg(test)]
-mod tests;
 
 pub use laws::{each_datagram_is_for_its_service, nothing_is_left_out};
 pub use lists::Lists;

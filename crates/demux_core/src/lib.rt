@@ -4,8 +4,6 @@
 //! Begin with `can_receive` and `Receiver::open`, then `step` for each record, and `finish`.
 #![tactic(auto)]
 
-#[cfg(test)]
-mod by_hand;
 mod content;
 mod kinds;
 mod packet;
@@ -13,8 +11,6 @@ mod receiver;
 mod service;
 mod services;
 mod table;
-#[cfg(test)]
-mod tests;
 
 pub use kinds::can_receive;
 pub use receiver::Receiver;

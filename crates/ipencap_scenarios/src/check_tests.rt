@@ -1,20 +1,12 @@
 //! What no clause says of `check SETTINGS`: that a run over objects in memory ends so, with ample memory.
-use crate::runs::{Given, Left, expect, faultless};
-use ipe_io::OutOfMemory;
+use crate::runs::expect;
 use ipencap_engine::Status;
-use std::alloc::Global;
-use std::process::Abort;
 use std::test::Fail;
+use test_recordings::settings::{FILES, INT, STAMPED, settings_of};
+use test_recordings::{Failing, Given, Left, faultless, filled};
 
-/// Settings of a lecture in sliced frames and of files in SNDUs, with an INT.
-const SETTINGS: &str = "recording = \"stamped\"
-[int]
-pid = 600
-platform_id = 1
-network_id = 2
-original_network_id = 3
-transport_stream_id = 4
-[[service]]
+/// A lecture in sliced frames.
+const SLICED: &str = "[[service]]
 name = \"lecture\"
 kind = \"fec\"
 pid = 512
@@ -25,169 +17,249 @@ window_length = 1500
 service_id = 10
 component_tag = 1
 rules = [\"239.1.0.0/16\"]
-[[service]]
-name = \"files\"
-kind = \"ule\"
-pid = 513
-service_id = 10
-component_tag = 2
-rules = [\"239.2.0.0/16\"]
 ";
+
+/// What the files have beside in a plan with an INT.
+const TAGS: &str = "service_id = 10\ncomponent_tag = 2\n";
+
+/// Settings of a lecture in sliced frames and of files in SNDUs, with an INT.
+const SETTINGS: &[&str] = &[STAMPED, INT, SLICED, FILES, TAGS];
 
 /// A service, but for its kind, its PID and its rules.
 const SERVICE: &str = "[[service]]\nname = \"files\"\n";
 
+/// What is given, and how the run ends.
+#[derive(Clone, Copy)]
+struct Case<'a> {
+    name: &'a str,
+    settings: &'a [&'a str],
+    /// The name of the file on the shelf.
+    shelved: &'a str,
+    room: usize,
+    fails: &'a [Failing],
+    status: Status,
+    output: &'a str,
+    flushed: usize,
+    line: &'a str,
+}
+
+/// A fault of the input changes nothing: it is not read.
+const LISTED: Case = Case {
+    name: "settings are listed",
+    settings: SETTINGS,
+    shelved: "a.toml",
+    room: 40,
+    fails: &[Failing::Input(0)],
+    status: Status::Done,
+    output: "lecture fec 512\nfiles ule 513\n",
+    flushed: 30,
+    line: "",
+};
+
+const SHELF: Case = Case {
+    name: "the shelf fails",
+    status: Status::ShelfFault,
+    output: "",
+    flushed: 0,
+    line: "ipencap: fault of the settings file\n",
+    ..LISTED
+};
+
+const OUTPUT: Case = Case {
+    name: "the output fails",
+    status: Status::SinkFault,
+    flushed: 0,
+    line: "ipencap: fault of the output\n",
+    ..LISTED
+};
+
+const REFUSED: Case = Case {
+    name: "refused settings",
+    fails: &[],
+    status: Status::Settings,
+    output: "",
+    flushed: 0,
+    line: "ipencap: settings 1\n",
+    ..LISTED
+};
+
 /// The output's calls are 6 writes for each service and a flush.
+static CASES: [Case; 25] = [
+    LISTED,
+    Case {
+        name: "the output has room for the lines and no more",
+        room: 30,
+        ..LISTED
+    },
+    Case {
+        shelved: "b.toml",
+        ..SHELF
+    },
+    Case {
+        fails: &[Failing::Input(0), Failing::Shelf(0)],
+        ..SHELF
+    },
+    Case {
+        fails: &[Failing::Input(0), Failing::Output(0)],
+        output: "",
+        ..OUTPUT
+    },
+    Case {
+        fails: &[Failing::Input(0), Failing::Output(7)],
+        output: "lecture fec 512\nfiles",
+        ..OUTPUT
+    },
+    Case {
+        room: 10,
+        output: "lecture fe",
+        ..OUTPUT
+    },
+    Case {
+        fails: &[Failing::Input(0), Failing::Output(12)],
+        ..OUTPUT
+    },
+    Case {
+        settings: &["x"],
+        ..REFUSED
+    },
+    Case {
+        settings: &["cycle = 100\ncycle = 100\n"],
+        ..REFUSED
+    },
+    Case {
+        settings: &[""],
+        line: "ipencap: settings 2 service\n",
+        ..REFUSED
+    },
+    Case {
+        settings: &["speed = 1\n"],
+        line: "ipencap: settings 13\n",
+        ..REFUSED
+    },
+    Case {
+        settings: &["cycle = 1.5\n"],
+        line: "ipencap: settings 3 cycle\n",
+        ..REFUSED
+    },
+    Case {
+        settings: &["cycle = -1\n"],
+        line: "ipencap: settings 4 cycle\n",
+        ..REFUSED
+    },
+    Case {
+        settings: &["packet_rate = 2026-01-01\n"],
+        line: "ipencap: settings 3 packet_rate\n",
+        ..REFUSED
+    },
+    Case {
+        settings: &[SERVICE, "kind = \"ule\"\npid = \"512\"\n"],
+        line: "ipencap: settings 3 pid\n",
+        ..REFUSED
+    },
+    Case {
+        settings: &[SERVICE, "kind = \"ule\"\npid = 31\n"],
+        line: "ipencap: settings 4 pid\n",
+        ..REFUSED
+    },
+    Case {
+        settings: &[SERVICE, "kind = \"ule\"\n"],
+        line: "ipencap: settings 2 pid\n",
+        ..REFUSED
+    },
+    Case {
+        settings: &[SERVICE, "kind = \"mpeg\"\n"],
+        line: "ipencap: settings 4 kind\n",
+        ..REFUSED
+    },
+    Case {
+        settings: &[SERVICE, "speed = 1\n"],
+        line: "ipencap: settings 2 kind\n",
+        ..REFUSED
+    },
+    Case {
+        settings: &[SERVICE, "kind = \"ule\"\nspeed = 1\n"],
+        line: "ipencap: settings 13\n",
+        ..REFUSED
+    },
+    Case {
+        settings: &[SERVICE, "kind = \"ule\"\npid = 513\n"],
+        line: "ipencap: settings 2 rules\n",
+        ..REFUSED
+    },
+    Case {
+        settings: &[
+            SERVICE,
+            "kind = \"ule\"\npid = 513\nrules = [\"239.2.0.1/16\"]\n",
+        ],
+        line: "ipencap: settings 7\n",
+        ..REFUSED
+    },
+    Case {
+        settings: &[
+            STAMPED,
+            INT,
+            SLICED,
+            FILES,
+            TAGS,
+            SERVICE,
+            "kind = \"ule\"\npid = 600\nrules = [\"10.0.0.0/8\"]\n",
+        ],
+        line: "ipencap: settings 6\n",
+        ..REFUSED
+    },
+    Case {
+        settings: &[
+            STAMPED,
+            INT,
+            SLICED,
+            FILES,
+            TAGS,
+            "[[service]]\nname = \"more\"\nkind = \"ule\"\npid = 600\nrules = [\"10.0.0.0/8\"]\n",
+        ],
+        line: "ipencap: settings 5\n",
+        ..REFUSED
+    },
+];
+
 #[test]
-fn settings_are_listed_or_a_fault_ends_it(rt: HostRuntime) -> Result<(), Fail> {
-    let none = "ipencap: fault of the settings file\n";
-    let output = "ipencap: fault of the output\n";
-    let cases: [(&str, &[u32], usize, &[u32], Status, &str, usize, &str); 8] = [
-        (
-            "a.toml",
-            &[],
-            40,
-            &[],
-            Status::Done,
-            "lecture fec 512\nfiles ule 513\n",
-            30,
-            "",
-        ),
-        (
-            "a.toml",
-            &[],
-            30,
-            &[],
-            Status::Done,
-            "lecture fec 512\nfiles ule 513\n",
-            30,
-            "",
-        ),
-        ("b.toml", &[], 40, &[], Status::ShelfFault, "", 0, none),
-        ("a.toml", &[0], 40, &[], Status::ShelfFault, "", 0, none),
-        ("a.toml", &[], 40, &[0], Status::SinkFault, "", 0, output),
-        (
-            "a.toml",
-            &[],
-            40,
-            &[7],
-            Status::SinkFault,
-            "lecture fec 512\nfiles",
-            0,
-            output,
-        ),
-        (
-            "a.toml",
-            &[],
-            10,
-            &[],
-            Status::SinkFault,
-            "lecture fe",
-            0,
-            output,
-        ),
-        (
-            "a.toml",
-            &[],
-            40,
-            &[12],
-            Status::SinkFault,
-            "lecture fec 512\nfiles ule 513\n",
-            0,
-            output,
-        ),
-    ];
-    for (name, shelf_fails, room, output_fails, status, text, flushed, line) in cases {
+fn settings_are_listed_or_have_the_line_of_their_fault(rt: HostRuntime) -> Result<(), Fail> {
+    for case in &CASES {
+        let settings = settings_of(rt.alloc(), case.settings)?;
         let given = Given {
-            name,
-            room,
-            shelf_fails,
-            input_fails: &[0],
-            output_fails,
-            ..faultless(&["check", "a.toml"], SETTINGS.as_bytes(), &[])
+            name: case.shelved,
+            room: case.room,
+            fails: case.fails,
+            ..faultless(&["check", "a.toml"], settings.as_bytes(), &[])
         };
         let left = Left {
-            status,
-            output: text.as_bytes(),
-            flushed,
-            line,
+            output: case.output.as_bytes(),
+            flushed: case.flushed,
+            line: case.line,
             files: &[],
         };
-        expect(&rt, rt.alloc(), text, &given, &left)?;
+        expect(&rt, rt.alloc(), case.name, &given, case.status, &left)?;
     }
     Ok(())
 }
 
-/// `check a.toml` refuses these settings with this line.
-fn refuses(rt: &impl Abort, alloc: Global, settings: &[u8], line: &str) -> Result<(), Fail> {
-    let left = Left {
-        status: Status::Settings,
-        output: &[],
-        flushed: 0,
-        line,
-        files: &[],
-    };
-    expect(
-        rt,
-        alloc,
-        line,
-        &faultless(&["check", "a.toml"], settings, &[]),
-        &left,
-    )
-}
-
+/// Bytes that are no text, the longest file, and one byte more.
 #[test]
-fn refused_settings_have_their_lines(rt: HostRuntime) -> Result<(), Fail> {
-    let cases: [(&str, &str, &str); 17] = [
-        ("x", "", "1"),
-        ("cycle = 100\ncycle = 100\n", "", "1"),
-        ("", "", "2 service"),
-        ("speed = 1\n", "", "13"),
-        ("cycle = 1.5\n", "", "3 cycle"),
-        ("cycle = -1\n", "", "4 cycle"),
-        ("packet_rate = 2026-01-01\n", "", "3 packet_rate"),
-        (SERVICE, "kind = \"ule\"\npid = \"512\"\n", "3 pid"),
-        (SERVICE, "kind = \"ule\"\npid = 31\n", "4 pid"),
-        (SERVICE, "kind = \"ule\"\n", "2 pid"),
-        (SERVICE, "kind = \"mpeg\"\n", "4 kind"),
-        (SERVICE, "speed = 1\n", "2 kind"),
-        (SERVICE, "kind = \"ule\"\nspeed = 1\n", "13"),
-        (SERVICE, "kind = \"ule\"\npid = 513\n", "2 rules"),
-        (
-            SERVICE,
-            "kind = \"ule\"\npid = 513\nrules = [\"239.2.0.1/16\"]\n",
-            "7",
-        ),
-        (
-            SETTINGS,
-            "[[service]]\nname = \"files\"\nkind = \"ule\"\npid = 600\nrules = [\"10.0.0.0/8\"]\n",
-            "6",
-        ),
-        (
-            SETTINGS,
-            "[[service]]\nname = \"more\"\nkind = \"ule\"\npid = 600\nrules = [\"10.0.0.0/8\"]\n",
-            "5",
-        ),
-    ];
-    for (front, rest, want) in cases {
-        let alloc = rt.alloc();
-        let mut text = Vec::from_slice(alloc, front.as_bytes())?;
-        text.extend_from_slice(rest.as_bytes())?;
-        let line = format!(in alloc; "ipencap: settings {want}\n")?;
-        refuses(&rt, alloc, &text, &line)?;
+fn a_file_is_a_text_of_1048576_bytes_at_most(rt: HostRuntime) -> Result<(), Fail> {
+    for (byte, count, line) in [
+        (0xFFu8, 1usize, "ipencap: settings 1\n"),
+        (0x20, 1_048_576, "ipencap: settings 2 service\n"),
+        (0x20, 1_048_577, "ipencap: settings too long\n"),
+    ] {
+        let settings = filled(rt.alloc(), byte, count)?;
+        let given = faultless(&["check", "a.toml"], &settings, &[]);
+        expect(
+            &rt,
+            rt.alloc(),
+            line,
+            &given,
+            Status::Settings,
+            &Left::line(line),
+        )?;
     }
-    refuses(&rt, rt.alloc(), &[0xFF], "ipencap: settings 1\n")
-}
-
-/// So many spaces.
-fn spaces(alloc: Global, count: usize) -> Result<Vec<u8>, OutOfMemory> {
-    vec![in alloc; 0x20u8; count]
-}
-
-#[test]
-fn a_file_has_1048576_bytes_at_most(rt: HostRuntime) -> Result<(), Fail> {
-    let mut spaces = spaces(rt.alloc(), 1_048_576)?;
-    refuses(&rt, rt.alloc(), &spaces, "ipencap: settings 2 service\n")?;
-    spaces.push(0x20)?;
-    refuses(&rt, rt.alloc(), &spaces, "ipencap: settings too long\n")
+    Ok(())
 }

@@ -1,7 +1,7 @@
 //! The program's public call over objects in memory: what is given -> [ipencap_engine] -> what is left.
 //!
-//! Tests alone. Begin with `runs`, which has the one call of `run`. `by_hand` and `small` build recordings and captures without the
-//! program's code, `pair` what is sent, damaged on its way and received.
+//! Tests alone. Begin with `runs`, which has the one call of `run`. `test_recordings` builds recordings and captures without the
+//! program's code; `by_hand` has SNDUs and packets, `pair` what is sent, damaged on its way and received.
 //! `packing_tests` looks at packets that are sent: SNDUs -> [unit_stream] -> packets.
 #![tactic(auto)]
 
@@ -10,11 +10,13 @@ mod by_hand;
 #[cfg(test)]
 mod check_tests;
 #[cfg(test)]
-mod damage_tests;
+mod damage_cases;
 #[cfg(test)]
 mod fault_tests;
 #[cfg(test)]
-mod header_tests;
+mod gap_cases;
+#[cfg(test)]
+mod header_cases;
 #[cfg(test)]
 mod losses;
 #[cfg(test)]
@@ -29,9 +31,5 @@ mod receive_tests;
 mod runs;
 #[cfg(test)]
 mod send_tests;
-#[cfg(test)]
-mod small;
-#[cfg(test)]
-mod tests;
 #[cfg(test)]
 mod ule_tests;

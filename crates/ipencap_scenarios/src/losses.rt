@@ -16,45 +16,101 @@
 //! | 8 | files, counter 3 | its last 184 bytes |
 //! | 9, 11, .. 27 | files, counters 4, 6, .. | 183 bytes of SNDU 4, 5, .. 13 |
 //! | 10, 12, .. 28 | files, counters 5, 7, .. | its last 184 bytes |
-use crate::pair::Harm::{self, Comes, Cut, Flipped};
 use crate::pair::{ALL_FILES, ALL_LECTURE};
+use test_recordings::Harm::{self, Cut, Drop, Flip, Repeat};
+use test_recordings::settings::STAMPED as STAMPED_LINE;
 
 /// The form of a recording: its line in the settings, and how many bytes a record has.
-pub type Form = (&'static str, usize);
+#[derive(Clone, Copy)]
+pub struct Form {
+    pub line: &'static str,
+    pub size: usize,
+}
 
-pub const PLAIN: Form = ("", 188);
+const PLAIN: Form = Form {
+    line: "",
+    size: 188,
+};
 
 /// 8 bytes of time before each packet.
-pub const STAMPED: Form = ("recording = \"stamped\"\n", 196);
+const STAMPED: Form = Form {
+    line: STAMPED_LINE,
+    size: 196,
+};
 
 /// 4 bytes of time before each packet.
-pub const M2TS: Form = ("recording = \"m2ts\"\n", 192);
+const M2TS: Form = Form {
+    line: "recording = \"m2ts\"\n",
+    size: 192,
+};
 
-/// Of a service: received packets, duplicates, gaps; units, units whose check fails, units lost to a delimiting error, units
-/// that are not wanted.
-pub type Numbers = [u64; 7];
+/// What a recording gives of a service: the numbers of the datagrams, and what the report says.
+#[derive(Clone, Copy)]
+pub struct Delivered<'a> {
+    pub datagrams: &'a [u8],
+    pub heard: u64,
+    pub repeats: u64,
+    pub gaps: u64,
+    pub units: u64,
+    pub bad_check: u64,
+    pub delimited: u64,
+    pub filtered: u64,
+}
 
-/// What a recording gives of a service: the numbers of the datagrams, and those of the report.
-pub type Delivered = (&'static [u8], Numbers);
-
-/// A loss: what it is; the recording; what happens; of the whole: records, bytes left over, records that can't be read, sections of
-/// the INT; the lecture, the files.
-pub type Loss = (
-    &'static str,
-    Form,
-    &'static [Harm],
-    [u64; 4],
-    Delivered,
-    Delivered,
-);
-
-/// The services without a loss.
-pub const WHOLE_LECTURE: Delivered = (&ALL_LECTURE, [4, 0, 0, 3, 0, 0, 0]);
-
-pub const WHOLE_FILES: Delivered = (&ALL_FILES, [24, 0, 0, 14, 0, 0, 0]);
+/// What happens to a recording, and what is received of it.
+#[derive(Clone, Copy)]
+pub struct Loss<'a> {
+    pub name: &'a str,
+    pub form: Form,
+    pub harms: &'a [Harm],
+    pub records: u64,
+    pub tail_bytes: u64,
+    pub unreadable: u64,
+    /// Sections of the INT.
+    pub tables: u64,
+    pub lecture: Delivered<'a>,
+    pub files: Delivered<'a>,
+}
 
 /// A service of which nothing comes.
-const NOTHING: Delivered = (&[], [0; 7]);
+pub const NOTHING: Delivered = Delivered {
+    datagrams: &[],
+    heard: 0,
+    repeats: 0,
+    gaps: 0,
+    units: 0,
+    bad_check: 0,
+    delimited: 0,
+    filtered: 0,
+};
+
+/// The services without a loss.
+pub const WHOLE_LECTURE: Delivered = Delivered {
+    datagrams: &ALL_LECTURE,
+    heard: 4,
+    units: 3,
+    ..NOTHING
+};
+
+pub const WHOLE_FILES: Delivered = Delivered {
+    datagrams: &ALL_FILES,
+    heard: 24,
+    units: 14,
+    ..NOTHING
+};
+
+/// All arrives.
+pub const NO_LOSS: Loss = Loss {
+    name: "nothing",
+    form: PLAIN,
+    harms: &[],
+    records: 29,
+    tail_bytes: 0,
+    unreadable: 0,
+    tables: 1,
+    lecture: WHOLE_LECTURE,
+    files: WHOLE_FILES,
+};
 
 const NO_FILE_0: [u8; 13] = [1, 2, 3, 4, 5, 6, 7, 8, 9, 10, 11, 12, 13];
 
@@ -72,242 +128,439 @@ const NO_FILES_2_3: [u8; 12] = [0, 1, 4, 5, 6, 7, 8, 9, 10, 11, 12, 13];
 
 const NO_FILES_1_2_4: [u8; 11] = [0, 3, 5, 6, 7, 8, 9, 10, 11, 12, 13];
 
-pub const LOSSES: [Loss; 27] = [
-    (
-        "nothing",
-        PLAIN,
-        &[],
-        [29, 0, 0, 1],
-        WHOLE_LECTURE,
-        WHOLE_FILES,
-    ),
-    (
-        "nothing, stamped",
-        STAMPED,
-        &[],
-        [29, 0, 0, 1],
-        WHOLE_LECTURE,
-        WHOLE_FILES,
-    ),
-    (
-        "nothing, m2ts",
-        M2TS,
-        &[],
-        [29, 0, 0, 1],
-        WHOLE_LECTURE,
-        WHOLE_FILES,
-    ),
+pub static LOSSES: [Loss; 27] = [
+    Loss {
+        name: "nothing",
+        ..NO_LOSS
+    },
+    Loss {
+        name: "nothing, stamped",
+        form: STAMPED,
+        ..NO_LOSS
+    },
+    Loss {
+        name: "nothing, m2ts",
+        form: M2TS,
+        ..NO_LOSS
+    },
     // no packet of the service comes before the gap
-    (
-        "the first packet of the files",
-        PLAIN,
-        &[Comes(2, 3, 0)],
-        [28, 0, 0, 1],
-        WHOLE_LECTURE,
-        (&NO_FILE_0, [23, 0, 0, 13, 0, 0, 0]),
-    ),
+    Loss {
+        name: "the first packet of the files",
+        harms: &[Drop { first: 2, last: 2 }],
+        records: 28,
+        files: Delivered {
+            datagrams: &NO_FILE_0,
+            heard: 23,
+            units: 13,
+            ..NOTHING
+        },
+        ..NO_LOSS
+    },
     // SNDU 1 and the start of SNDU 2: neither was under way
-    (
-        "a packet behind a whole unit",
-        PLAIN,
-        &[Comes(4, 5, 0)],
-        [28, 0, 0, 1],
-        WHOLE_LECTURE,
-        (&NO_FILES_1_2, [23, 0, 1, 12, 0, 0, 0]),
-    ),
+    Loss {
+        name: "a packet behind a whole unit",
+        harms: &[Drop { first: 4, last: 4 }],
+        records: 28,
+        files: Delivered {
+            datagrams: &NO_FILES_1_2,
+            heard: 23,
+            gaps: 1,
+            units: 12,
+            ..NOTHING
+        },
+        ..NO_LOSS
+    },
     // SNDU 2 is under way, and the start of SNDU 3 is lost
-    (
-        "a packet in which one unit ends and another begins",
-        M2TS,
-        &[Comes(6, 7, 0)],
-        [28, 0, 0, 1],
-        WHOLE_LECTURE,
-        (&NO_FILES_2_3, [23, 0, 1, 12, 0, 1, 0]),
-    ),
-    (
-        "the end of a unit",
-        STAMPED,
-        &[Comes(8, 9, 0)],
-        [28, 0, 0, 1],
-        WHOLE_LECTURE,
-        (&NO_FILE_3, [23, 0, 1, 13, 0, 1, 0]),
-    ),
-    (
-        "packets of both services",
-        PLAIN,
-        &[Comes(3, 5, 0), Comes(9, 10, 0)],
-        [26, 0, 0, 1],
-        (&[0, 2], [3, 0, 1, 2, 0, 1, 0]),
-        (&NO_FILES_1_2_4, [22, 0, 2, 11, 0, 0, 0]),
-    ),
-    (
-        "packets come twice, three times and four times",
-        PLAIN,
-        &[Comes(1, 2, 2), Comes(4, 5, 3), Comes(6, 7, 4)],
-        [35, 0, 0, 1],
-        (&ALL_LECTURE, [4, 1, 0, 3, 0, 0, 0]),
-        (&ALL_FILES, [24, 5, 0, 14, 0, 0, 0]),
-    ),
-    (
-        "packets come twice, m2ts",
-        M2TS,
-        &[Comes(0, 29, 2)],
-        [58, 0, 0, 1],
-        (&ALL_LECTURE, [4, 4, 0, 3, 0, 0, 0]),
-        (&ALL_FILES, [24, 24, 0, 14, 0, 0, 0]),
-    ),
-    (
-        "a bit of a section, and one of an SNDU",
-        PLAIN,
-        &[Flipped(3, 4, 50, 1), Flipped(10, 11, 100, 0x80)],
-        [29, 0, 0, 1],
-        (&[0, 2], [4, 0, 0, 2, 1, 0, 0]),
-        (&NO_FILE_4, [24, 0, 0, 13, 1, 0, 0]),
-    ),
+    Loss {
+        name: "a packet in which one unit ends and another begins",
+        form: M2TS,
+        harms: &[Drop { first: 6, last: 6 }],
+        records: 28,
+        files: Delivered {
+            datagrams: &NO_FILES_2_3,
+            heard: 23,
+            gaps: 1,
+            units: 12,
+            delimited: 1,
+            ..NOTHING
+        },
+        ..NO_LOSS
+    },
+    Loss {
+        name: "the end of a unit",
+        form: STAMPED,
+        harms: &[Drop { first: 8, last: 8 }],
+        records: 28,
+        files: Delivered {
+            datagrams: &NO_FILE_3,
+            heard: 23,
+            gaps: 1,
+            units: 13,
+            delimited: 1,
+            ..NOTHING
+        },
+        ..NO_LOSS
+    },
+    Loss {
+        name: "packets of both services",
+        harms: &[Drop { first: 3, last: 4 }, Drop { first: 9, last: 9 }],
+        records: 26,
+        lecture: Delivered {
+            datagrams: &[0, 2],
+            heard: 3,
+            gaps: 1,
+            units: 2,
+            delimited: 1,
+            ..NOTHING
+        },
+        files: Delivered {
+            datagrams: &NO_FILES_1_2_4,
+            heard: 22,
+            gaps: 2,
+            units: 11,
+            ..NOTHING
+        },
+        ..NO_LOSS
+    },
+    Loss {
+        name: "packets come twice, three times and four times",
+        harms: &[
+            Repeat {
+                first: 1,
+                last: 1,
+                times: 2,
+            },
+            Repeat {
+                first: 4,
+                last: 4,
+                times: 3,
+            },
+            Repeat {
+                first: 6,
+                last: 6,
+                times: 4,
+            },
+        ],
+        records: 35,
+        lecture: Delivered {
+            datagrams: &ALL_LECTURE,
+            heard: 4,
+            repeats: 1,
+            units: 3,
+            ..NOTHING
+        },
+        files: Delivered {
+            datagrams: &ALL_FILES,
+            heard: 24,
+            repeats: 5,
+            units: 14,
+            ..NOTHING
+        },
+        ..NO_LOSS
+    },
+    Loss {
+        name: "packets come twice, m2ts",
+        form: M2TS,
+        harms: &[Repeat {
+            first: 0,
+            last: 28,
+            times: 2,
+        }],
+        records: 58,
+        lecture: Delivered {
+            datagrams: &ALL_LECTURE,
+            heard: 4,
+            repeats: 4,
+            units: 3,
+            ..NOTHING
+        },
+        files: Delivered {
+            datagrams: &ALL_FILES,
+            heard: 24,
+            repeats: 24,
+            units: 14,
+            ..NOTHING
+        },
+        ..NO_LOSS
+    },
+    Loss {
+        name: "a bit of a section, and one of an SNDU",
+        harms: &[
+            Flip {
+                record: 3,
+                place: 50,
+                bits: 1,
+            },
+            Flip {
+                record: 10,
+                place: 100,
+                bits: 0x80,
+            },
+        ],
+        lecture: Delivered {
+            datagrams: &[0, 2],
+            heard: 4,
+            units: 2,
+            bad_check: 1,
+            ..NOTHING
+        },
+        files: Delivered {
+            datagrams: &NO_FILE_4,
+            heard: 24,
+            units: 13,
+            bad_check: 1,
+            ..NOTHING
+        },
+        ..NO_LOSS
+    },
     // bytes 5 and 6 are Length of SNDU 1, 111 for 110: it takes a byte of SNDU 2, which then begins with 0x6E 0x08: 28,168 bytes
-    (
-        "a bit of a Length",
-        PLAIN,
-        &[Flipped(4, 5, 6, 1)],
-        [29, 0, 0, 1],
-        WHOLE_LECTURE,
-        (&NO_FILES_1_2, [24, 0, 0, 12, 1, 1, 0]),
-    ),
-    (
-        "transport_error_indicator",
-        PLAIN,
-        &[Flipped(6, 7, 1, 0x80)],
-        [29, 0, 1, 1],
-        WHOLE_LECTURE,
-        (&NO_FILES_2_3, [23, 0, 1, 12, 0, 1, 0]),
-    ),
+    Loss {
+        name: "a bit of a Length",
+        harms: &[Flip {
+            record: 4,
+            place: 6,
+            bits: 1,
+        }],
+        files: Delivered {
+            datagrams: &NO_FILES_1_2,
+            heard: 24,
+            units: 12,
+            bad_check: 1,
+            delimited: 1,
+            ..NOTHING
+        },
+        ..NO_LOSS
+    },
+    Loss {
+        name: "transport_error_indicator",
+        harms: &[Flip {
+            record: 6,
+            place: 1,
+            bits: 0x80,
+        }],
+        unreadable: 1,
+        files: Delivered {
+            datagrams: &NO_FILES_2_3,
+            heard: 23,
+            gaps: 1,
+            units: 12,
+            delimited: 1,
+            ..NOTHING
+        },
+        ..NO_LOSS
+    },
     // SNDU 2 takes the pointer for its own byte, and where SNDU 3 begins is not told
-    (
-        "payload_unit_start_indicator",
-        PLAIN,
-        &[Flipped(6, 7, 1, 0x40)],
-        [29, 0, 0, 1],
-        WHOLE_LECTURE,
-        (&NO_FILES_2_3, [24, 0, 0, 12, 1, 0, 0]),
-    ),
-    (
-        "transport_priority",
-        PLAIN,
-        &[Flipped(6, 7, 1, 0x20)],
-        [29, 0, 0, 1],
-        WHOLE_LECTURE,
-        WHOLE_FILES,
-    ),
+    Loss {
+        name: "payload_unit_start_indicator",
+        harms: &[Flip {
+            record: 6,
+            place: 1,
+            bits: 0x40,
+        }],
+        files: Delivered {
+            datagrams: &NO_FILES_2_3,
+            heard: 24,
+            units: 12,
+            bad_check: 1,
+            ..NOTHING
+        },
+        ..NO_LOSS
+    },
+    Loss {
+        name: "transport_priority",
+        harms: &[Flip {
+            record: 6,
+            place: 1,
+            bits: 0x20,
+        }],
+        ..NO_LOSS
+    },
     // a gap before it and one after it, and SNDU 2 is under way at the second
-    (
-        "continuity_counter",
-        PLAIN,
-        &[Flipped(4, 5, 3, 1)],
-        [29, 0, 0, 1],
-        WHOLE_LECTURE,
-        (&NO_FILE_2, [24, 0, 2, 13, 0, 1, 0]),
-    ),
+    Loss {
+        name: "continuity_counter",
+        harms: &[Flip {
+            record: 4,
+            place: 3,
+            bits: 1,
+        }],
+        files: Delivered {
+            datagrams: &NO_FILE_2,
+            heard: 24,
+            gaps: 2,
+            units: 13,
+            delimited: 1,
+            ..NOTHING
+        },
+        ..NO_LOSS
+    },
     // the packet of the files with counter 1 comes after the one of the lecture with counter 1: a gap, at which section 1 is under
     // way. There 0x00 0x6E 0x08 begin a section of 3,595 bytes, which the next packet ends at its pointer
-    (
-        "the PID: 512 for 513",
-        PLAIN,
-        &[Flipped(4, 5, 2, 1)],
-        [29, 0, 0, 1],
-        (&[0, 2], [5, 0, 1, 2, 0, 2, 0]),
-        (&NO_FILES_1_2, [23, 0, 1, 12, 0, 0, 0]),
-    ),
-    (
-        "the sync byte",
-        PLAIN,
-        &[Flipped(9, 10, 0, 1)],
-        [29, 0, 1, 1],
-        WHOLE_LECTURE,
-        (&NO_FILE_4, [23, 0, 1, 13, 0, 0, 0]),
-    ),
-    (
-        "the sync byte, stamped",
-        STAMPED,
-        &[Flipped(9, 10, 8, 0x20)],
-        [29, 0, 1, 1],
-        WHOLE_LECTURE,
-        (&NO_FILE_4, [23, 0, 1, 13, 0, 0, 0]),
-    ),
-    (
-        "a time of the day",
-        STAMPED,
-        &[Flipped(9, 10, 3, 1)],
-        [29, 0, 0, 1],
-        WHOLE_LECTURE,
-        WHOLE_FILES,
-    ),
+    Loss {
+        name: "the PID: 512 for 513",
+        harms: &[Flip {
+            record: 4,
+            place: 2,
+            bits: 1,
+        }],
+        lecture: Delivered {
+            datagrams: &[0, 2],
+            heard: 5,
+            gaps: 1,
+            units: 2,
+            delimited: 2,
+            ..NOTHING
+        },
+        files: Delivered {
+            datagrams: &NO_FILES_1_2,
+            heard: 23,
+            gaps: 1,
+            units: 12,
+            ..NOTHING
+        },
+        ..NO_LOSS
+    },
+    Loss {
+        name: "the sync byte",
+        harms: &[Flip {
+            record: 9,
+            place: 0,
+            bits: 1,
+        }],
+        unreadable: 1,
+        files: Delivered {
+            datagrams: &NO_FILE_4,
+            heard: 23,
+            gaps: 1,
+            units: 13,
+            ..NOTHING
+        },
+        ..NO_LOSS
+    },
+    Loss {
+        name: "the sync byte, stamped",
+        form: STAMPED,
+        harms: &[Flip {
+            record: 9,
+            place: 8,
+            bits: 0x20,
+        }],
+        unreadable: 1,
+        files: Delivered {
+            datagrams: &NO_FILE_4,
+            heard: 23,
+            gaps: 1,
+            units: 13,
+            ..NOTHING
+        },
+        ..NO_LOSS
+    },
+    Loss {
+        name: "a time of the day",
+        form: STAMPED,
+        harms: &[Flip {
+            record: 9,
+            place: 3,
+            bits: 1,
+        }],
+        ..NO_LOSS
+    },
     // Profile: 2^62 microseconds are no moment, and the record is not read
-    (
-        "a time that is none",
-        STAMPED,
-        &[Flipped(9, 10, 0, 0x40)],
-        [29, 0, 1, 1],
-        WHOLE_LECTURE,
-        (&NO_FILE_4, [23, 0, 1, 13, 0, 0, 0]),
-    ),
-    (
-        "the end of the recording",
-        M2TS,
-        &[Cut(28, 29, 100)],
-        [28, 100, 0, 1],
-        WHOLE_LECTURE,
-        (&NO_FILE_13, [23, 0, 0, 13, 0, 0, 0]),
-    ),
-    (
-        "all packets of the lecture",
-        PLAIN,
-        &[
-            Comes(1, 2, 0),
-            Comes(3, 4, 0),
-            Comes(5, 6, 0),
-            Comes(7, 8, 0),
+    Loss {
+        name: "a time that is none",
+        form: STAMPED,
+        harms: &[Flip {
+            record: 9,
+            place: 0,
+            bits: 0x40,
+        }],
+        unreadable: 1,
+        files: Delivered {
+            datagrams: &NO_FILE_4,
+            heard: 23,
+            gaps: 1,
+            units: 13,
+            ..NOTHING
+        },
+        ..NO_LOSS
+    },
+    Loss {
+        name: "the end of the recording",
+        form: M2TS,
+        harms: &[Cut {
+            record: 28,
+            place: 100,
+        }],
+        records: 28,
+        tail_bytes: 100,
+        files: Delivered {
+            datagrams: &NO_FILE_13,
+            heard: 23,
+            units: 13,
+            ..NOTHING
+        },
+        ..NO_LOSS
+    },
+    Loss {
+        name: "all packets of the lecture",
+        harms: &[
+            Drop { first: 1, last: 1 },
+            Drop { first: 3, last: 3 },
+            Drop { first: 5, last: 5 },
+            Drop { first: 7, last: 7 },
         ],
-        [25, 0, 0, 1],
-        NOTHING,
-        WHOLE_FILES,
-    ),
-    (
-        "all packets of the files",
-        STAMPED,
-        &[
-            Comes(2, 3, 0),
-            Comes(4, 5, 0),
-            Comes(6, 7, 0),
-            Comes(8, 29, 0),
+        records: 25,
+        lecture: NOTHING,
+        ..NO_LOSS
+    },
+    Loss {
+        name: "all packets of the files",
+        form: STAMPED,
+        harms: &[
+            Drop { first: 2, last: 2 },
+            Drop { first: 4, last: 4 },
+            Drop { first: 6, last: 6 },
+            Drop { first: 8, last: 28 },
         ],
-        [5, 0, 0, 1],
-        WHOLE_LECTURE,
-        NOTHING,
-    ),
-    (
-        "the INT",
-        PLAIN,
-        &[Comes(0, 1, 0)],
-        [28, 0, 0, 0],
-        WHOLE_LECTURE,
-        WHOLE_FILES,
-    ),
+        records: 5,
+        files: NOTHING,
+        ..NO_LOSS
+    },
+    Loss {
+        name: "the INT",
+        harms: &[Drop { first: 0, last: 0 }],
+        records: 28,
+        tables: 0,
+        ..NO_LOSS
+    },
     // SNDUs 4 to 11: the counter goes on as if nothing was lost
-    (
-        "16 packets, from the start of a unit on",
-        PLAIN,
-        &[Comes(9, 25, 0)],
-        [13, 0, 0, 1],
-        WHOLE_LECTURE,
-        (&[0, 1, 2, 3, 12, 13], [8, 0, 0, 6, 0, 0, 0]),
-    ),
+    Loss {
+        name: "16 packets, from the start of a unit on",
+        harms: &[Drop { first: 9, last: 24 }],
+        records: 13,
+        files: Delivered {
+            datagrams: &[0, 1, 2, 3, 12, 13],
+            heard: 8,
+            units: 6,
+            ..NOTHING
+        },
+        ..NO_LOSS
+    },
     // the first bytes of SNDU 4 and the last of SNDU 12 make a unit, whose check fails
-    (
-        "16 packets, from the middle of a unit on",
-        M2TS,
-        &[Comes(10, 26, 0)],
-        [13, 0, 0, 1],
-        WHOLE_LECTURE,
-        (&[0, 1, 2, 3, 13], [8, 0, 0, 5, 1, 0, 0]),
-    ),
+    Loss {
+        name: "16 packets, from the middle of a unit on",
+        form: M2TS,
+        harms: &[Drop {
+            first: 10,
+            last: 25,
+        }],
+        records: 13,
+        files: Delivered {
+            datagrams: &[0, 1, 2, 3, 13],
+            heard: 8,
+            units: 5,
+            bad_check: 1,
+            ..NOTHING
+        },
+        ..NO_LOSS
+    },
 ];

@@ -1,132 +1,215 @@
 //! The pair end to end: what is sent is received as the loss law promises, whatever happens on the way.
-use crate::losses::{Delivered, LOSSES, Loss, PLAIN, WHOLE_FILES, WHOLE_LECTURE};
-use crate::pair::{FILES, Harm, LECTURE, capture_of, damaged, sent, settings_of};
-use crate::runs::{File, Left, expect, faultless};
+use crate::losses::{Delivered, LOSSES, Loss, NO_LOSS, WHOLE_FILES, WHOLE_LECTURE};
+use crate::pair::{FILE_SIZES, LECTURE_SIZES, sent, settings_of_pair};
+use crate::runs::expect;
 use ipencap_engine::Status;
 use std::alloc::Global;
 use std::process::Abort;
 use std::test::Fail;
+use test_recordings::{
+    FileLeft, Left, Numbers, Report, ServiceReport, TableReport, damaged, faultless,
+    numbered_capture, report_of,
+};
 
-/// Appends the 13 lines of a service.
-fn put_service(into: &mut String, name: &str, delivered: Delivered) -> Result<(), Fail> {
-    let (datagrams, [heard, repeats, gaps, units, bad_check, delimited, filtered]) = delivered;
-    let lines = [
-        ("heard", heard),
-        ("repeats", repeats),
-        ("gaps", gaps),
-        ("units", units),
-        ("bad_check", bad_check),
-        ("delimited", delimited),
-        ("bad_length", 0),
-        ("unread", 0),
-        ("filtered", filtered),
-        ("frames", 0),
-        ("rows_mended", 0),
-        ("rows_left", 0),
-        ("datagrams", datagrams.len() as u64),
+/// What the report says of a service.
+fn numbers_of(delivered: &Delivered<'_>) -> Numbers {
+    Numbers {
+        heard: delivered.heard,
+        repeats: delivered.repeats,
+        gaps: delivered.gaps,
+        units: delivered.units,
+        bad_check: delivered.bad_check,
+        delimited: delivered.delimited,
+        filtered: delivered.filtered,
+        datagrams: delivered.datagrams.len() as u64,
+    }
+}
+
+/// The rules of the INT, with their component_tag.
+const RULES: [(&str, u64); 2] = [("239.1.0.0/16", 0), ("239.2.0.0/16", 1)];
+
+/// The report that a loss must give. The rules are those of the INT, so there are none where no section came.
+fn report_of_loss(alloc: Global, loss: &Loss<'_>) -> Result<String, Fail> {
+    let services = [
+        ServiceReport {
+            name: "lecture",
+            numbers: numbers_of(&loss.lecture),
+        },
+        ServiceReport {
+            name: "files",
+            numbers: numbers_of(&loss.files),
+        },
     ];
-    for (line, number) in lines {
-        write!(into, "{name},{line},{number}\n")?;
-    }
-    Ok(())
-}
-
-/// The report that a loss must give.
-fn report_of(alloc: Global, loss: &Loss) -> Result<String, Fail> {
-    let (_, _, _, numbers, lecture, files) = *loss;
-    let [records, tail, unreadable, tables] = numbers;
-    let mut report = "scope,name,value\n".to_string(alloc)?;
-    write!(
-        &mut report,
-        "stream,records,{records}\nstream,tail_bytes,{tail}\n"
-    )?;
-    write!(&mut report, "stream,unreadable,{unreadable}\n")?;
-    report.push_str("stream,without_payload,0\nstream,other,0\n")?;
-    put_service(&mut report, "lecture", lecture)?;
-    put_service(&mut report, "files", files)?;
-    write!(&mut report, "table,units,{tables}\ntable,refused,0\n")?;
-    if tables > 0 {
-        report.push_str("rule,239.1.0.0/16,0\nrule,239.2.0.0/16,1\n")?;
-    }
-    Ok(report)
-}
-
-/// The two files, flushed.
-fn both<'f>(lecture: &'f [u8], files: &'f [u8]) -> [File<'f>; 2] {
-    [
-        ("lecture.pcap", lecture, lecture.len()),
-        ("files.pcap", files, files.len()),
-    ]
+    let table = TableReport {
+        units: loss.tables,
+        refused: 0,
+        rules: if loss.tables > 0 { &RULES } else { &[] },
+    };
+    let report = Report {
+        records: loss.records,
+        tail_bytes: loss.tail_bytes,
+        unreadable: loss.unreadable,
+        other: 0,
+        services: &services,
+        table: Some(table),
+    };
+    Ok(report_of(alloc, &report)?)
 }
 
 /// Last lines of the settings: of the sender's files, the receiver's lecture, the receiver's files.
-type Lines<'a> = (&'a str, &'a str, &'a str);
+#[derive(Clone, Copy)]
+struct Lines<'a> {
+    sent: &'a str,
+    lecture: &'a str,
+    files: &'a str,
+}
+
+const NO_LINES: Lines = Lines {
+    sent: "",
+    lecture: "",
+    files: "",
+};
 
 /// Sends all datagrams, lets the loss happen, receives, and compares the captures and the report.
 fn comes_as_told(
     rt: &impl Abort,
     alloc: Global,
-    loss: &Loss,
-    lines: Lines<'_>,
+    loss: &Loss<'_>,
+    lines: &Lines<'_>,
 ) -> Result<(), Fail> {
-    let (what, (form, size), harms, _, lecture, files) = *loss;
-    let stream = sent(alloc, &settings_of(alloc, form, "", lines.0)?)?;
-    let recording = damaged(alloc, &stream, size, harms)?;
-    let settings = settings_of(alloc, form, lines.1, lines.2)?;
-    let first = capture_of(alloc, 1, &LECTURE, lecture.0)?;
-    let second = capture_of(alloc, 2, &FILES, files.0)?;
-    let report = report_of(alloc, loss)?;
+    let stream = sent(
+        alloc,
+        &settings_of_pair(alloc, loss.form.line, "", lines.sent)?,
+    )?;
+    let recording = damaged(alloc, &stream, loss.form.size, loss.harms)?;
+    let settings = settings_of_pair(alloc, loss.form.line, lines.lecture, lines.files)?;
+    let lecture = numbered_capture(alloc, 1, &LECTURE_SIZES, loss.lecture.datagrams)?;
+    let files = numbered_capture(alloc, 2, &FILE_SIZES, loss.files.datagrams)?;
+    let report = report_of_loss(alloc, loss)?;
+    let captures = [
+        FileLeft {
+            name: "lecture.pcap",
+            bytes: &lecture,
+            flushed: lecture.len(),
+        },
+        FileLeft {
+            name: "files.pcap",
+            bytes: &files,
+            flushed: files.len(),
+        },
+    ];
     let left = Left {
-        status: Status::Done,
         output: report.as_bytes(),
         flushed: report.len(),
         line: "",
-        files: &both(&first, &second),
+        files: &captures,
     };
     let given = faultless(&["receive", "a.toml"], settings.as_bytes(), &recording);
-    expect(rt, alloc, what, &given, &left)
+    expect(rt, alloc, loss.name, &given, Status::Done, &left)
 }
-
-const NO_HARM: &[Harm] = &[];
 
 /// The loss law: each service's datagrams come unchanged, in order, each at most once, and each whose unit arrived whole.
 #[test]
 fn what_arrives_whole_is_delivered(rt: HostRuntime) -> Result<(), Fail> {
     for loss in &LOSSES {
-        comes_as_told(&rt, rt.alloc(), loss, ("", "", ""))?;
+        comes_as_told(&rt, rt.alloc(), loss, &NO_LINES)?;
     }
     Ok(())
 }
+
+/// Lines of the settings, and what comes of each service.
+#[derive(Clone, Copy)]
+struct Filtered<'a> {
+    lines: Lines<'a>,
+    lecture: Delivered<'a>,
+    files: Delivered<'a>,
+}
+
+const BARE: &str = "address = false\n";
+
+const TWO_FILES: &str = "filter = [\"01:00:5E:02:00:02\", \"01:00:5E:02:00:0C\"]\n";
+
+const LECTURE_1: &str = "filter = [\"01:00:5E:01:00:01\"]\n";
+
+const NO_DATAGRAM: &str = "filter = [\"01:00:5E:00:00:02\"]\n";
+
+const ALL: Filtered = Filtered {
+    lines: NO_LINES,
+    lecture: WHOLE_LECTURE,
+    files: WHOLE_FILES,
+};
+
+static FILTERS: [Filtered; 5] = [
+    Filtered {
+        lines: Lines {
+            files: TWO_FILES,
+            ..NO_LINES
+        },
+        files: Delivered {
+            datagrams: &[2, 12],
+            filtered: 12,
+            ..WHOLE_FILES
+        },
+        ..ALL
+    },
+    Filtered {
+        lines: Lines {
+            lecture: NO_DATAGRAM,
+            files: NO_DATAGRAM,
+            ..NO_LINES
+        },
+        lecture: Delivered {
+            datagrams: &[],
+            filtered: 3,
+            ..WHOLE_LECTURE
+        },
+        files: Delivered {
+            datagrams: &[],
+            filtered: 14,
+            ..WHOLE_FILES
+        },
+    },
+    Filtered {
+        lines: Lines {
+            lecture: LECTURE_1,
+            ..NO_LINES
+        },
+        lecture: Delivered {
+            datagrams: &[1],
+            filtered: 2,
+            ..WHOLE_LECTURE
+        },
+        ..ALL
+    },
+    Filtered {
+        lines: Lines {
+            sent: BARE,
+            ..NO_LINES
+        },
+        ..ALL
+    },
+    Filtered {
+        lines: Lines {
+            sent: BARE,
+            files: NO_DATAGRAM,
+            ..NO_LINES
+        },
+        ..ALL
+    },
+];
 
 /// A multicast datagram is for 01:00:5E and the low 23 bits of its address (RFC 1112 section 6.4). An SNDU without an NPA address
 /// (RFC 4326 section 4.1) is for all receivers: it is 6 bytes shorter, and the files have 24 packets all the same.
 #[test]
 fn a_filter_wants_its_addresses_and_what_is_for_all(rt: HostRuntime) -> Result<(), Fail> {
-    let bare = "address = false\n";
-    let two = "filter = [\"01:00:5E:02:00:02\", \"01:00:5E:02:00:0C\"]\n";
-    let other = "filter = [\"01:00:5E:00:00:02\"]\n";
-    let cases: [(Lines, Delivered, Delivered); 5] = [
-        (
-            ("", "", two),
-            WHOLE_LECTURE,
-            (&[2, 12], [24, 0, 0, 14, 0, 0, 12]),
-        ),
-        (
-            ("", other, other),
-            (&[], [4, 0, 0, 3, 0, 0, 3]),
-            (&[], [24, 0, 0, 14, 0, 0, 14]),
-        ),
-        (
-            ("", "filter = [\"01:00:5E:01:00:01\"]\n", ""),
-            (&[1], [4, 0, 0, 3, 0, 0, 2]),
-            WHOLE_FILES,
-        ),
-        ((bare, "", ""), WHOLE_LECTURE, WHOLE_FILES),
-        ((bare, "", other), WHOLE_LECTURE, WHOLE_FILES),
-    ];
-    for (lines, lecture, files) in cases {
-        let loss = ("a filter", PLAIN, NO_HARM, [29, 0, 0, 1], lecture, files);
-        comes_as_told(&rt, rt.alloc(), &loss, lines)?;
+    for case in &FILTERS {
+        let loss = Loss {
+            name: "a filter",
+            lecture: case.lecture,
+            files: case.files,
+            ..NO_LOSS
+        };
+        comes_as_told(&rt, rt.alloc(), &loss, &case.lines)?;
     }
     Ok(())
 }

@@ -1,12 +1,14 @@
 //! What no clause says of `receive SETTINGS`: that a run over objects in memory ends so, with ample memory.
-use crate::runs::{Given, Left, expect, faultless};
-use crate::small::{FILE, packet};
+use crate::runs::expect;
 use ipencap_engine::Status;
-use std::alloc::Global;
-use std::process::Abort;
 use std::test::Fail;
+use test_recordings::settings::FRAMES;
+use test_recordings::{
+    Failing, FileLeft, Given, Left, Numbers, Report, ServiceReport, faultless, mixed_recording,
+    report_of, small_capture,
+};
 
-/// SNDUs for 239.1.0.0/16 on PID 256, in a plain recording.
+/// Files in SNDUs on PID 256, in a plain recording.
 const SETTINGS: &str = "[[service]]
 name = \"files\"
 kind = \"ule\"
@@ -14,179 +16,184 @@ pid = 256
 rules = [\"239.1.0.0/16\"]
 ";
 
-/// A service of MPE-FEC frames, which are not received so far.
-const FRAMES: &str = "[[service]]
-name = \"lecture\"
-kind = \"fec\"
-pid = 512
-mode = \"indexed\"
-rows = 256
-rules = [\"239.1.0.0/16\"]
-";
-
-/// The report of an empty recording.
-const EMPTY: &str = "scope,name,value
-stream,records,0
-stream,tail_bytes,0
-stream,unreadable,0
-stream,without_payload,0
-stream,other,0
-files,heard,0
-files,repeats,0
-files,gaps,0
-files,units,0
-files,bad_check,0
-files,delimited,0
-files,bad_length,0
-files,unread,0
-files,filtered,0
-files,frames,0
-files,rows_mended,0
-files,rows_left,0
-files,datagrams,0
-";
-
-/// The report of the packet and its duplicate, a record with a wrong first byte, and 187 bytes.
-const TWICE: &str = "scope,name,value
-stream,records,3
-stream,tail_bytes,187
-stream,unreadable,1
-stream,without_payload,0
-stream,other,0
-files,heard,1
-files,repeats,1
-files,gaps,0
-files,units,1
-files,bad_check,0
-files,delimited,0
-files,bad_length,0
-files,unread,0
-files,filtered,0
-files,frames,0
-files,rows_mended,0
-files,rows_left,0
-files,datagrams,1
-";
-
-/// The packet twice, a record with a wrong first byte, and 187 bytes.
-fn recording(alloc: Global) -> Result<Vec<u8>, Fail> {
-    let mut packet = packet(0, 0);
-    let mut bytes = Vec::from_slice(alloc, &packet)?;
-    bytes.extend_from_slice(&packet)?;
-    packet[0] = 0x46;
-    bytes.extend_from_slice(&packet)?;
-    bytes.extend_from_slice(packet.get(..187).ok_or("no such front")?)?;
-    Ok(bytes)
+/// What is given, and how the run ends.
+#[derive(Clone, Copy)]
+struct Case<'a> {
+    name: &'a str,
+    settings: &'a str,
+    /// The name of the file on the shelf.
+    shelved: &'a str,
+    /// How many bytes of the recording come.
+    bytes: usize,
+    fails: &'a [Failing],
+    status: Status,
+    /// How many files there are, how many bytes the file has, and how many of them are flushed.
+    files: usize,
+    file: usize,
+    flushed: usize,
+    report: Option<Report<'a>>,
+    line: &'a str,
 }
 
-#[test]
-fn recordings_give_their_captures_and_the_report(rt: HostRuntime) -> Result<(), Fail> {
-    let cases: [(usize, &str, usize); 2] = [(0, EMPTY, 24), (751, TWICE, 60)];
-    for (size, report, length) in cases {
-        let whole = recording(rt.alloc())?;
-        let input = whole.get(..size).ok_or("no such front")?;
-        let file = FILE.get(..length).ok_or("no such front")?;
-        let left = Left {
-            status: Status::Done,
-            output: report.as_bytes(),
-            flushed: report.len(),
-            line: "",
-            files: &[("files.pcap", file, length)],
-        };
-        let given = faultless(&["receive", "a.toml"], SETTINGS.as_bytes(), input);
-        expect(&rt, rt.alloc(), report, &given, &left)?;
-    }
-    Ok(())
-}
+/// What is reported of an empty recording.
+const EMPTY: Report = Report {
+    records: 0,
+    tail_bytes: 0,
+    unreadable: 0,
+    other: 0,
+    services: &[ServiceReport {
+        name: "files",
+        numbers: Numbers::NONE,
+    }],
+    table: None,
+};
+
+/// A packet and its duplicate, a record with a wrong first byte, and 187 bytes: 751 in all.
+const RECEIVED: Case = Case {
+    name: "a duplicate, and an unreadable record",
+    settings: SETTINGS,
+    shelved: "a.toml",
+    bytes: 751,
+    fails: &[],
+    status: Status::Done,
+    files: 1,
+    file: 60,
+    flushed: 60,
+    report: Some(Report {
+        records: 3,
+        tail_bytes: 187,
+        unreadable: 1,
+        services: &[ServiceReport {
+            name: "files",
+            numbers: Numbers {
+                heard: 1,
+                repeats: 1,
+                units: 1,
+                datagrams: 1,
+                ..Numbers::NONE
+            },
+        }],
+        ..EMPTY
+    }),
+    line: "",
+};
+
+const RACK: Case = Case {
+    name: "the rack fails",
+    status: Status::RackFault,
+    flushed: 0,
+    report: None,
+    line: "ipencap: fault of a written file\n",
+    ..RECEIVED
+};
+
+const INPUT: Case = Case {
+    name: "the input fails",
+    status: Status::SourceFault,
+    flushed: 0,
+    report: None,
+    line: "ipencap: fault of the input\n",
+    ..RECEIVED
+};
+
+/// No file is added.
+const REFUSED: Case = Case {
+    name: "settings that are not received",
+    status: Status::Settings,
+    files: 0,
+    file: 0,
+    flushed: 0,
+    report: None,
+    ..RECEIVED
+};
 
 /// The rack's calls are: add, the file's head, the record's head, the datagram, flush; the output's one write and a flush.
+static CASES: [Case; 11] = [
+    Case {
+        name: "an empty recording",
+        bytes: 0,
+        file: 24,
+        flushed: 24,
+        report: Some(EMPTY),
+        ..RECEIVED
+    },
+    RECEIVED,
+    Case {
+        fails: &[Failing::Rack(1)],
+        file: 0,
+        ..RACK
+    },
+    Case {
+        fails: &[Failing::Rack(3)],
+        file: 40,
+        ..RACK
+    },
+    Case {
+        fails: &[Failing::Rack(4)],
+        ..RACK
+    },
+    Case {
+        fails: &[Failing::Input(1)],
+        file: 24,
+        ..INPUT
+    },
+    Case {
+        fails: &[Failing::Input(2)],
+        ..INPUT
+    },
+    Case {
+        name: "the output fails",
+        fails: &[Failing::Output(0)],
+        status: Status::SinkFault,
+        report: None,
+        line: "ipencap: fault of the output\n",
+        ..RECEIVED
+    },
+    Case {
+        shelved: "b.toml",
+        status: Status::ShelfFault,
+        line: "ipencap: fault of the settings file\n",
+        ..REFUSED
+    },
+    Case {
+        settings: FRAMES,
+        line: "ipencap: settings 4 kind\n",
+        ..REFUSED
+    },
+    Case {
+        settings: "speed = 1\n",
+        line: "ipencap: settings 13\n",
+        ..REFUSED
+    },
+];
+
 #[test]
-fn faults_of_the_outside_end_a_reception(rt: HostRuntime) -> Result<(), Fail> {
-    let rack = "ipencap: fault of a written file\n";
-    let input = "ipencap: fault of the input\n";
-    let output = "ipencap: fault of the output\n";
-    let cases: [(&[u32], &[u32], &[u32], Status, usize, usize, &str); 6] = [
-        (&[], &[], &[1], Status::RackFault, 0, 0, rack),
-        (&[], &[], &[3], Status::RackFault, 40, 0, rack),
-        (&[], &[], &[4], Status::RackFault, 60, 0, rack),
-        (&[1], &[], &[], Status::SourceFault, 24, 0, input),
-        (&[2], &[], &[], Status::SourceFault, 60, 0, input),
-        (&[], &[0], &[], Status::SinkFault, 60, 60, output),
-    ];
-    for (input_fails, output_fails, rack_fails, status, length, flushed, line) in cases {
-        let whole = recording(rt.alloc())?;
-        let file = FILE.get(..length).ok_or("no such front")?;
+fn a_recording_gives_its_capture_and_the_report(rt: HostRuntime) -> Result<(), Fail> {
+    let recording = mixed_recording(rt.alloc())?;
+    let capture = small_capture(rt.alloc(), 1)?;
+    for case in &CASES {
+        let files = [FileLeft {
+            name: "files.pcap",
+            bytes: capture.get(..case.file).ok_or("no such front")?,
+            flushed: case.flushed,
+        }];
+        let report = match &case.report {
+            Some(report) => report_of(rt.alloc(), report)?,
+            None => String::new(rt.alloc()),
+        };
         let left = Left {
-            status,
-            output: &[],
-            flushed: 0,
-            line,
-            files: &[("files.pcap", file, flushed)],
+            output: report.as_bytes(),
+            flushed: report.len(),
+            line: case.line,
+            files: files.get(..case.files).ok_or("two files")?,
         };
+        let input = recording.get(..case.bytes).ok_or("no such front")?;
         let given = Given {
-            input_fails,
-            output_fails,
-            rack_fails,
-            ..faultless(&["receive", "a.toml"], SETTINGS.as_bytes(), &whole)
+            name: case.shelved,
+            fails: case.fails,
+            ..faultless(&["receive", "a.toml"], case.settings.as_bytes(), input)
         };
-        expect(&rt, rt.alloc(), line, &given, &left)?;
-    }
-    Ok(())
-}
-
-/// The settings stand under another name.
-fn under<'a>(name: &'a str, given: Given<'a>) -> Given<'a> {
-    Given { name, ..given }
-}
-
-/// `receive a.toml` over a shelf with these settings under a name ends so, and adds no file.
-fn refuses(
-    rt: &impl Abort,
-    alloc: Global,
-    name: &str,
-    settings: &str,
-    status: Status,
-    line: &str,
-) -> Result<(), Fail> {
-    let whole = recording(alloc)?;
-    let left = Left {
-        status,
-        output: &[],
-        flushed: 0,
-        line,
-        files: &[],
-    };
-    let given = under(
-        name,
-        faultless(&["receive", "a.toml"], settings.as_bytes(), &whole),
-    );
-    expect(rt, alloc, line, &given, &left)
-}
-
-#[test]
-fn settings_that_are_not_received_have_their_lines(rt: HostRuntime) -> Result<(), Fail> {
-    let cases: [(&str, &str, Status, &str); 3] = [
-        (
-            "b.toml",
-            SETTINGS,
-            Status::ShelfFault,
-            "ipencap: fault of the settings file\n",
-        ),
-        (
-            "a.toml",
-            FRAMES,
-            Status::Settings,
-            "ipencap: settings 4 kind\n",
-        ),
-        (
-            "a.toml",
-            "speed = 1\n",
-            Status::Settings,
-            "ipencap: settings 13\n",
-        ),
-    ];
-    for (name, settings, status, line) in cases {
-        refuses(&rt, rt.alloc(), name, settings, status, line)?;
+        expect(&rt, rt.alloc(), case.name, &given, case.status, &left)?;
     }
     Ok(())
 }

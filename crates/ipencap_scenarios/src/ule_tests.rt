@@ -1,127 +1,223 @@
 //! What no clause says of `ule PID`, and of words that form no command: that a run over objects in memory ends so, with ample
 //! memory, and what small recordings give.
-use crate::runs::{Given, Left, expect, faultless};
-use crate::small::{FILE, packet};
+use crate::runs::expect;
 use ipencap_engine::Status;
 use std::test::Fail;
+use test_recordings::{
+    Failing, FileLeft, Given, Left, SmallPacket, faultless, small_capture, small_recording,
+};
 
 const USAGE: &str =
     "ipencap: usage: send SETTINGS, receive SETTINGS, ule PID, check SETTINGS, sample NUMBER\n";
 
+const REFUSED: [&[&str]; 15] = [
+    &[],
+    &["send"],
+    &["send", "a", "b"],
+    &["ule"],
+    &["ule", ""],
+    &["ule", "8191"],
+    &["ule", "00256"],
+    &["ule", "0x100"],
+    &["ule", "+256"],
+    &["ule", "-1"],
+    &["sample", "4294967296"],
+    &["check"],
+    &["check", ""],
+    &["check", "-a"],
+    &["--help"],
+];
+
 #[test]
 fn words_that_form_no_command_add_no_file(rt: HostRuntime) -> Result<(), Fail> {
-    let refused: [&[&str]; 15] = [
-        &[],
-        &["send"],
-        &["send", "a", "b"],
-        &["ule"],
-        &["ule", ""],
-        &["ule", "8191"],
-        &["ule", "00256"],
-        &["ule", "0x100"],
-        &["ule", "+256"],
-        &["ule", "-1"],
-        &["sample", "4294967296"],
-        &["check"],
-        &["check", ""],
-        &["check", "-a"],
-        &["--help"],
-    ];
-    let left = Left {
-        status: Status::Usage,
-        output: &[],
-        flushed: 0,
-        line: USAGE,
-        files: &[],
-    };
-    for words in refused {
-        let input = packet(0, 0);
+    let input = small_recording(rt.alloc(), &[FIRST], 0)?;
+    for words in REFUSED {
+        let given = faultless(words, &[], &input);
         expect(
             &rt,
             rt.alloc(),
             "refused",
-            &faultless(words, &[], &input),
-            &left,
+            &given,
+            Status::Usage,
+            &Left::line(USAGE),
         )?;
     }
     Ok(())
 }
 
-/// The packets of a recording, each a PID and a counter; the bytes left over; how many datagrams come.
-type Case<'a> = (&'a [(u8, u8)], usize, usize);
-
-#[test]
-fn recordings_give_their_datagrams(rt: HostRuntime) -> Result<(), Fail> {
-    let alloc = rt.alloc();
-    let cases: [Case; 9] = [
-        (&[], 0, 0),
-        (&[], 187, 0),
-        (&[(0, 0)], 0, 1),
-        (&[(0, 0)], 100, 1),
-        (&[(1, 0)], 0, 0),
-        // a duplicate, at once or after another PID's packet: 15 packets may be lost between, and nothing tells
-        (&[(0, 0), (0, 0)], 0, 1),
-        (&[(0, 0), (0, 0), (0, 0)], 0, 1),
-        (&[(0, 0), (1, 0), (0, 0)], 0, 1),
-        (&[(0, 0), (0, 1), (0, 2)], 0, 3),
-    ];
-    for (packets, over, want) in cases {
-        let mut bytes = Vec::new(alloc);
-        for (pid, counter) in packets {
-            bytes.extend_from_slice(&packet(*pid, *counter))?;
-        }
-        for _ in 0..over {
-            bytes.push(0x47)?;
-        }
-        let mut file = Vec::from_slice(alloc, &FILE[..24])?;
-        for _ in 0..want {
-            file.extend_from_slice(&FILE[24..])?;
-        }
-        let left = Left {
-            status: Status::Done,
-            output: &[],
-            flushed: 0,
-            line: "",
-            files: &[("ule.pcap", &file, file.len())],
-        };
-        let given = faultless(&["ule", "256"], &[], &bytes);
-        expect(&rt, alloc, "datagrams", &given, &left)?;
-    }
-    Ok(())
+/// A recording of small packets, and what is left of the run.
+#[derive(Clone, Copy)]
+struct Case<'a> {
+    name: &'a str,
+    packets: &'a [SmallPacket],
+    /// How many bytes stand after the packets.
+    tail: usize,
+    fails: &'a [Failing],
+    status: Status,
+    /// How many files there are, how many bytes the file has, and how many of them are flushed.
+    files: usize,
+    bytes: usize,
+    flushed: usize,
+    line: &'a str,
 }
 
+/// The packet of PID 256 with counter 0, and one of PID 257.
+const FIRST: SmallPacket = SmallPacket {
+    pid: 256,
+    counter: 0,
+};
+
+const OTHER: SmallPacket = SmallPacket {
+    pid: 257,
+    counter: 0,
+};
+
+/// One packet gives one datagram: the file's head of 24 bytes, the record's head of 16, the 20 bytes of the datagram.
+const ONE: Case = Case {
+    name: "a packet",
+    packets: &[FIRST],
+    tail: 0,
+    fails: &[],
+    status: Status::Done,
+    files: 1,
+    bytes: 60,
+    flushed: 60,
+    line: "",
+};
+
+/// A recording without a datagram.
+const NONE: Case = Case {
+    name: "no packet",
+    packets: &[],
+    bytes: 24,
+    flushed: 24,
+    ..ONE
+};
+
+const RACK: Case = Case {
+    name: "the rack fails",
+    status: Status::RackFault,
+    flushed: 0,
+    line: "ipencap: fault of a written file\n",
+    ..ONE
+};
+
+const INPUT: Case = Case {
+    name: "the input fails",
+    status: Status::SourceFault,
+    flushed: 0,
+    line: "ipencap: fault of the input\n",
+    ..ONE
+};
+
 /// The rack's calls are: add, the file's head, the record's head, the datagram, flush. Where the first fails there is no file.
+static CASES: [Case; 16] = [
+    NONE,
+    Case {
+        name: "187 bytes",
+        tail: 187,
+        ..NONE
+    },
+    ONE,
+    Case {
+        name: "100 bytes after a packet",
+        tail: 100,
+        ..ONE
+    },
+    Case {
+        name: "another PID",
+        packets: &[OTHER],
+        ..NONE
+    },
+    // a duplicate, at once or after another PID's packet: 15 packets may be lost between, and nothing tells
+    Case {
+        name: "a duplicate",
+        packets: &[FIRST, FIRST],
+        ..ONE
+    },
+    Case {
+        name: "two duplicates",
+        packets: &[FIRST, FIRST, FIRST],
+        ..ONE
+    },
+    Case {
+        name: "a duplicate after another PID's packet",
+        packets: &[FIRST, OTHER, FIRST],
+        ..ONE
+    },
+    Case {
+        name: "three packets",
+        packets: &[
+            FIRST,
+            SmallPacket {
+                pid: 256,
+                counter: 1,
+            },
+            SmallPacket {
+                pid: 256,
+                counter: 2,
+            },
+        ],
+        bytes: 132,
+        flushed: 132,
+        ..ONE
+    },
+    Case {
+        fails: &[Failing::Rack(0)],
+        files: 0,
+        ..RACK
+    },
+    Case {
+        fails: &[Failing::Rack(1)],
+        bytes: 0,
+        ..RACK
+    },
+    Case {
+        fails: &[Failing::Rack(2)],
+        bytes: 24,
+        ..RACK
+    },
+    Case {
+        fails: &[Failing::Rack(3)],
+        bytes: 40,
+        ..RACK
+    },
+    Case {
+        fails: &[Failing::Rack(4)],
+        ..RACK
+    },
+    Case {
+        fails: &[Failing::Input(1)],
+        bytes: 24,
+        ..INPUT
+    },
+    Case {
+        fails: &[Failing::Input(2)],
+        ..INPUT
+    },
+];
+
 #[test]
-fn faults_end_the_run_and_leave_a_front(rt: HostRuntime) -> Result<(), Fail> {
-    let rack_line = "ipencap: fault of a written file\n";
-    let source_line = "ipencap: fault of the input\n";
-    let cases: [(&[u32], &[u32], Status, &[usize], &str); 7] = [
-        (&[], &[0], Status::RackFault, &[], rack_line),
-        (&[], &[1], Status::RackFault, &[0], rack_line),
-        (&[], &[2], Status::RackFault, &[24], rack_line),
-        (&[], &[3], Status::RackFault, &[40], rack_line),
-        (&[], &[4], Status::RackFault, &[60], rack_line),
-        (&[1], &[], Status::SourceFault, &[24], source_line),
-        (&[2], &[], Status::SourceFault, &[60], source_line),
-    ];
-    for (input_fails, rack_fails, status, lengths, line) in cases {
-        let input = packet(0, 0);
-        let length = lengths.first().copied().unwrap_or(0);
-        let file = FILE.get(..length).ok_or("no such front")?;
-        let files = [("ule.pcap", file, 0)];
+fn recordings_give_their_datagrams_and_a_fault_leaves_a_front(rt: HostRuntime) -> Result<(), Fail> {
+    let capture = small_capture(rt.alloc(), 3)?;
+    for case in &CASES {
+        let input = small_recording(rt.alloc(), case.packets, case.tail)?;
+        let files = [FileLeft {
+            name: "ule.pcap",
+            bytes: capture.get(..case.bytes).ok_or("no such front")?,
+            flushed: case.flushed,
+        }];
         let left = Left {
-            status,
             output: &[],
             flushed: 0,
-            line,
-            files: files.get(..lengths.len()).ok_or("two files")?,
+            line: case.line,
+            files: files.get(..case.files).ok_or("two files")?,
         };
         let given = Given {
-            input_fails,
-            rack_fails,
+            fails: case.fails,
             ..faultless(&["ule", "256"], &[], &input)
         };
-        expect(&rt, rt.alloc(), line, &given, &left)?;
+        expect(&rt, rt.alloc(), case.name, &given, case.status, &left)?;
     }
     Ok(())
 }

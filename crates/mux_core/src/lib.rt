@@ -5,8 +5,6 @@
 #![tactic(auto)]
 
 mod batch;
-#[cfg(test)]
-mod built;
 mod lanes;
 mod packets;
 mod records;
@@ -14,8 +12,6 @@ mod sending;
 mod services;
 mod slots;
 mod table;
-#[cfg(test)]
-mod tests;
 mod units;
 mod window;
 

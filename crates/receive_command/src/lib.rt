@@ -12,8 +12,6 @@ mod receiving;
 mod records;
 mod report;
 mod steps;
-#[cfg(test)]
-mod tests;
 mod ule_command;
 
 pub use receiving::{ReceiveEnd, receive};

@@ -10,8 +10,6 @@ mod gather;
 mod kinds;
 mod laws;
 mod lines;
-#[cfg(test)]
-mod tests;
 
 pub use command::send;
 pub use ends::{SendEnd, Tally};

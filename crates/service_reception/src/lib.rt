@@ -4,8 +4,6 @@
 //! Begin with `Reception::take`, and with `TableReception::take` on the PID of the INT.
 #![tactic(auto)]
 
-#[cfg(test)]
-mod by_hand;
 mod carried;
 mod counts;
 mod events;
@@ -14,8 +12,6 @@ mod kept;
 mod laws;
 mod reception;
 mod table;
-#[cfg(test)]
-mod tests;
 
 pub use carried::{Carried, UnitReader};
 pub use counts::Counts;

@@ -1,5 +1,0 @@
-use Rattle.unit_stream.specs.Packers.{IsOnWay}
-use Rattle.ipencap_scenarios.proofs.packing_tests.an_sndu_begins_behind_another_where_two_bytes_have_room.Given as goal
-
-abbrev pub invariant-loop-head : goal.invariant-loop-head
-invariant-loop-head g l = IsOnWay l.packer l.ends

@@ -1,0 +1,434 @@
+//! Receptions of small recordings into objects in memory: files, report, and each call that fails.
+ghost use Rattle.std.specs.Prelude.{◌≡◌, true, IfOk};
+ghost use Rattle.plan.specs.PlanView.{plan_fields};
+ghost use Rattle.plan_spec.specs.Built.{are_received};
+
+use receive_command::{ReceiveEnd, UleEnd, receive, ule};
+use demux_core::can_receive;
+use service_plan::{Plan, read_plan, ule_plan};
+use std::alloc::Global;
+use std::test::Fail;
+use test_recordings::settings::{INT, ONE_AND_TWO, settings_of};
+use test_recordings::units::{INT_OF_TWO, WRONG_HASH};
+use test_recordings::{
+    Failing, FileLeft, Given, Left, Numbers, Outside, Report, ServiceReport, TableReport,
+    faultless, recording_of_two, report_of, small_capture,
+};
+
+/// How many bytes of its capture a file has, and how many of them are flushed.
+#[derive(Clone, Copy)]
+struct Held {
+    bytes: usize,
+    flushed: usize,
+}
+
+const EMPTY: Held = Held {
+    bytes: 0,
+    flushed: 0,
+};
+
+/// The file's head.
+const HEAD: Held = Held {
+    bytes: 24,
+    flushed: 0,
+};
+
+/// The file's head, the record's head.
+const CUT: Held = Held {
+    bytes: 40,
+    flushed: 0,
+};
+
+/// The whole capture of a datagram.
+const WHOLE: Held = Held {
+    bytes: 60,
+    flushed: 0,
+};
+
+const FLUSHED: Held = Held {
+    bytes: 60,
+    flushed: 60,
+};
+
+/// A recording of both services, and what is left of its reception.
+#[derive(Clone, Copy)]
+struct Case<'a> {
+    name: &'a str,
+    /// The section of the INT.
+    section: &'a [u8],
+    /// How many bytes stand after the last record.
+    tail: usize,
+    fails: &'a [Failing],
+    end: ReceiveEnd,
+    report: Option<Report<'a>>,
+    /// `one.pcap` and `two.pcap`, as far as they are added.
+    files: &'a [Held],
+}
+
+/// A packet and its datagram.
+const ONE_DATAGRAM: Numbers = Numbers {
+    heard: 1,
+    units: 1,
+    datagrams: 1,
+    ..Numbers::NONE
+};
+
+/// What is reported of both services, one of them with a duplicate; a packet of another PID, a wrong first byte, the INT, and 187
+/// bytes after the last record.
+const WHOLE_REPORT: Report = Report {
+    records: 6,
+    tail_bytes: 187,
+    unreadable: 1,
+    other: 1,
+    services: &[
+        ServiceReport {
+            name: "one",
+            numbers: Numbers {
+                repeats: 1,
+                ..ONE_DATAGRAM
+            },
+        },
+        ServiceReport {
+            name: "two",
+            numbers: ONE_DATAGRAM,
+        },
+    ],
+    table: Some(TableReport {
+        units: 1,
+        refused: 0,
+        rules: &[("239.1.0.0/16", 1), ("239.2.0.0/16", 2)],
+    }),
+};
+
+const NO_TAIL_REPORT: Report = Report {
+    tail_bytes: 0,
+    ..WHOLE_REPORT
+};
+
+/// An INT whose platform_id_hash is wrong.
+const REFUSED_TABLE: Report = Report {
+    tail_bytes: 0,
+    table: Some(TableReport {
+        units: 1,
+        refused: 5,
+        rules: &[],
+    }),
+    ..WHOLE_REPORT
+};
+
+const RECEIVED: Case = Case {
+    name: "two services",
+    section: &INT_OF_TWO,
+    tail: 187,
+    fails: &[],
+    end: ReceiveEnd::Done,
+    report: Some(WHOLE_REPORT),
+    files: &[FLUSHED, FLUSHED],
+};
+
+/// Without bytes after the last record.
+const NO_TAIL: Case = Case {
+    name: "a call that does not come",
+    tail: 0,
+    fails: &[Failing::Rack(10)],
+    report: Some(NO_TAIL_REPORT),
+    ..RECEIVED
+};
+
+const RACK: Case = Case {
+    name: "the rack fails",
+    end: ReceiveEnd::RackFault,
+    report: None,
+    ..NO_TAIL
+};
+
+const OUTPUT: Case = Case {
+    name: "the output fails",
+    end: ReceiveEnd::SinkFault,
+    report: None,
+    ..NO_TAIL
+};
+
+const INPUT: Case = Case {
+    name: "the input fails",
+    end: ReceiveEnd::SourceFault,
+    report: None,
+    ..NO_TAIL
+};
+
+/// Each file is added, has its head, the head of its record, the datagram, and is flushed. The report is written at once, and
+/// flushed. The input has two reads a record; after the second record both datagrams are written.
+static CASES: [Case; 20] = [
+    RECEIVED,
+    Case {
+        name: "a table that is refused",
+        section: &WRONG_HASH,
+        tail: 0,
+        report: Some(REFUSED_TABLE),
+        ..RECEIVED
+    },
+    NO_TAIL,
+    Case {
+        fails: &[Failing::Rack(0)],
+        files: &[],
+        ..RACK
+    },
+    Case {
+        fails: &[Failing::Rack(1)],
+        files: &[EMPTY],
+        ..RACK
+    },
+    Case {
+        fails: &[Failing::Rack(2)],
+        files: &[HEAD],
+        ..RACK
+    },
+    Case {
+        fails: &[Failing::Rack(3)],
+        files: &[HEAD, EMPTY],
+        ..RACK
+    },
+    Case {
+        fails: &[Failing::Rack(4)],
+        files: &[HEAD, HEAD],
+        ..RACK
+    },
+    Case {
+        fails: &[Failing::Rack(5)],
+        files: &[CUT, HEAD],
+        ..RACK
+    },
+    Case {
+        fails: &[Failing::Rack(6)],
+        files: &[WHOLE, HEAD],
+        ..RACK
+    },
+    Case {
+        fails: &[Failing::Rack(7)],
+        files: &[WHOLE, CUT],
+        ..RACK
+    },
+    Case {
+        fails: &[Failing::Rack(8)],
+        files: &[WHOLE, WHOLE],
+        ..RACK
+    },
+    Case {
+        fails: &[Failing::Rack(9)],
+        files: &[FLUSHED, WHOLE],
+        ..RACK
+    },
+    Case {
+        fails: &[Failing::Output(0)],
+        ..OUTPUT
+    },
+    Case {
+        name: "the output is not flushed",
+        fails: &[Failing::Output(1)],
+        report: Some(NO_TAIL_REPORT),
+        ..OUTPUT
+    },
+    Case {
+        fails: &[Failing::Input(0)],
+        files: &[HEAD, HEAD],
+        ..INPUT
+    },
+    Case {
+        fails: &[Failing::Input(1)],
+        files: &[HEAD, HEAD],
+        ..INPUT
+    },
+    Case {
+        fails: &[Failing::Input(2)],
+        files: &[WHOLE, HEAD],
+        ..INPUT
+    },
+    Case {
+        fails: &[Failing::Input(4)],
+        files: &[WHOLE, WHOLE],
+        ..INPUT
+    },
+    Case {
+        fails: &[Failing::Input(12)],
+        files: &[WHOLE, WHOLE],
+        ..INPUT
+    },
+];
+
+/// The plan of both services and an INT.
+fn plan_of(alloc: Global) -> Result<Plan, Fail>
+    ensures { IfOk result (λ plan. are_received (plan_fields plan) ≡ true) }
+{
+    match read_plan(alloc, settings_of(alloc, &[INT, ONE_AND_TWO])?.as_bytes()) {
+        Ok(plan) => {
+            if can_receive(&plan) {
+                Ok(plan)
+            } else {
+                Err("kinds".into())
+            }
+        }
+        Err(_) => Err("settings".into()),
+    }
+}
+
+/// How a reception ended, and what it left.
+#[derive(Drop)]
+struct Ended {
+    end: ReceiveEnd,
+    outside: Outside,
+}
+
+/// Receives under a plan.
+fn received(alloc: Global, plan: &Plan, given: &Given<'_>) -> Result<Ended, Fail>
+    requires { are_received (plan_fields plan.now) ≡ true }
+{
+    let mut outside = Outside::new(alloc, given)?;
+    let end = receive(
+        alloc,
+        plan,
+        &mut outside.input,
+        &mut outside.output,
+        &mut outside.rack,
+    );
+    Ok(Ended { end, outside })
+}
+
+/// What a reception leaves of a case differs so; an empty text where it does not.
+fn difference(alloc: Global, ended: &Ended, case: &Case<'_>) -> Result<&'static str, Fail> {
+    let capture = small_capture(alloc, 1)?;
+    let mut files = Vec::new(alloc);
+    for (at, held) in case.files.iter().enumerate() {
+        files.push(FileLeft {
+            name: if at == 0 { "one.pcap" } else { "two.pcap" },
+            bytes: capture.get(..held.bytes).ok_or("no such front")?,
+            flushed: held.flushed,
+        })?;
+    }
+    let report = match &case.report {
+        Some(report) => report_of(alloc, report)?,
+        None => String::new(alloc),
+    };
+    let left = Left {
+        output: report.as_bytes(),
+        flushed: if case.end == ReceiveEnd::Done {
+            report.len()
+        } else {
+            0
+        },
+        line: "",
+        files: &files,
+    };
+    if ended.end != case.end {
+        return Ok("the end");
+    }
+    Ok(ended.outside.difference(&left))
+}
+
+#[test]
+fn recordings_are_received_and_each_failing_call_ends_it(rt: HostRuntime) -> Result<(), Fail> {
+    let plan = plan_of(rt.alloc())?;
+    for case in &CASES {
+        let input = recording_of_two(rt.alloc(), case.section, case.tail)?;
+        let given = Given {
+            fails: case.fails,
+            ..faultless(&[], &[], &input)
+        };
+        let ended = received(rt.alloc(), &plan, &given)?;
+        assert_eq!(rt; difference(rt.alloc(), &ended, case)?, "", "{}", case.name);
+    }
+    Ok(())
+}
+
+/// The report of an empty recording has a head and 18 lines.
+#[test]
+fn an_empty_recording_has_a_report(rt: HostRuntime) -> Result<(), Fail> {
+    let plan = ule_plan(rt.alloc(), 256)?;
+    let ended = received(rt.alloc(), &plan, &faultless(&[], &[], &[]))?;
+    let report = Report {
+        records: 0,
+        tail_bytes: 0,
+        unreadable: 0,
+        other: 0,
+        services: &[ServiceReport {
+            name: "ule",
+            numbers: Numbers::NONE,
+        }],
+        table: None,
+    };
+    let report = report_of(rt.alloc(), &report)?;
+    let head = small_capture(rt.alloc(), 0)?;
+    let files = [FileLeft {
+        name: "ule.pcap",
+        bytes: &head,
+        flushed: 24,
+    }];
+    let left = Left {
+        output: report.as_bytes(),
+        flushed: report.len(),
+        line: "",
+        files: &files,
+    };
+    assert_eq!(rt; ended.end, ReceiveEnd::Done);
+    assert_eq!(rt; ended.outside.difference(&left), "");
+    Ok(())
+}
+
+/// A call that fails, and what is left of the reception of PID 256.
+#[derive(Clone, Copy)]
+struct UleCase {
+    fails: Failing,
+    end: UleEnd,
+    file: Held,
+}
+
+static ULE_CASES: [UleCase; 4] = [
+    UleCase {
+        fails: Failing::Rack(9),
+        end: UleEnd::Done,
+        file: FLUSHED,
+    },
+    UleCase {
+        fails: Failing::Rack(2),
+        end: UleEnd::RackFault,
+        file: HEAD,
+    },
+    UleCase {
+        fails: Failing::Rack(4),
+        end: UleEnd::RackFault,
+        file: WHOLE,
+    },
+    UleCase {
+        fails: Failing::Input(0),
+        end: UleEnd::SourceFault,
+        file: HEAD,
+    },
+];
+
+#[test]
+fn one_pid_is_received_alone(rt: HostRuntime) -> Result<(), Fail> {
+    let input = recording_of_two(rt.alloc(), &INT_OF_TWO, 100)?;
+    let capture = small_capture(rt.alloc(), 1)?;
+    for case in &ULE_CASES {
+        let fails = [case.fails];
+        let given = Given {
+            fails: &fails,
+            ..faultless(&[], &[], &input)
+        };
+        let mut outside = Outside::new(rt.alloc(), &given)?;
+        let end = ule(rt.alloc(), 256, &mut outside.input, &mut outside.rack);
+        let files = [FileLeft {
+            name: "ule.pcap",
+            bytes: capture.get(..case.file.bytes).ok_or("no such front")?,
+            flushed: case.file.flushed,
+        }];
+        let left = Left {
+            output: &[],
+            flushed: 0,
+            line: "",
+            files: &files,
+        };
+        assert_eq!(rt; end, case.end);
+        assert_eq!(rt; outside.difference(&left), "");
+    }
+    Ok(())
+}

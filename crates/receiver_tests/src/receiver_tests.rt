@@ -1,0 +1,510 @@
+//! Small recordings of several services: what is delivered, in which order, and every number.
+ghost use Rattle.std.specs.Prelude.{◌≡◌, ◌≤◌, ◌<◌, length};
+ghost use Rattle.plan.specs.PlanView.{plan_fields};
+
+use crate::receiver_cases::{Part, record_of};
+use demux_core::{Receiver, can_receive};
+use bumpalo::Bump;
+use loss_report::{ServiceCounts, StreamCounts};
+use service_plan::{Plan, read_plan, ule_plan};
+use std::alloc::Global;
+use std::test::Fail;
+use test_recordings::NotedOutlet;
+use test_recordings::settings::{FRAMES, INT, ONE_AND_TWO, THREE, settings_of};
+use test_recordings::units::{INT as FIRST_INT, NEXT_INT};
+use ts_record::Record;
+
+/// Which section of an INT is lent.
+#[derive(Clone, Copy, Debug, PartialEq, Eq)]
+enum Lent {
+    None,
+    First,
+    Next,
+}
+
+/// What a reception has left.
+#[derive(Drop)]
+struct Ended {
+    noted: NotedOutlet,
+    is_open: bool,
+    stream: StreamCounts,
+    /// The numbers of the first three services.
+    services: [ServiceCounts; 3],
+    sections: u64,
+    lent: Lent,
+}
+
+/// Nothing is counted of a service.
+const NONE: ServiceCounts = ServiceCounts {
+    heard: 0,
+    repeats: 0,
+    gaps: 0,
+    units: 0,
+    bad_check: 0,
+    delimited: 0,
+    bad_length: 0,
+    unread: 0,
+    filtered: 0,
+    frames: 0,
+    rows_mended: 0,
+    rows_left: 0,
+    datagrams: 0,
+};
+
+/// One packet with a datagram.
+const ONE: ServiceCounts = ServiceCounts {
+    heard: 1,
+    units: 1,
+    datagrams: 1,
+    ..NONE
+};
+
+const TWO: ServiceCounts = ServiceCounts {
+    heard: 2,
+    units: 2,
+    datagrams: 2,
+    ..NONE
+};
+
+/// No record.
+const EMPTY: StreamCounts = StreamCounts {
+    records: 0,
+    tail_bytes: 0,
+    unreadable: 0,
+    without_payload: 0,
+    other: 0,
+};
+
+/// Takes a record, where the receiver can be given one.
+fn take(receiver: &mut Receiver<'_>, item: &Record, noted: &mut NotedOutlet)
+    requires { length receiver.old.plan.services ≤ 8 }
+    ensures { receiver.new.plan ≡ receiver.old.plan }
+{
+    if receiver.is_open() && receiver.stream_counts().records < 1000 {
+        match receiver.step(item, noted) {
+            Ok(()) => {}
+            Err(_) => {}
+        }
+    }
+}
+
+/// The numbers of a service; none where there is no such service.
+fn numbers(receiver: &Receiver<'_>, service: u32, count: usize) -> ServiceCounts
+    requires { count ≤ length receiver.now.plan.services }
+{
+    if service as usize >= count {
+        return NONE;
+    }
+    receiver.counts(service)
+}
+
+/// Which section is lent.
+fn lent_by(receiver: &Receiver<'_>) -> Lent {
+    match receiver.table_section() {
+        Some(section) => {
+            if section == FIRST_INT.as_slice() {
+                Lent::First
+            } else {
+                Lent::Next
+            }
+        }
+        None => Lent::None,
+    }
+}
+
+/// Opens a receiver and gives it records.
+fn ran(alloc: Global, plan: &Plan, parts: &[Part], refuses_from: usize) -> Result<Ended, Fail> {
+    let count = plan.services.len();
+    if !can_receive(plan) || count > 8 {
+        return Err("plan".into());
+    }
+    let arena = Bump::new(alloc);
+    let mut noted = NotedOutlet::new(refuses_from);
+    let mut receiver = Receiver::open(&arena, plan)?;
+    for part in parts {
+        take(&mut receiver, &record_of(part), &mut noted);
+    }
+    if receiver.is_open() {
+        match receiver.finish(&mut noted) {
+            Ok(()) => {}
+            Err(_) => return Err("finish".into()),
+        }
+    }
+    Ok(Ended {
+        is_open: receiver.is_open(),
+        stream: receiver.stream_counts(),
+        services: [
+            numbers(&receiver, 0, count),
+            numbers(&receiver, 1, count),
+            numbers(&receiver, 2, count),
+        ],
+        sections: receiver.table_units(),
+        lent: lent_by(&receiver),
+        noted,
+    })
+}
+
+/// Records, and what is left of their reception.
+#[derive(Clone, Copy)]
+struct Case<'a> {
+    name: &'a str,
+    parts: &'a [Part],
+    /// From which call on the outlet refuses.
+    refuses_from: usize,
+    /// The services of the datagrams in order.
+    order: &'a [u32],
+    stream: StreamCounts,
+    services: [ServiceCounts; 3],
+    sections: u64,
+    lent: Lent,
+}
+
+const NO_RECORD: Case = Case {
+    name: "no record",
+    parts: &[],
+    refuses_from: 100,
+    order: &[],
+    stream: EMPTY,
+    services: [NONE; 3],
+    sections: 0,
+    lent: Lent::None,
+};
+
+/// Each service by itself, the datagrams in the order of the records with their last bytes. EN 301 192 clause 8.4: sections on the
+/// INT's PID are counted, and the first is lent.
+static CASES: [Case; 12] = [
+    NO_RECORD,
+    Case {
+        name: "in rotation",
+        parts: &[
+            Part::Sndu {
+                pid: 256,
+                counter: 0,
+            },
+            Part::Sndu {
+                pid: 257,
+                counter: 0,
+            },
+            Part::Sndu {
+                pid: 256,
+                counter: 1,
+            },
+            Part::Sndu {
+                pid: 257,
+                counter: 1,
+            },
+        ],
+        order: &[0, 1, 0, 1],
+        stream: StreamCounts {
+            records: 4,
+            ..EMPTY
+        },
+        services: [TWO, TWO, NONE],
+        ..NO_RECORD
+    },
+    Case {
+        name: "every packet of one dropped",
+        parts: &[
+            Part::Sndu {
+                pid: 256,
+                counter: 0,
+            },
+            Part::Sndu {
+                pid: 256,
+                counter: 1,
+            },
+        ],
+        order: &[0, 0],
+        stream: StreamCounts {
+            records: 2,
+            ..EMPTY
+        },
+        services: [TWO, NONE, NONE],
+        ..NO_RECORD
+    },
+    Case {
+        name: "a duplicate after the other service's packet, and a discontinuity",
+        parts: &[
+            Part::Sndu {
+                pid: 256,
+                counter: 0,
+            },
+            Part::Sndu {
+                pid: 257,
+                counter: 0,
+            },
+            Part::Sndu {
+                pid: 256,
+                counter: 0,
+            },
+            Part::Sndu {
+                pid: 257,
+                counter: 2,
+            },
+        ],
+        order: &[0, 1, 1],
+        stream: StreamCounts {
+            records: 4,
+            ..EMPTY
+        },
+        services: [
+            ServiceCounts { repeats: 1, ..ONE },
+            ServiceCounts { gaps: 1, ..TWO },
+            NONE,
+        ],
+        ..NO_RECORD
+    },
+    Case {
+        name: "units over two packets each, in rotation: the order is that of their last bytes",
+        parts: &[
+            Part::Head {
+                pid: 256,
+                counter: 0,
+            },
+            Part::Head {
+                pid: 257,
+                counter: 0,
+            },
+            Part::Tail {
+                pid: 257,
+                counter: 1,
+            },
+            Part::Tail {
+                pid: 256,
+                counter: 1,
+            },
+        ],
+        order: &[1, 0],
+        stream: StreamCounts {
+            records: 4,
+            ..EMPTY
+        },
+        services: [
+            ServiceCounts { heard: 2, ..ONE },
+            ServiceCounts { heard: 2, ..ONE },
+            NONE,
+        ],
+        ..NO_RECORD
+    },
+    Case {
+        name: "the second packet of one is lost: its unit is cut by the next packet",
+        parts: &[
+            Part::Head {
+                pid: 256,
+                counter: 0,
+            },
+            Part::Head {
+                pid: 257,
+                counter: 0,
+            },
+            Part::Sndu {
+                pid: 256,
+                counter: 2,
+            },
+            Part::Tail {
+                pid: 257,
+                counter: 1,
+            },
+        ],
+        order: &[0, 1],
+        stream: StreamCounts {
+            records: 4,
+            ..EMPTY
+        },
+        services: [
+            ServiceCounts {
+                heard: 2,
+                gaps: 1,
+                delimited: 1,
+                ..ONE
+            },
+            ServiceCounts { heard: 2, ..ONE },
+            NONE,
+        ],
+        ..NO_RECORD
+    },
+    Case {
+        name: "sections, and an SNDU between",
+        parts: &[
+            Part::Section { counter: 0 },
+            Part::Sndu {
+                pid: 256,
+                counter: 0,
+            },
+            Part::Section { counter: 1 },
+        ],
+        order: &[2, 0, 2],
+        stream: StreamCounts {
+            records: 3,
+            ..EMPTY
+        },
+        services: [ONE, NONE, TWO],
+        ..NO_RECORD
+    },
+    Case {
+        name: "records that no service receives",
+        parts: &[
+            Part::WithoutMoment,
+            Part::Marked,
+            Part::Scrambled,
+            Part::NoSync,
+            Part::WithoutPayload,
+            Part::Sndu {
+                pid: 259,
+                counter: 0,
+            },
+            Part::Sndu {
+                pid: 256,
+                counter: 0,
+            },
+        ],
+        order: &[0],
+        stream: StreamCounts {
+            records: 7,
+            unreadable: 4,
+            without_payload: 1,
+            other: 1,
+            ..EMPTY
+        },
+        services: [ONE, NONE, NONE],
+        ..NO_RECORD
+    },
+    Case {
+        name: "a section of the INT",
+        parts: &[
+            Part::Int { counter: 0 },
+            Part::Sndu {
+                pid: 256,
+                counter: 0,
+            },
+        ],
+        order: &[0],
+        stream: StreamCounts {
+            records: 2,
+            ..EMPTY
+        },
+        services: [ONE, NONE, NONE],
+        sections: 1,
+        lent: Lent::First,
+        ..NO_RECORD
+    },
+    Case {
+        name: "the first section and the next one",
+        parts: &[Part::Int { counter: 0 }, Part::NextInt { counter: 1 }],
+        stream: StreamCounts {
+            records: 2,
+            ..EMPTY
+        },
+        sections: 2,
+        lent: Lent::First,
+        ..NO_RECORD
+    },
+    Case {
+        name: "the next section and the first one",
+        parts: &[Part::NextInt { counter: 0 }, Part::Int { counter: 1 }],
+        stream: StreamCounts {
+            records: 2,
+            ..EMPTY
+        },
+        sections: 2,
+        lent: Lent::Next,
+        ..NO_RECORD
+    },
+    Case {
+        name: "the third datagram is refused: no later record is taken",
+        parts: &[
+            Part::Sndu {
+                pid: 256,
+                counter: 0,
+            },
+            Part::Sndu {
+                pid: 257,
+                counter: 0,
+            },
+            Part::Sndu {
+                pid: 257,
+                counter: 1,
+            },
+            Part::Sndu {
+                pid: 256,
+                counter: 1,
+            },
+        ],
+        refuses_from: 3,
+        order: &[0, 1],
+        stream: StreamCounts {
+            records: 3,
+            ..EMPTY
+        },
+        services: [ONE, TWO, NONE],
+        ..NO_RECORD
+    },
+];
+
+/// What differs from what a case must leave; an empty text where nothing does.
+fn difference(ended: &Ended, case: &Case<'_>) -> &'static str {
+    if ended.is_open {
+        return "the receiver is open";
+    }
+    if ended.noted.order() != case.order {
+        return "the datagrams";
+    }
+    if ended.stream != case.stream {
+        return "the numbers of the stream";
+    }
+    if ended.services != case.services {
+        return "the numbers of the services";
+    }
+    if ended.sections != case.sections || ended.lent != case.lent {
+        return "the INT";
+    }
+    ""
+}
+
+#[test]
+fn services_do_not_disturb_each_other(rt: HostRuntime) -> Result<(), Fail> {
+    let settings = settings_of(rt.alloc(), &[INT, ONE_AND_TWO, THREE])?;
+    let plan = read_plan(rt.alloc(), settings.as_bytes()).map_err(|_| "settings")?;
+    for case in &CASES {
+        let ended = ran(rt.alloc(), &plan, case.parts, case.refuses_from)?;
+        assert_eq!(rt; difference(&ended, case), "", "{}", case.name);
+    }
+    assert!(rt; NEXT_INT != FIRST_INT);
+    Ok(())
+}
+
+/// The plan of one PID: no INT, and the packets of all other PIDs are other. Frames and GSE packets are not known yet.
+#[test]
+fn one_pid_is_received_by_itself(rt: HostRuntime) -> Result<(), Fail> {
+    let plan = ule_plan(rt.alloc(), 256)?;
+    let parts = [
+        Part::Sndu {
+            pid: 256,
+            counter: 0,
+        },
+        Part::Sndu {
+            pid: 257,
+            counter: 0,
+        },
+        Part::Int { counter: 0 },
+        Part::Sndu {
+            pid: 256,
+            counter: 1,
+        },
+    ];
+    let case = Case {
+        order: &[0, 0],
+        stream: StreamCounts {
+            records: 4,
+            other: 2,
+            ..EMPTY
+        },
+        services: [TWO, NONE, NONE],
+        ..NO_RECORD
+    };
+    let ended = ran(rt.alloc(), &plan, &parts, 100)?;
+    assert_eq!(rt; difference(&ended, &case), "");
+    let frames = read_plan(rt.alloc(), FRAMES.as_bytes()).map_err(|_| "settings")?;
+    assert_eq!(rt; can_receive(&frames), false);
+    Ok(())
+}

@@ -1,0 +1,199 @@
+//! What is counted of packets by hand, and which datagrams are delivered.
+use crate::reception_cases::{Case, SECTIONS, SNDUS, TWO};
+use service_reception::{Counts, Reception, TableReception, UnitReader};
+use addr_rules::MacList;
+use ipe_io::Failed;
+use section_codec::SectionForm;
+use std::alloc::Global;
+use std::test::Fail;
+use test_recordings::units::{DATAGRAM, INT, NEXT_INT, OTHER, SECTION, SNDU};
+use test_recordings::{NotedOutlet, go_on, start};
+use ts_packet::parse;
+use ule_unit::UleForm;
+use unit_stream::UnitForm;
+
+/// The service of all tests.
+const SERVICE: u32 = 3;
+
+/// Takes a packet, where it can be read.
+fn take<K: UnitReader>(
+    reception: &mut Reception<K, Global>,
+    bytes: &[u8; 188],
+    filter: &MacList,
+    noted: &mut NotedOutlet,
+) -> Result<(), Failed> {
+    match parse(bytes) {
+        Ok(packet) => reception.take(bytes, &packet, 0, filter, SERVICE, noted),
+        Err(_) => Ok(()),
+    }
+}
+
+/// Whether a case gives its numbers, and as many right datagrams.
+fn is_counted<K: UnitReader>(alloc: Global, good: &[u8], case: &Case<'_>) -> Result<bool, Fail> {
+    let mut filter = MacList::new(alloc);
+    if let Some(mac) = case.filter {
+        filter.push(mac)?;
+    }
+    let mut reception = Reception::<K, Global>::over(vec![in alloc; 0u8; K::LONGEST]?);
+    let mut noted = NotedOutlet::new(100);
+    let first = start(0, case.pointer, case.unit);
+    for _ in 0..case.times {
+        take(&mut reception, &first, &filter, &mut noted)?;
+    }
+    take(&mut reception, &start(1, 0, good), &filter, &mut noted)?;
+    let right = noted.order().len() as u64;
+    Ok(reception.counts() == case.counts && right == case.counts.datagrams)
+}
+
+#[test]
+fn each_packet_and_a_good_unit_after_it_are_counted(rt: HostRuntime) -> Result<(), Fail> {
+    for case in &SNDUS {
+        let counted = is_counted::<UleForm>(rt.alloc(), &SNDU, case)?;
+        assert!(rt; counted, "{}", case.name);
+    }
+    for case in &SECTIONS {
+        let counted = is_counted::<SectionForm>(rt.alloc(), &SECTION, case)?;
+        assert!(rt; counted, "{}", case.name);
+    }
+    Ok(())
+}
+
+/// RFC 4326 section 5: 2,000 optional headers of two bytes, in 22 packets, and a packet that does not follow.
+#[test]
+fn two_thousand_headers_are_passed(rt: HostRuntime) -> Result<(), Fail> {
+    let mut unit = [0u8; 4028];
+    unit[..4].copy_from_slice(&[0x8F, 0xB8, 1, 0]);
+    for place in 0..1999usize {
+        unit[4 + 2 * place] = 1;
+    }
+    unit[4002] = 8;
+    unit[4004..4024].copy_from_slice(&DATAGRAM);
+    unit[4024..].copy_from_slice(&[0xD4, 0xEF, 0x46, 0xC7]);
+    let filter = MacList::new(rt.alloc());
+    let buffer = vec![in rt.alloc(); 0u8; UleForm::LONGEST]?;
+    let mut reception = Reception::<UleForm, Global>::over(buffer);
+    let mut noted = NotedOutlet::new(100);
+    take(&mut reception, &start(0, 0, &unit), &filter, &mut noted)?;
+    for place in 0..21usize {
+        let packet = go_on(place as u8 + 1, &unit[183 + 184 * place..]);
+        take(&mut reception, &packet, &filter, &mut noted)?;
+    }
+    take(&mut reception, &start(0, 0, &SNDU), &filter, &mut noted)?;
+    let counts = Counts {
+        heard: 23,
+        gaps: 1,
+        ..TWO
+    };
+    assert_eq!(rt; reception.counts(), counts);
+    assert_eq!(rt; noted.order().len(), 2);
+    Ok(())
+}
+
+/// Of two units in a packet: from which call on the outlet refuses, how many calls there are, and how many datagrams are right.
+#[derive(Clone, Copy)]
+struct Refusal {
+    refuses_from: usize,
+    calls: usize,
+    right: usize,
+    is_ok: bool,
+}
+
+static REFUSALS: [Refusal; 3] = [
+    Refusal {
+        refuses_from: 1,
+        calls: 1,
+        right: 0,
+        is_ok: false,
+    },
+    Refusal {
+        refuses_from: 2,
+        calls: 2,
+        right: 1,
+        is_ok: false,
+    },
+    Refusal {
+        refuses_from: 3,
+        calls: 2,
+        right: 2,
+        is_ok: true,
+    },
+];
+
+/// Where the outlet refuses the first of two units, the second is not offered.
+#[test]
+fn after_a_refused_datagram_none_is_offered(rt: HostRuntime) -> Result<(), Fail> {
+    let mut units = [0u8; 56];
+    units[..28].copy_from_slice(&SNDU);
+    units[28..].copy_from_slice(&SNDU);
+    let packet = start(0, 0, &units);
+    let filter = MacList::new(rt.alloc());
+    for case in &REFUSALS {
+        let buffer = vec![in rt.alloc(); 0u8; UleForm::LONGEST]?;
+        let mut reception = Reception::<UleForm, Global>::over(buffer);
+        let mut noted = NotedOutlet::new(case.refuses_from);
+        let taken = take(&mut reception, &packet, &filter, &mut noted);
+        assert_eq!(rt; taken.is_ok(), case.is_ok);
+        assert_eq!(rt; noted.calls(), case.calls);
+        assert_eq!(rt; noted.order().len(), case.right);
+    }
+    Ok(())
+}
+
+/// A section on the INT's PID, and after it how many sections are counted and whether the first of an INT is kept.
+#[derive(Clone, Copy)]
+struct Table<'a> {
+    section: &'a [u8],
+    units: u64,
+    is_kept: bool,
+}
+
+/// The INT with another CRC-32.
+const DAMAGED_INT: [u8; 18] = [
+    0x4C, 0xF0, 0x0F, 0x01, 0x01, 0xC1, 0, 0, 0, 0, 1, 0, 0xF0, 0, 0x07, 0xE9, 0x3F, 0,
+];
+
+static TABLES: [Table; 5] = [
+    Table {
+        section: &DAMAGED_INT,
+        units: 0,
+        is_kept: false,
+    },
+    Table {
+        section: &OTHER,
+        units: 1,
+        is_kept: false,
+    },
+    Table {
+        section: &INT,
+        units: 2,
+        is_kept: true,
+    },
+    Table {
+        section: &NEXT_INT,
+        units: 3,
+        is_kept: true,
+    },
+    Table {
+        section: &OTHER,
+        units: 4,
+        is_kept: true,
+    },
+];
+
+/// EN 301 192 clause 8.4: each section counts, and the first with table_id 0x4C is kept.
+#[test]
+fn the_first_section_of_an_int_is_kept(rt: HostRuntime) -> Result<(), Fail> {
+    let buffer = vec![in rt.alloc(); 0u8; SectionForm::LONGEST]?;
+    let kept = vec![in rt.alloc(); 0u8; SectionForm::LONGEST]?;
+    let mut reception = TableReception::over(buffer, kept);
+    for (counter, case) in TABLES.iter().enumerate() {
+        let bytes = start(counter as u8, 0, case.section);
+        if let Ok(packet) = parse(&bytes) {
+            reception.take(&bytes, &packet, 0);
+        }
+        assert_eq!(rt; reception.units(), case.units);
+        let want: Option<&[u8]> = if case.is_kept { Some(&INT) } else { None };
+        assert_eq!(rt; reception.section(), want);
+    }
+    Ok(())
+}

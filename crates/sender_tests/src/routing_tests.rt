@@ -1,0 +1,161 @@
+//! What services are offered of captures, counted by hand.
+use datagram_routing::Offered;
+use service_plan::{Plan, read_plan};
+use std::alloc::Global;
+use std::test::Fail;
+use test_recordings::settings::{FILES, LECTURE, settings_of};
+use test_recordings::{Datagram, datagram_of};
+
+/// Files in SNDUs for the whole of 239.0.0.0/8.
+const ALL_FILES: &str = "[[service]]
+name = \"files\"
+kind = \"ule\"
+pid = 513
+rules = [\"239.0.0.0/8\"]
+";
+
+/// What three datagrams and a record without a datagram give.
+fn offered_of(alloc: Global, plan: &Plan, datagrams: [Datagram; 3]) -> Result<Offered, Fail> {
+    let [first, second, third] = datagrams;
+    let mut offered = Offered::new(alloc, plan)?;
+    offered.offer(plan, Some(&datagram_of(alloc, &first)?))?;
+    offered.offer(plan, Some(&datagram_of(alloc, &second)?))?;
+    offered.offer(plan, Some(&datagram_of(alloc, &third)?))?;
+    offered.offer(plan, None)?;
+    Ok(offered)
+}
+
+/// Datagrams, and what becomes of them.
+#[derive(Clone, Copy)]
+struct Case<'a> {
+    name: &'a str,
+    settings: &'a [&'a str],
+    datagrams: [Datagram; 3],
+    /// The sizes that each service is offered.
+    sizes: &'a [&'a [u16]],
+    unrouted: u32,
+    too_long: u32,
+}
+
+/// The first service with a rule that matches takes a datagram, or none does: 4,080 bytes go into a section, 32,757 into an SNDU.
+static CASES: [Case; 4] = [
+    Case {
+        name: "a rule matches",
+        settings: &[FILES],
+        datagrams: [
+            Datagram {
+                size: 28,
+                to: [239, 2, 0, 9],
+            },
+            Datagram {
+                size: 28,
+                to: [10, 0, 0, 9],
+            },
+            Datagram {
+                size: 20,
+                to: [239, 3, 0, 0],
+            },
+        ],
+        sizes: &[&[28]],
+        unrouted: 2,
+        too_long: 0,
+    },
+    Case {
+        name: "rules of two services match",
+        settings: &[LECTURE, ALL_FILES],
+        datagrams: [
+            Datagram {
+                size: 20,
+                to: [239, 1, 0, 9],
+            },
+            Datagram {
+                size: 21,
+                to: [239, 2, 0, 9],
+            },
+            Datagram {
+                size: 22,
+                to: [239, 1, 9, 9],
+            },
+        ],
+        sizes: &[&[20, 22], &[21]],
+        unrouted: 0,
+        too_long: 0,
+    },
+    Case {
+        name: "a section has 4,080 bytes of a datagram at most",
+        settings: &[LECTURE, ALL_FILES],
+        datagrams: [
+            Datagram {
+                size: 4080,
+                to: [239, 1, 0, 9],
+            },
+            Datagram {
+                size: 4081,
+                to: [239, 1, 0, 9],
+            },
+            Datagram {
+                size: 20,
+                to: [10, 0, 0, 9],
+            },
+        ],
+        sizes: &[&[4080], &[]],
+        unrouted: 1,
+        too_long: 1,
+    },
+    Case {
+        name: "an SNDU has 32,757 bytes of a datagram at most",
+        settings: &[LECTURE, ALL_FILES],
+        datagrams: [
+            Datagram {
+                size: 32757,
+                to: [239, 2, 0, 9],
+            },
+            Datagram {
+                size: 32758,
+                to: [239, 2, 0, 9],
+            },
+            Datagram {
+                size: 4081,
+                to: [239, 2, 0, 9],
+            },
+        ],
+        sizes: &[&[], &[32757, 4081]],
+        unrouted: 0,
+        too_long: 1,
+    },
+];
+
+/// Whether each service is offered datagrams of these sizes.
+fn are_sizes(offered: &Offered, sizes: &[&[u16]]) -> bool {
+    if offered.lists.len() != sizes.len() {
+        return false;
+    }
+    for k in 0..sizes.len() {
+        let list = offered.lists.at(k as u32);
+        if list.len() as usize != sizes[k].len() {
+            return false;
+        }
+        for i in 0..list.len() {
+            if list.at(i).len() != usize::from(sizes[k][i as usize]) {
+                return false;
+            }
+        }
+    }
+    true
+}
+
+#[test]
+fn the_first_service_with_a_rule_takes_what_fits_it(rt: HostRuntime) -> Result<(), Fail> {
+    for case in &CASES {
+        let settings = settings_of(rt.alloc(), case.settings)?;
+        let Ok(plan) = read_plan(rt.alloc(), settings.as_bytes()) else {
+            return Err(Fail::new("settings"));
+        };
+        let offered = offered_of(rt.alloc(), &plan, case.datagrams)?;
+        assert!(rt; are_sizes(&offered, case.sizes), "{}", case.name);
+        assert_eq!(rt; offered.not_ip, 1, "{}", case.name);
+        assert_eq!(rt; offered.unrouted, case.unrouted, "{}", case.name);
+        assert_eq!(rt; offered.too_long, case.too_long, "{}", case.name);
+    }
+    Ok(())
+}

@@ -1,0 +1,211 @@
+//! What a run is given -> the objects in memory; what they hold after it -> how that differs from what they must hold.
+use ipe_io::{MemRack, MemShelf, MemSink, MemSource};
+use std::alloc::{AllocError as OutOfMemory, Global};
+
+/// A call that fails, by its number among those of its object, from 0.
+#[derive(Clone, Copy)]
+pub enum Failing {
+    Shelf(u32),
+    Input(u32),
+    Output(u32),
+    Rack(u32),
+}
+
+impl Failing {
+    /// Its number.
+    pub fn call(self) -> u32 {
+        match self {
+            Failing::Shelf(call)
+            | Failing::Input(call)
+            | Failing::Output(call)
+            | Failing::Rack(call) => call,
+        }
+    }
+
+    /// Another call of the same object.
+    pub fn at(self, call: u32) -> Failing {
+        match self {
+            Failing::Shelf(_) => Failing::Shelf(call),
+            Failing::Input(_) => Failing::Input(call),
+            Failing::Output(_) => Failing::Output(call),
+            Failing::Rack(_) => Failing::Rack(call),
+        }
+    }
+}
+
+/// What a run is given.
+#[derive(Clone, Copy)]
+pub struct Given<'a> {
+    /// The words after the program's name.
+    pub words: &'a [&'a str],
+    /// The name of the one file on the shelf, and its bytes.
+    pub name: &'a str,
+    pub settings: &'a [u8],
+    /// The input's bytes, of which a read gives 100 at most.
+    pub input: &'a [u8],
+    /// How many bytes the output takes.
+    pub room: usize,
+    pub fails: &'a [Failing],
+}
+
+/// The words, the settings under the name `a.toml`, and the input. The output takes 10,000 bytes, and no call fails.
+pub fn faultless<'a>(words: &'a [&'a str], settings: &'a [u8], input: &'a [u8]) -> Given<'a> {
+    Given {
+        words,
+        name: "a.toml",
+        settings,
+        input,
+        room: 10_000,
+        fails: &[],
+    }
+}
+
+/// The words as a program gets them.
+pub fn words_of(alloc: Global, words: &[&str]) -> Result<Vec<String>, OutOfMemory> {
+    let mut all = Vec::new(alloc);
+    for word in words {
+        all.push(word.to_string(alloc)?)?;
+    }
+    Ok(all)
+}
+
+/// The objects of a run. The rack takes two files of 10,000 bytes.
+#[derive(Drop)]
+pub struct Outside {
+    pub shelf: MemShelf,
+    pub input: MemSource,
+    pub output: MemSink,
+    pub rack: MemRack,
+    pub complaints: MemSink,
+}
+
+/// A file: its name, its bytes, and how many of them are flushed.
+#[derive(Clone, Copy)]
+pub struct FileLeft<'a> {
+    pub name: &'a str,
+    pub bytes: &'a [u8],
+    pub flushed: usize,
+}
+
+/// What a run must leave.
+#[derive(Clone, Copy)]
+pub struct Left<'a> {
+    /// The output's bytes, and how many of them are flushed.
+    pub output: &'a [u8],
+    pub flushed: usize,
+    /// What is reported.
+    pub line: &'a str,
+    /// The files of the rack.
+    pub files: &'a [FileLeft<'a>],
+}
+
+impl<'a> Left<'a> {
+    /// This line, and nothing else.
+    pub fn line(line: &'a str) -> Left<'a> {
+        Left {
+            output: &[],
+            flushed: 0,
+            line,
+            files: &[],
+        }
+    }
+}
+
+/// The numbers of the calls that fail, by their objects.
+#[derive(Drop)]
+struct Calls {
+    shelf: Vec<u32>,
+    input: Vec<u32>,
+    output: Vec<u32>,
+    rack: Vec<u32>,
+}
+
+/// The calls that fail, by their objects.
+fn calls_of(alloc: Global, fails: &[Failing]) -> Result<Calls, OutOfMemory> {
+    let mut calls = Calls {
+        shelf: Vec::new(alloc),
+        input: Vec::new(alloc),
+        output: Vec::new(alloc),
+        rack: Vec::new(alloc),
+    };
+    for failing in fails {
+        match *failing {
+            Failing::Shelf(call) => calls.shelf.push(call)?,
+            Failing::Input(call) => calls.input.push(call)?,
+            Failing::Output(call) => calls.output.push(call)?,
+            Failing::Rack(call) => calls.rack.push(call)?,
+        }
+    }
+    Ok(calls)
+}
+
+impl Outside {
+    /// The objects that a run is given.
+    pub fn new(alloc: Global, given: &Given<'_>) -> Result<Outside, OutOfMemory> {
+        let calls = calls_of(alloc, given.fails)?;
+        Ok(Outside {
+            shelf: MemShelf::new(alloc, given.name, given.settings, &calls.shelf)?,
+            input: MemSource::new(alloc, given.input, 100, &calls.input)?,
+            output: MemSink::new(alloc, given.room, &calls.output)?,
+            rack: MemRack::new(alloc, 2, 10_000, &calls.rack)?,
+            complaints: MemSink::new(alloc, 200, &[])?,
+        })
+    }
+
+    /// What differs from what a run must leave; an empty text where nothing does.
+    pub fn difference(&self, left: &Left<'_>) -> &'static str {
+        if self.complaints.bytes() != left.line.as_bytes() {
+            return "the line";
+        }
+        if self.output.bytes() != left.output {
+            return "the output";
+        }
+        if self.output.flushed() != left.flushed {
+            return "what is flushed of the output";
+        }
+        difference_of_files(&self.rack, left.files)
+    }
+
+    /// Whether the output and each file are a front of those of another run, without a file that it does not have.
+    pub fn is_front_of(&self, whole: &Outside) -> bool {
+        whole.output.bytes().starts_with(self.output.bytes()) && are_fronts(&self.rack, &whole.rack)
+    }
+}
+
+/// What differs from what a rack must hold; an empty text where nothing does.
+pub fn difference_of_files(rack: &MemRack, files: &[FileLeft<'_>]) -> &'static str {
+    if rack.files() as usize != files.len() {
+        return "the number of files";
+    }
+    for at in 0..rack.files() {
+        let Some(file) = files.get(at as usize) else {
+            return "the number of files";
+        };
+        if rack.name(at) != file.name {
+            return "the name of a file";
+        }
+        if rack.file(at) != file.bytes {
+            return "a file";
+        }
+        if rack.flushed(at) != file.flushed {
+            return "what is flushed of a file";
+        }
+    }
+    ""
+}
+
+/// Whether the files of a rack are fronts of those of another.
+fn are_fronts(part: &MemRack, whole: &MemRack) -> bool {
+    if part.files() > whole.files() {
+        return false;
+    }
+    for at in 0..part.files() {
+        if at >= whole.files() {
+            return false;
+        }
+        if part.name(at) != whole.name(at) || !whole.file(at).starts_with(part.file(at)) {
+            return false;
+        }
+    }
+    true
+}

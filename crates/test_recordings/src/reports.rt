@@ -1,0 +1,104 @@
+//! Numbers -> the text of the report of a reception.
+use std::alloc::{AllocError as OutOfMemory, Global};
+
+/// What a report says of a service.
+#[derive(Clone, Copy)]
+pub struct Numbers {
+    pub heard: u64,
+    pub repeats: u64,
+    pub gaps: u64,
+    pub units: u64,
+    pub bad_check: u64,
+    pub delimited: u64,
+    pub filtered: u64,
+    pub datagrams: u64,
+}
+
+impl Numbers {
+    /// Nothing was counted.
+    pub const NONE: Numbers = Numbers {
+        heard: 0,
+        repeats: 0,
+        gaps: 0,
+        units: 0,
+        bad_check: 0,
+        delimited: 0,
+        filtered: 0,
+        datagrams: 0,
+    };
+}
+
+/// A service, and what is said of it. Its units are read, and it has no MPE-FEC frames.
+#[derive(Clone, Copy)]
+pub struct ServiceReport<'a> {
+    pub name: &'a str,
+    pub numbers: Numbers,
+}
+
+/// What is said of the INT: the sections, why the first was refused or 0, and the component_tag of each rule.
+#[derive(Clone, Copy)]
+pub struct TableReport<'a> {
+    pub units: u64,
+    pub refused: u64,
+    pub rules: &'a [(&'a str, u64)],
+}
+
+/// What a report says. Each packet has a payload.
+#[derive(Clone, Copy)]
+pub struct Report<'a> {
+    pub records: u64,
+    pub tail_bytes: u64,
+    pub unreadable: u64,
+    pub other: u64,
+    pub services: &'a [ServiceReport<'a>],
+    /// None where the settings have no INT.
+    pub table: Option<TableReport<'a>>,
+}
+
+/// Appends the lines of a service.
+fn put_service(into: &mut String, service: &ServiceReport<'_>) -> Result<(), OutOfMemory> {
+    let numbers = &service.numbers;
+    let lines = [
+        ("heard", numbers.heard),
+        ("repeats", numbers.repeats),
+        ("gaps", numbers.gaps),
+        ("units", numbers.units),
+        ("bad_check", numbers.bad_check),
+        ("delimited", numbers.delimited),
+        ("bad_length", 0),
+        ("unread", 0),
+        ("filtered", numbers.filtered),
+        ("frames", 0),
+        ("rows_mended", 0),
+        ("rows_left", 0),
+        ("datagrams", numbers.datagrams),
+    ];
+    for (line, number) in lines {
+        write!(into, "{},{line},{number}\n", service.name)?;
+    }
+    Ok(())
+}
+
+/// The text of a report.
+pub fn report_of(alloc: Global, report: &Report<'_>) -> Result<String, OutOfMemory> {
+    let mut text = "scope,name,value\n".to_string(alloc)?;
+    write!(&mut text, "stream,records,{}\n", report.records)?;
+    write!(&mut text, "stream,tail_bytes,{}\n", report.tail_bytes)?;
+    write!(&mut text, "stream,unreadable,{}\n", report.unreadable)?;
+    text.push_str("stream,without_payload,0\n")?;
+    write!(&mut text, "stream,other,{}\n", report.other)?;
+    for service in report.services {
+        put_service(&mut text, service)?;
+    }
+    if let Some(table) = &report.table {
+        write!(
+            &mut text,
+            "table,units,{}\ntable,refused,{}\n",
+            table.units, table.refused
+        )?;
+        for (rule, tag) in table.rules {
+            write!(&mut text, "rule,{rule},{tag}\n")?;
+        }
+    }
+    Ok(text)
+}
