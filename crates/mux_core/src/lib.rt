@@ -7,17 +7,18 @@
 mod batch;
 #[cfg(test)]
 mod built;
-mod lanes;
-mod packets;
+mod int_packets;
+mod int_section;
 mod records;
 mod sending;
+mod service_packets;
 mod services;
 mod slots;
-mod table;
+mod stamps;
 #[cfg(test)]
 mod tests;
+mod unit_window;
 mod units;
-mod window;
 
 pub use datagram_routing::{Lists, Offered};
 pub use sending::{MuxFault, Sent, stream};
