@@ -1,5 +1,5 @@
 -- Plans to try the definitions on: a lecture in sliced frames and files in SNDUs.
-use Rattle.std.specs.Prelude.{ℕ, [], ◌∷◌, codes, Some}
+use Rattle.std.specs.Prelude.{ℕ, [], ◌∷◌, true, codes, Some}
 use Rattle.ts_spec.specs.Recording.{RecordingForm, stamped}
 use Rattle.plan_spec.specs.Plan.{ule, fec, PlanFields}
 use Rattle.plan_spec.specs.Given.{sample_service, sample_plan}
