@@ -25,7 +25,7 @@ use Rattle.ts_spec.specs.Packetized.{packet_at}
 use Rattle.section_spec.specs.Section.{section_form}
 use Rattle.unit_stream.specs.Packing.{packetized}
 use Rattle.stream_spec.specs.Stream.{int_packets, written}
-use Rattle.mux_core.specs.IntPackets.{OnWay}
+use Rattle.mux_core.specs.SectionPackets.{OnWay}
 use Rattle.section_codec.proofs.Written.{length-section_bytes}
 use Rattle.mux_core.specs.Slots.{is_early}
 use Rattle.mux_core.specs.IntPackets.{IsSignalled, IsSignalling, IsTableAt, packet_of_table}

@@ -1,38 +1,12 @@
 -- The INT on its way: its section is packetized anew in each cycle.
-use Rattle.std.specs.Prelude.{◌≡◌, ℕ, ◌+◌, ◌*◌, ◌/◌, ◌%◌, ◌<◌, ◌≤◌, Bool, true, List, [], ◌∷◌, length, drop, min, Option, Some, None}
+use Rattle.std.specs.Prelude.{◌≡◌, ℕ, ◌+◌, ◌*◌, ◌/◌, ◌%◌, ◌<◌, ◌≤◌, true, List, [], ◌∷◌, drop, min, Option, Some, None}
 use Rattle.int_spec.specs.Table.{table_bytes}
 use Rattle.plan_spec.specs.Plan.{IntFields, PlanFields}
 use Rattle.plan_spec.specs.Signalling.{table_of, table_packets}
-use Rattle.ts_spec.specs.Packet.{PacketFields}
 use Rattle.ts_spec.specs.Packetized.{packet_at}
-use Rattle.section_spec.specs.Section.{section_form}
 use Rattle.stream_spec.specs.Stream.{int_packets, written}
-use Rattle.unit_stream.specs.Packers.{PackerState, IsOnWay, packets_left}
+use Rattle.mux_core.specs.SectionPackets.{OnWay}
 use Rattle.mux_core.specs.declared.int_packets.IntPackets.{IntPackets}
-
--- units on their way: what packetizes them, and the packets still to come
-pub record OnWay : Type 0 where
-  pub pid : ℕ
-  pub packing : Bool
-  pub counter : ℕ
-  pub units : List (List ℕ)
-  pub packets : List PacketFields
-
--- what a packer and its section are seen as
-abbrev pub on_way : PackerState → List ℕ → List ℕ → OnWay
-on_way packer section ends = record {
-  pid = packer.pid;
-  packing = packer.packing;
-  counter = packer.counter;
-  units = section ∷ [];
-  packets = packets_left section_form packer section ends;
-}
-
--- the packer is on its way through the section, which ends here
-pub record IsPacking (packer : PackerState) (section ends : List ℕ) : Type 0 where
-  pub ends_are : ends ≡ length section ∷ []
-  pub some : 0 < length section
-  pub way : IsOnWay packer ends
 
 -- before this slot the packets of the INT are so far out
 pub record IsSignalled (plan : PlanFields) (int : IntFields) (slot : ℕ) (way : OnWay) : Type 0 where

@@ -25,7 +25,7 @@ pub(crate) struct SectionPackets {
 }
 
 impl Model for SectionPackets {
-    ghost use Rattle.mux_core.specs.IntPackets.{OnWay, on_way, IsPacking};
+    ghost use Rattle.mux_core.specs.SectionPackets.{OnWay, on_way, IsPacking};
 
     ghost Value = { OnWay };
 

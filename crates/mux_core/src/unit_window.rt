@@ -43,8 +43,9 @@ impl UnitWindow {
         ensures empty { IfOk result (λ window. (window.from ≡ 0) × (window.fill ≡ 0) × (window.count ≡ 0)) }
         ensures size { IfOk result (λ window. length window.buffer.items ≡ 32957) }
     {
+        let buffer = zeros(alloc, SIZE)?;
         Ok(UnitWindow {
-            buffer: zeros(alloc, SIZE)?,
+            buffer,
             from: 0,
             fill: 0,
             count: 0,

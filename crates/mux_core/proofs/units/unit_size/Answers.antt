@@ -12,7 +12,8 @@ returns-in-Ule-clause-size c =
     let unicast : List ℕ = c.args.service.now.unicast in
     let datagram : List ℕ = c.args.datagram.now in
     let npa : Option (List ℕ) = cond c.in-Ule.address (Some (mac_for unicast datagram)) None in
-    let is = npa_is c.in-Ule.address unicast datagram c.array_bytes.ensures.size in
+    let six : length unicast ≡ 6 = ap (λ (bytes : List ℕ). length bytes) (sym c.array_bytes.ensures.same) ∙ c.array_bytes.ensures.size in
+    let is = npa_is c.in-Ule.address unicast datagram six in
     c.size.ensures.size npa (ether_type_of datagram) datagram is.0 is.1 refl ∙ sym (ap (λ (k : Kind). length (unit_of (kind_seen k) unicast datagram)) c.in-Ule.is)
 
 pub returns-in-Mpe-clause-size : goal.returns-in-Mpe-clause-size

@@ -1,7 +1,7 @@
 use Rattle.std.proofs.Common.{ℕ, ◌%◌, ap, sym, ◌∙◌, arith, refl, subst, Option}
 use Rattle.plan_spec.specs.Plan.{PlanFields}
 use Rattle.plan.specs.PlanView.{plan_fields}
-use Rattle.mux_core.specs.IntPackets.{OnWay}
+use Rattle.mux_core.specs.SectionPackets.{OnWay}
 use Rattle.mux_core.specs.IntPackets.{IsSignalling}
 use Rattle.stream_law.proofs.Plans.{ranges, at_least}
 use Rattle.mux_core.proofs.Signalled.{IsReady, none_is_not, ready_first, ready_behind, ready_some, ready_next}
