@@ -17,29 +17,38 @@ module _ (plan : PlanFields) (services : List (List PacketFields)) (slot : ℕ) 
   record_is = record_of_slot plan services slot
 
   -- the stamp was written, and then the packet after it
-  pub record_written : (old mid rest packet : List ℕ) (size : ℕ) → size ≡ length stamp → size ≤ 8 → mid ≡ stamp ++ drop size old → rest ≡ take (length mid - size) (drop size mid)
-      → length packet ≡ 188 → TakesSlot plan services slot serving packet
-      → WritesRecord plan services slot serving old (take size mid ++ ((packet ++ drop 188 rest) ++ post_of size (length mid - size) mid)) (size + 188)
-  record_written old mid rest packet size size_is few mid_is rest_is long took = record {
+  pub record_written : (old mid rest new : List ℕ) (size : ℕ) → size ≡ length stamp → size ≤ 8 → mid ≡ stamp ++ drop size old → 196 ≤ length old
+      → rest ≡ take (length mid - size) (drop size mid) → drop 188 new ≡ drop 188 rest → length new ≡ length rest → TakesSlot plan services slot serving (take 188 new)
+      → WritesRecord plan services slot serving old (take size mid ++ (new ++ post_of size (length mid - size) mid)) (size + 188)
+  record_written old mid rest new size size_is few mid_is room rest_is behind same took = record {
     bytes_are = whole;
-    size_is = omega (arith, size_is, length-append stamp packet, long, ap length (ap (λ (t : List ℕ). stamp ++ t) took.bytes_are));
+    size_is = omega (arith, size_is, length-append stamp (take 188 new), length-take-le 188 new (omega (arith, long)), ap length (ap (λ (t : List ℕ). stamp ++ t) took.bytes_are));
     after = took.after;
     of_service = took.of_service;
   }
     where
-      rest_is_old : rest ≡ drop size old
-      rest_is_old =
+      back : drop size mid ≡ drop size old
+      back = ap (drop size) mid_is ∙ drop_at stamp (drop size old) size (sym size_is)
+
+      rest_all : rest ≡ drop size old
+      rest_all =
           let count : length mid - size ≡ length (drop size mid) = sym (length-drop size mid) in
-          rest_is ∙ ap (λ (n : ℕ). take n (drop size mid)) count ∙ take-length (drop size mid) ∙ ap (drop size) mid_is ∙ drop_at stamp (drop size old) size (sym size_is)
+          rest_is ∙ ap (λ (n : ℕ). take n (drop size mid)) count ∙ take-length (drop size mid) ∙ back
+
+      long : 188 ≤ length new
+      long = omega (arith, same, ap length rest_all, length-drop size old, room, few)
 
       none : post_of size (length mid - size) mid ≡ []
       none = drop_all (length mid - size) (drop size mid) (omega (arith, length-drop size mid))
 
-      whole : take size mid ++ ((packet ++ drop 188 rest) ++ post_of size (length mid - size) mid) ≡ record_is ++ drop (size + 188) old
+      new_is : new ≡ take 188 new ++ drop (size + 188) old
+      new_is = sym (take-append-drop 188 new) ∙ ap (λ (t : List ℕ). take 188 new ++ t) (behind ∙ ap (drop 188) rest_all ∙ drop-drop 188 size old)
+
+      whole : take size mid ++ (new ++ post_of size (length mid - size) mid) ≡ record_is ++ drop (size + 188) old
       whole =
-          ap₂ (λ (a b : List ℕ). a ++ ((packet ++ drop 188 rest) ++ b)) (ap (take size) mid_is ∙ take_at stamp (drop size old) size (sym size_is)) none
-          ∙ ap (λ (t : List ℕ). stamp ++ t) (append-nil (packet ++ drop 188 rest) ∙ ap (λ (t : List ℕ). packet ++ t) (ap (drop 188) rest_is_old ∙ drop-drop 188 size old))
-          ∙ sym (append_assoc stamp packet (drop (size + 188) old))
+          ap₂ (λ (a b : List ℕ). a ++ (new ++ b)) (ap (take size) mid_is ∙ take_at stamp (drop size old) size (sym size_is)) none
+          ∙ ap (λ (t : List ℕ). stamp ++ t) (append-nil new ∙ new_is)
+          ∙ sym (append_assoc stamp (take 188 new) (drop (size + 188) old))
           ∙ ap (λ (t : List ℕ). (stamp ++ t) ++ drop (size + 188) old) took.bytes_are
 
   -- it was written after the others

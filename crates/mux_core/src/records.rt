@@ -1,5 +1,5 @@
 //! A slot -> its record: the time stamp, and the packet of the INT or of the service whose turn it is.
-ghost use Rattle.std.specs.Prelude.{◌≡◌, ◌≤◌, ◌+◌, ℕ, List, length, Some, if◌then◌else◌};
+ghost use Rattle.std.specs.Prelude.{◌≡◌, ◌≤◌, ◌+◌, ℕ, List, length, take, drop, Some, if◌then◌else◌};
 ghost use Rattle.ts_spec.specs.Packet.{PacketFields};
 ghost use Rattle.plan.specs.PlanView.{plan_fields};
 ghost use Rattle.mux_core.specs.Services.{packet_total, turn_of, AreAt};
@@ -50,6 +50,32 @@ fn packet_for_slot(
     }
 }
 
+/// Writes the packet of a slot to the front of `into`.
+fn put_packet(
+    plan: &Plan,
+    services: &mut Services<'_>,
+    turn: usize,
+    table: &mut IntPackets,
+    slot: u64,
+    into: &mut [u8],
+)
+    requires room { 188 ≤ length into.old }
+    requires table { IsTableAt (plan_fields plan.now) slot table.old }
+    requires turn { turn_of services.old ≡ Some turn }
+    ensures table { IsTableAt (plan_fields plan.now) (slot + 1) table.new }
+    ensures services { (lists : List (List PacketFields)) → AreAt lists (turns_in (plan_fields plan.now) lists slot) services.old
+        → TakesSlot (plan_fields plan.now) lists slot services.new (take 188 into.new) }
+    ensures after { drop 188 into.new ≡ drop 188 into.old }
+    ensures size { length into.new ≡ length into.old }
+    ensures left { packet_total services.old.packets ≡ packet_total services.new.packets + (if is_early (plan_fields plan.now) slot then 0 else 1) }
+    ensures count { table.new.count ≡ table.old.count }
+{
+    let Some(packet) = into.first_chunk_mut::<PACKET>() else {
+        unreachable!();
+    };
+    packet_for_slot(plan, services, turn, table, slot, packet);
+}
+
 /// Writes the record of a slot to the front of `into`, its stamp and its packet; answers its length, 188, 192 or 196 bytes.
 pub(crate) fn write_record(
     plan: &Plan,
@@ -70,9 +96,6 @@ pub(crate) fn write_record(
     ensures count { table.new.count ≡ table.old.count }
 {
     let stamp = write_stamp(plan.recording, plan.packet_rate, slot, into);
-    let Some(packet) = into[stamp..].first_chunk_mut::<PACKET>() else {
-        unreachable!();
-    };
-    packet_for_slot(plan, services, turn, table, slot, packet);
+    put_packet(plan, services, turn, table, slot, &mut into[stamp..]);
     stamp + PACKET
 }
