@@ -1,6 +1,6 @@
 //! The datagrams of a capture, each in the list of the service that takes it, and the numbers of the others.
 //!
-//! Sending: capture -> pcap_file -> [datagram_routing] -> packets of each service -> stream.
+//! Sending: capture -> pcap_file -> [datagram_routing] -> mux_core -> Sink.
 //! Begin with `Offered::new` and `Offered::offer`.
 #![tactic(auto)]
 

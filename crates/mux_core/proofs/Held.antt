@@ -1,8 +1,9 @@
 -- Units one after another in a buffer.
-use Rattle.std.proofs.Common.{◌≡◌, ℕ, zero, suc, ◌+◌, ◌-◌, ◌≤◌, Bool, true, false, cond, eqb, List, [], ◌∷◌, ◌++◌, length, map, take, drop, get_or, refl, sym, ap, ◌∙◌, arith, append_assoc, append-nil, length-drop, Option, Some, None, subst}
+use Rattle.std.proofs.Common.{◌≡◌, ℕ, zero, suc, ◌+◌, ◌-◌, ◌<◌, ◌≤◌, Bool, true, false, cond, eqb, List, [], ◌∷◌, ◌++◌, length, map, take, drop, get_or, refl, sym, ap, ◌∙◌, arith, append_assoc, append-nil, length-drop, Option, Some, None, subst}
 use Rattle.std.specs.Prelude.{All, slice_get}
 use Rattle.std.specs.Int.{w32, to_be_bytes}
 use Rattle.std.proofs.lemmas.List.{length-append, length-take-le, take_at, drop_at, map-append}
+use Rattle.std.proofs.Math.Seq.{take-length}
 use Rattle.wire_spec.specs.Lists.{joined}
 use Rattle.wire_spec.specs.Crc.{crc32_remainder}
 use Rattle.ts_spec.specs.Form.{UnitForm}
@@ -12,9 +13,9 @@ use Rattle.section_codec.proofs.Written.{length-section_bytes}
 use Rattle.unit_stream.specs.Packing.{filled, may_begin, begin_piece, middle_piece, pieces, byte_count, packetized}
 use Rattle.unit_stream.specs.Packers.{between, units_from, units_of, AreRising, end_of, AreEnds}
 use Rattle.unit_stream.proofs.Written.{length-numbered}
-use Rattle.stream_spec.specs.Units.{mac_for, sndu_of, section_of}
 use Rattle.wire_spec.specs.Datagram.{ether_type_of}
-use Rattle.mux_core.specs.Units.{ends_from, HoldUnits}
+use Rattle.stream_spec.specs.Units.{mac_for, sndu_of, section_of}
+use Rattle.mux_core.specs.Units.{ends_from}
 use Rattle.mux_core.proofs.Items.{take_next}
 
 -- Where units end.
@@ -100,9 +101,6 @@ units_ended units rest all is = from_place 0 [] units rest refl is
         ap (λ (t : List ℕ). t ∷ units_from (from + length unit) all (ends_from (from + length unit) us)) first
         ∙ ap (λ (t : List (List ℕ)). unit ∷ t) (from_place (from + length unit) (front ++ unit) us rest (omega (arith, at, length-append front unit)) behind)
 
-pub units_held : (units : List (List ℕ)) (bytes ends : List ℕ) → HoldUnits units bytes ends → units_of bytes ends ≡ units
-units_held units bytes ends held = ap (units_from 0 bytes) held.ends_are ∙ units_ended units held.rest bytes held.bytes_are
-
 -- the units of bytes that are of nothing else
 pub units_joined : (units : List (List ℕ)) (ends : List ℕ) → ends ≡ ends_from 0 units → units_of (joined units) ends ≡ units
 units_joined units ends are = ap (units_from 0 (joined units)) are ∙ units_ended units [] (joined units) (sym (append-nil (joined units)))
@@ -118,22 +116,16 @@ pub last_held : (from : ℕ) (units : List (List ℕ)) → get_or (from ∷ ends
 last_held from [] = omega arith
 last_held from (unit ∷ units) = omega (arith, last_held (from + length unit) units, length-append unit (joined units))
 
-pub ends_held : (start : ℕ) (units : List (List ℕ)) (bytes ends : List ℕ) → HoldUnits units bytes ends → All (λ (unit : List ℕ). start ≤ length unit) units → AreEnds start (length bytes) ends
-ends_held start units bytes ends held least = record {
-  rising = subst (AreRising start 0) (sym held.ends_are) (rising_held start 0 units least);
-  within = omega (arith, ap (λ (e : List ℕ). end_of e (length e)) held.ends_are, last_held 0 units, ap length held.bytes_are, length-append (joined units) held.rest);
-}
+-- One unit alone in a buffer.
 
--- one unit alone
-pub one_held : (section bytes ends into : List ℕ) (size : ℕ) → take size into ≡ section → size ≡ length section → bytes ≡ take size into → ends ≡ size ∷ [] → HoldUnits (section ∷ []) bytes ends
-one_held section bytes ends into size took size_is bytes_are ends_are = record {
-  rest = [];
-  bytes_are = bytes_are ∙ took ∙ sym (append-nil (section ++ []) ∙ append-nil section);
-  ends_are = ends_are ∙ ap (λ (n : ℕ). n ∷ []) (size_is ∙ zero_more (length section));
-}
+pub one_unit : (unit ends : List ℕ) → ends ≡ length unit ∷ [] → units_of unit ends ≡ unit ∷ []
+one_unit unit ends are = ap (units_of unit) are ∙ ap (λ (u : List ℕ). u ∷ []) (ap (λ (n : ℕ). take n unit) (whole (length unit)) ∙ take-length unit)
   where
-    zero_more : (n : ℕ) → n ≡ 0 + n
-    zero_more n = omega arith
+    whole : (n : ℕ) → n - 0 ≡ n
+    whole n = omega arith
+
+pub one_end : (unit ends : List ℕ) → ends ≡ length unit ∷ [] → 0 < length unit → AreEnds 1 (length unit) ends
+one_end unit ends are some = subst (AreEnds 1 (length unit)) (sym are) (record { rising = (omega (arith, some), tt); within = omega arith })
 
 -- Sizes.
 

@@ -1,7 +1,8 @@
 -- Items of lists at a place.
-use Rattle.std.proofs.Common.{◌≡◌, ℕ, zero, suc, ◌+◌, Bool, true, false, ◌&&◌, List, [], ◌∷◌, ◌++◌, length, map, take, drop, refl, sym, ap, ◌∙◌, add-one, subst}
+use Rattle.std.proofs.Common.{◌≡◌, ℕ, zero, suc, ◌+◌, Bool, true, false, ◌&&◌, List, [], ◌∷◌, ◌++◌, length, map, take, drop, replicate, refl, sym, ap, ◌∙◌, add-one, subst}
 use Rattle.std.specs.Prelude.{All, slice_get, Some, sum_by}
 use Rattle.std.specs.List.{list_all}
+use Rattle.std.proofs.lemmas.List.{length-replicate}
 use Rattle.std.proofs.lemmas.Option.{slice_get_within, get_or_from_slice_get}
 use Rattle.std.proofs.lemmas.List.Elements.{All-push}
 use Rattle.std.proofs.lemmas.List.Sums.{sum_by-cons}
@@ -46,3 +47,7 @@ lengths_next lists i x found =
 -- a test of all, from one on and from the next
 pub list_all_next : {X : Type 0} (p : X → Bool) (xs : List X) (i : ℕ) (x : X) → slice_get xs i ≡ Some x → list_all p (drop i xs) ≡ (p x && list_all p (drop (i + 1) xs))
 list_all_next p xs i x found = ap (list_all p) (drop_from xs i x found)
+
+-- how many zeros there are
+pub length-zeros : (bytes : List ℕ) (count : ℕ) → bytes ≡ replicate count 0 → length bytes ≡ count
+length-zeros bytes count is = ap length is ∙ length-replicate count 0

@@ -2,7 +2,7 @@ pub mod Items
 pub mod Held
 pub mod Windows
 pub mod Turned
-pub mod Laned
+pub mod Serviced
 pub mod Signalled
 pub mod Stepped
 pub mod Ended

@@ -25,14 +25,11 @@ use Rattle.ts_spec.specs.Packetized.{packet_at}
 use Rattle.section_spec.specs.Section.{section_form}
 use Rattle.unit_stream.specs.Packing.{packetized}
 use Rattle.stream_spec.specs.Stream.{int_packets, written}
-use Rattle.mux_core.specs.Lanes.{OnWay}
-use Rattle.mux_core.specs.Units.{HoldUnits}
-use Rattle.unit_stream.specs.Packers.{units_of, AreEnds}
+use Rattle.mux_core.specs.SectionPackets.{OnWay}
 use Rattle.section_codec.proofs.Written.{length-section_bytes}
 use Rattle.mux_core.specs.Slots.{is_early}
-use Rattle.mux_core.specs.Tables.{IsSignalled, IsSignalling, IsTableAt, packet_of_table}
-use Rattle.mux_core.specs.declared.table.TablePackets.{TablePackets}
-use Rattle.mux_core.proofs.Held.{units_held, ends_held}
+use Rattle.mux_core.specs.IntPackets.{IsSignalled, IsSignalling, IsTableAt, packet_of_table}
+use Rattle.mux_core.specs.declared.int_packets.IntPackets.{IntPackets}
 use Rattle.mux_core.proofs.Items.{list_all_at}
 
 -- What a plan says of its parts.
@@ -299,35 +296,31 @@ module _ (plan : PlanFields) (accepted : is_plan plan ≡ true) (slot : ℕ) whe
 
 -- before the first slot
 module _ (plan : PlanFields) (accepted : is_plan plan ≡ true) where
-  pub no_table_at : (table : TablePackets) → plan.table ≡ None → table.count ≡ 0 → IsTableAt plan 0 table
+  pub no_table_at : (table : IntPackets) → plan.table ≡ None → table.count ≡ 0 → IsTableAt plan 0 table
   no_table_at table none count = record {
     count = count ∙ sym (none_without plan none);
     packets = subst (λ (t : Option IntFields). IsSignalling plan t 0 table.packets) (sym none) tt;
   }
 
-  pub table_at : (int : IntFields) (way : OnWay) (count : ℕ) (bytes ends : List ℕ) → plan.table ≡ Some int → HoldUnits (table_bytes (table_of plan int) ∷ []) bytes ends
-      → way ≡ record { pid = int.pid; packing = true; counter = 0; units = units_of bytes ends; packets = packetized section_form true int.pid 0 (units_of bytes ends) }
-      → count ≡ length way.packets → (count ≡ table_packets plan) × IsSignalling plan plan.table 0 (Some way)
-  table_at int way count bytes ends is held way_is count_is =
-      let units : units_of bytes ends ≡ table_bytes (table_of plan int) ∷ [] = units_held (table_bytes (table_of plan int) ∷ []) bytes ends held in
-      let packets : way.packets ≡ int_packets plan (Some int) 0
-      = ap (λ (w : OnWay). w.packets) way_is ∙ ap (λ (us : List (List ℕ)). packetized section_form true int.pid 0 us) units ∙ ap (λ (n : ℕ). packetized section_form true int.pid n (table_bytes (table_of plan int) ∷ [])) (none (table_packets plan)) in (
+  pub table_at : (int : IntFields) (way : OnWay) (count : ℕ) (section : List ℕ) → plan.table ≡ Some int → section ≡ table_bytes (table_of plan int)
+      → way ≡ record { pid = int.pid; packing = true; counter = 0; units = section ∷ []; packets = packetized section_form true int.pid 0 (section ∷ []) }
+      → count ≡ length (packetized section_form true int.pid 0 (section ∷ [])) → (count ≡ table_packets plan) × IsSignalling plan plan.table 0 (Some way)
+  table_at int way count section is section_is way_is count_is =
+      let packets : packetized section_form true int.pid 0 (section ∷ []) ≡ int_packets plan (Some int) 0
+      = ap (λ (unit : List ℕ). packetized section_form true int.pid 0 (unit ∷ [])) section_is
+      ∙ ap (λ (n : ℕ). packetized section_form true int.pid n (table_bytes (table_of plan int) ∷ [])) (none (table_packets plan)) in (
         omega (arith, count_is, ap (λ (ps : List PacketFields). length ps) packets, length-int_packets plan int 0 is),
         subst (λ (t : Option IntFields). IsSignalling plan t 0 (Some way)) (sym is)
             (signalled_first plan int (cycle_some plan accepted 0) (leaves plan accepted 0) way (ap (λ (w : OnWay). w.pid) way_is) (ap (λ (w : OnWay). w.packing) way_is)
-            (ap (λ (w : OnWay). w.units) way_is ∙ units) (ap (λ (w : OnWay). w.counter) way_is)),
+            (ap (λ (w : OnWay). w.units) way_is ∙ ap (λ (unit : List ℕ). unit ∷ []) section_is) (ap (λ (w : OnWay). w.counter) way_is)),
       )
     where
       none : (t : ℕ) → 0 ≡ 0 * t % 16
       none t = omega arith
 
-  -- a section alone begins with its one byte
-  pub section_ends : (int : IntFields) (bytes ends : List ℕ) → HoldUnits (table_bytes (table_of plan int) ∷ []) bytes ends → AreEnds 1 (length bytes) ends
-  section_ends int bytes ends held = ends_held 1 (table_bytes (table_of plan int) ∷ []) bytes ends held one
-    where
-      one : All (λ (unit : List ℕ). 1 ≤ length unit) (table_bytes (table_of plan int) ∷ [])
-      one zero d less = omega (arith, length-section_bytes 0x4C 0xF0 (table_body (table_of plan int)))
-      one (suc n) d less = absurd (omega (arith, less))
+-- a section has a byte
+pub section_some : (plan : PlanFields) (int : IntFields) (section : List ℕ) → section ≡ table_bytes (table_of plan int) → 0 < length section
+section_some plan int section is = omega (arith, ap (λ (bytes : List ℕ). length bytes) is, length-section_bytes 0x4C 0xF0 (table_body (table_of plan int)))
 
 -- a section has at most 23 packets
 pub few_packets : (plan : PlanFields) (int : IntFields) → plan.table ≡ Some int → length (table_bytes (table_of plan int)) ≤ 4096 → table_packets plan ≤ 23

@@ -14,7 +14,7 @@ use Rattle.stream_law.proofs.Turns.{IsWithin, within_at}
 use Rattle.stream_law.proofs.Next.{has_turn, true_ltb, false_ltb}
 use Rattle.stream_law.proofs.OnPid.{count_of}
 use Rattle.mux_core.specs.Services.{Serving, has_packets, turn_of, TakesTurn, left_of, AreAt}
-use Rattle.mux_core.specs.Tables.{packet_of_table}
+use Rattle.mux_core.specs.IntPackets.{packet_of_table}
 use Rattle.mux_core.specs.Slots.{turns_in, is_early, TakesSlot}
 
 -- What is left of services.

@@ -11,7 +11,7 @@ use Rattle.stream_spec.specs.Stream.{packet_counts, written}
 use Rattle.stream_law.proofs.Next.{has_turn, none_has_turn}
 use Rattle.stream_law.proofs.OnPid.{count_of}
 use Rattle.mux_core.specs.Services.{packets_in, packet_total, has_packets, Serving, turn_of, TakesTurn}
-use Rattle.mux_core.specs.declared.lanes.Lane.{Lane}
+use Rattle.mux_core.specs.declared.service_packets.ServicePackets.{ServicePackets}
 
 -- the first of some numbers is asked
 pub find_next : (p : ℕ → Bool) (k to : ℕ) → k < to → p k ≡ false → find p (range_with_len k (to - k)) ≡ find p (range_with_len (k + 1) (to - (k + 1)))
@@ -25,14 +25,14 @@ find_here p k to less is =
     ap (λ (n : ℕ). find p (range_with_len k n)) size ∙ ap (λ (b : Bool). cond b (Some k) (find p (range_with_len (k + 1) (to - (k + 1))))) is
 
 -- the packets of the service at a place
-pub lane_at : (lanes : List Lane) (k : ℕ) (lane : Lane) → k < length lanes → lane ≡ get_or lanes k lane → slice_index_or (map packets_in lanes) k [] ≡ packets_in lane
-lane_at [] k lane less is = absurd (omega (arith, less))
-lane_at (first ∷ lanes) zero lane less is = ap packets_in (sym is)
-lane_at (first ∷ lanes) (suc k) lane less is = lane_at lanes k lane (omega (arith, less)) is
+pub service_at : (services : List ServicePackets) (k : ℕ) (service : ServicePackets) → k < length services → service ≡ get_or services k service → slice_index_or (map packets_in services) k [] ≡ packets_in service
+service_at [] k service less is = absurd (omega (arith, less))
+service_at (first ∷ services) zero service less is = ap packets_in (sym is)
+service_at (first ∷ services) (suc k) service less is = service_at services k service (omega (arith, less)) is
 
-pub has_there : (lanes : List Lane) (k : ℕ) (lane : Lane) → k < length lanes → lane ≡ get_or lanes k lane → has_packets (map packets_in lanes) k ≡ ltb 0 (length (packets_in lane))
-has_there lanes k lane less is =
-    ap (λ (n : ℕ). ltb 0 n) (count_of (map packets_in lanes) k ∙ ap (λ (ps : List PacketFields). length ps) (lane_at lanes k lane less is))
+pub has_there : (services : List ServicePackets) (k : ℕ) (service : ServicePackets) → k < length services → service ≡ get_or services k service → has_packets (map packets_in services) k ≡ ltb 0 (length (packets_in service))
+has_there services k service less is =
+    ap (λ (n : ℕ). ltb 0 n) (count_of (map packets_in services) k ∙ ap (λ (ps : List PacketFields). length ps) (service_at services k service less is))
 
 -- one service has no more packets than all
 pub total_at : (services : List (List PacketFields)) (k : ℕ) → length (slice_index_or services k []) ≤ packet_total services
@@ -76,7 +76,7 @@ module _ (services : List (List PacketFields)) (first : ℕ) (le : first ≤ len
       by_turn None e = absurd (omega (arith, some, none_left services (λ k less. none_has_turn counts as_turns k sized e less)))
 
 -- whose turn it is, of services whose first and whose others were looked through
-pub turn_two : (items seen : List Lane) (first count : ℕ) (found rest : Option ℕ) → seen ≡ items → count ≡ length items → first ≤ length items
+pub turn_two : (items seen : List ServicePackets) (first count : ℕ) (found rest : Option ℕ) → seen ≡ items → count ≡ length items → first ≤ length items
     → found ≡ find (has_packets (map packets_in seen)) (range_with_len first (count - first))
     → rest ≡ find (has_packets (map packets_in items)) (range_with_len 0 first)
     → turn_of (record { packets = map packets_in items; first = first }) ≡ option_or found rest
@@ -85,7 +85,7 @@ turn_two items seen first count found rest same size le found_is rest_is =
     ∙ ap (λ (n : ℕ). option_or (find (has_packets (map packets_in items)) (range_with_len first (n - first))) (find (has_packets (map packets_in items)) (range_with_len 0 first)))
     (length-map items packets_in ∙ sym size)
     ∙ ap (λ (o : Option ℕ). option_or o (find (has_packets (map packets_in items)) (range_with_len 0 first)))
-    (ap (λ (ls : List Lane). find (has_packets (map packets_in ls)) (range_with_len first (count - first))) (sym same) ∙ sym found_is)
+    (ap (λ (ls : List ServicePackets). find (has_packets (map packets_in ls)) (range_with_len first (count - first))) (sym same) ∙ sym found_is)
     ∙ ap (λ (o : Option ℕ). option_or found o) (sym rest_is)
 
 -- what is known of the turn
@@ -124,9 +124,9 @@ pub turn_has : (serving : Serving) (turn : ℕ) → serving.first ≤ length ser
 turn_has serving turn le e = found_has serving.packets serving.first le turn e
 
 -- the packets of so many services
-pub total_most : (lanes : List Lane) → All (λ (lane : Lane). length (packets_in lane) ≤ 2 ^ 48) lanes → packet_total (map packets_in lanes) ≤ 2 ^ 48 * length lanes
+pub total_most : (services : List ServicePackets) → All (λ (service : ServicePackets). length (packets_in service) ≤ 2 ^ 48) services → packet_total (map packets_in services) ≤ 2 ^ 48 * length services
 total_most [] each = omega arith
-total_most (lane ∷ lanes) each = omega (arith, each 0 lane (omega arith), total_most lanes (λ k d less. each (suc k) d (omega (arith, less))))
+total_most (service ∷ services) each = omega (arith, each 0 service (omega arith), total_most services (λ k d less. each (suc k) d (omega (arith, less))))
 
 -- one packet less is left
 pub total_set : (services : List (List PacketFields)) (k : ℕ) (packet : PacketFields) (rest : List PacketFields) → k < length services → slice_index_or services k [] ≡ packet ∷ rest
@@ -136,7 +136,7 @@ total_set (packets ∷ services) zero packet rest less is = omega (arith, ap (λ
 total_set (packets ∷ services) (suc k) packet rest less is = omega (arith, total_set services k packet rest (omega (arith, less)) is)
 
 -- the service whose turn it is gave a packet
-pub turn_taken : (items : List Lane) (first k : ℕ) (old new : Lane) (now : Serving) (packet : PacketFields) (into : List ℕ)
+pub turn_taken : (items : List ServicePackets) (first k : ℕ) (old new : ServicePackets) (now : Serving) (packet : PacketFields) (into : List ℕ)
     → let serving : Serving = record { packets = map packets_in items; first = first } in serving ≡ now
     → k < length items → turn_of now ≡ Some k → old ≡ get_or items k old → packets_in old ≡ packet ∷ packets_in new → into ≡ written packet
     → let behind : Serving = record { packets = map packets_in (set items k new); first = k + 1 } in
@@ -162,7 +162,7 @@ turn_taken items first k old new now packet into is less turn old_is took into_i
     within = omega (arith, less, ap (λ (ps : List (List PacketFields)). length ps) same, length-map items packets_in)
 
     there : slice_index_or now.packets k [] ≡ packet ∷ packets_in new
-    there = ap (λ (ps : List (List PacketFields)). slice_index_or ps k []) (sym same) ∙ lane_at items k old less old_is ∙ took
+    there = ap (λ (ps : List (List PacketFields)). slice_index_or ps k []) (sym same) ∙ service_at items k old less old_is ∙ took
 
     set_is : map packets_in (set items k new) ≡ set now.packets k (packets_in new)
     set_is = map-set packets_in items k new ∙ ap (λ (ps : List (List PacketFields)). set ps k (packets_in new)) same

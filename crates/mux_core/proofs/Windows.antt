@@ -8,24 +8,21 @@ use Rattle.ip_datagram.specs.declared.address.IpAddress.{IpAddress}
 use Rattle.ip_datagram.specs.declared.address.IpAddress.TheVariants.{V4, V6}
 use Rattle.ip_datagram.specs.Destination.{destination_of}
 use Rattle.addr_rules.specs.Macs.{broadcast_mac, ipv4_group_mac, ipv6_group_mac, is_ipv4_group, mac_of_address}
-use Rattle.std.specs.Prelude.{slice_index, bytes_eq, ◌==◌}
+use Rattle.std.specs.Prelude.{slice_index, bytes_eq, ◌==◌, is_some}
 use Rattle.plan_spec.specs.Plan.{KindFields, ule, mpe, fec, gse}
-use Rattle.section_spec.specs.Mpe.{mpe_to_write, mpe_body}
-use Rattle.section_codec.proofs.Written.{length-section_bytes}
-use Rattle.ule_unit.proofs.Written.{length-sndu_bytes}
-use Rattle.stream_spec.specs.Units.{mac_for, sndu_of, section_of, unit_of}
-use Rattle.wire_spec.specs.Datagram.{ether_type_of}
+use Rattle.ule_unit.specs.Writable.{IsAddress}
+use Rattle.stream_spec.specs.Units.{mac_for, unit_of}
 use Rattle.plan_spec.specs.Built.{is_sent}
 use Rattle.ts_spec.specs.Form.{UnitForm}
 use Rattle.unit_stream.specs.Packing.{packetized}
 use Rattle.unit_stream.specs.Packers.{PackerState, AreRising, IsOnWay, HasNext, StandAt, Writes, end_of, packets_left, units_of}
 use Rattle.mux_core.specs.Units.{unit_bytes, ends_from, IsFor, AreFor}
 use Rattle.mux_core.specs.Windows.{IsWindow, IsSending}
-use Rattle.mux_core.specs.declared.window.Window.{Window}
+use Rattle.mux_core.specs.declared.unit_window.UnitWindow.{UnitWindow}
 use Rattle.mux_core.proofs.Items.{all_at}
 use Rattle.mux_core.proofs.Held.{bytes_next, last_held, units_joined, packets_most}
 
--- Sizes of units.
+-- Addresses of units.
 
 length-mac : (address : IpAddress) (unicast : List ℕ) → length unicast ≡ 6 → length (mac_of_address address unicast) ≡ 6
 length-mac (V4 b) unicast six = by_tests (is_ipv4_group b) (bytes_eq b (255 ∷ 255 ∷ 255 ∷ 255 ∷ []))
@@ -40,13 +37,11 @@ length-mac (V6 b) unicast six = by_test (slice_index b 0 == 0xFF)
     by_test true = refl
     by_test false = six
 
-pub length-sndu_of : (address : Bool) (unicast datagram : List ℕ) → length unicast ≡ 6 → length (sndu_of address unicast datagram) ≡ length datagram + 8 + cond address 6 0
-length-sndu_of true unicast datagram six =
-    omega (arith, length-sndu_bytes (Some (mac_for unicast datagram)) (ether_type_of datagram) datagram, length-mac (destination_of datagram) unicast six)
-length-sndu_of false unicast datagram six = omega (arith, length-sndu_bytes None (ether_type_of datagram) datagram)
-
-pub length-section_of : (unicast datagram : List ℕ) → length (section_of unicast datagram) ≡ length datagram + 16
-length-section_of unicast datagram = omega (arith, length-section_bytes 0x3E 0xB0 (mpe_body (mpe_to_write (mac_for unicast datagram) None datagram)))
+-- the address of an SNDU
+pub npa_is : (address : Bool) (unicast datagram : List ℕ) → length unicast ≡ 6
+    → IsAddress (cond address (Some (mac_for unicast datagram)) None) × (is_some (cond address (Some (mac_for unicast datagram)) None) ≡ address)
+npa_is true unicast datagram six = (length-mac (destination_of datagram) unicast six, refl)
+npa_is false unicast datagram six = (tt, refl)
 
 -- a datagram of a service of units is no longer than an SNDU allows
 pub short_for : (kind : KindFields) (datagram : List ℕ) → is_sent kind ≡ true → IsFor kind datagram → length datagram ≤ 32757
@@ -59,7 +54,7 @@ module _ (kind : KindFields) (unicast : List ℕ) (datagrams : List (List ℕ)) 
   abbrev bytes_to : ℕ → List ℕ
   bytes_to count = unit_bytes kind unicast (take count datagrams)
 
-  module _ (window : Window) (is : IsWindow kind unicast datagrams window) where
+  module _ (window : UnitWindow) (is : IsWindow kind unicast datagrams window) where
     abbrev held : List ℕ
     held = take window.fill window.buffer.items
 
@@ -80,7 +75,7 @@ module _ (kind : KindFields) (unicast : List ℕ) (datagrams : List (List ℕ)) 
     next_fits datagram found lacks = omega (arith, lacks, (short_next datagram found).1, is.room)
 
     -- one unit more is written
-    pub window_more : (new : Window) (datagram : List ℕ) (size : ℕ) → slice_get datagrams window.count ≡ Some datagram → window.count < length datagrams
+    pub window_more : (new : UnitWindow) (datagram : List ℕ) (size : ℕ) → slice_get datagrams window.count ≡ Some datagram → window.count < length datagrams
         → size ≡ length (unit_of kind unicast datagram) → size ≤ length datagram + 16 → window.fill + (length datagram + 16) ≤ length window.buffer.items
         → new.buffer.items ≡ take window.fill window.buffer.items ++ (unit_of kind unicast datagram ++ drop size (drop window.fill window.buffer.items))
         → length new.buffer.items ≡ length window.buffer.items → new.from ≡ window.from → new.fill ≡ window.fill + size → new.count ≡ window.count + 1
@@ -112,7 +107,7 @@ module _ (kind : KindFields) (unicast : List ℕ) (datagrams : List (List ℕ)) 
             ∙ take_at (held ++ unit) (drop size (drop window.fill window.buffer.items)) fill (omega (arith, so, length-append held unit, held_size, size_is))
 
     -- the bytes before a place are forgotten
-    pub window_begun : (new : Window) (at : ℕ) → window.from ≤ at → at ≤ window.from + window.fill → new.from ≡ at → new.from + new.fill ≡ window.from + window.fill → new.count ≡ window.count
+    pub window_begun : (new : UnitWindow) (at : ℕ) → window.from ≤ at → at ≤ window.from + window.fill → new.from ≡ at → new.from + new.fill ≡ window.from + window.fill → new.count ≡ window.count
         → length new.buffer.items ≡ length window.buffer.items → take new.fill new.buffer.items ≡ drop (at - window.from) held → IsWindow kind unicast datagrams new
     window_begun new at before behind from_is fill_is count_is same kept = record {
       built = is.built;
@@ -159,7 +154,7 @@ last_end kind unicast datagrams ends are =
     omega (arith, ap (λ (e : List ℕ). end_of e (length e)) are, last_held 0 (map (unit_of kind unicast) datagrams))
 
 -- what a packer is handed, and what it writes
-module _ (kind : KindFields) (unicast : List ℕ) (datagrams : List (List ℕ)) (window : Window) (is : IsWindow kind unicast datagrams window) (ends bytes : List ℕ)
+module _ (kind : KindFields) (unicast : List ℕ) (datagrams : List (List ℕ)) (window : UnitWindow) (is : IsWindow kind unicast datagrams window) (ends bytes : List ℕ)
     (are : ends ≡ ends_from 0 (map (unit_of kind unicast) datagrams)) (same : bytes ≡ take window.fill window.buffer.items) where
   pub handed_size : length bytes ≡ window.fill
   handed_size = ap length same ∙ held_size kind unicast datagrams window is
@@ -192,7 +187,7 @@ moved items new out fill le fits is =
     ∙ ap (λ (n : ℕ). drop out (take n items)) whole
 
 -- before the first unit
-pub window_first : (kind : KindFields) (unicast : List ℕ) (datagrams : List (List ℕ)) (window : Window) → is_sent kind ≡ true → AreFor kind datagrams → length datagrams < 2 ^ 32
+pub window_first : (kind : KindFields) (unicast : List ℕ) (datagrams : List (List ℕ)) (window : UnitWindow) → is_sent kind ≡ true → AreFor kind datagrams → length datagrams < 2 ^ 32
     → window.from ≡ 0 → window.fill ≡ 0 → window.count ≡ 0 → length window.buffer.items ≡ 32957 → IsWindow kind unicast datagrams window
 window_first kind unicast datagrams window built are few from_is fill_is count_is size = record {
   built = built;
@@ -215,7 +210,7 @@ at_first packer way = by_begun packer.begun packer.at way.begun way.at
     by_begun zero at le here = omega (arith, here)
     by_begun (suc begun) at le here = absurd (omega (arith, le))
 
-pub sending_first : (start : ℕ) (kind : KindFields) (unicast : List ℕ) (datagrams : List (List ℕ)) (ends : List ℕ) (window : Window) (packer : PackerState)
+pub sending_first : (start : ℕ) (kind : KindFields) (unicast : List ℕ) (datagrams : List (List ℕ)) (ends : List ℕ) (window : UnitWindow) (packer : PackerState)
     → IsWindow kind unicast datagrams window → window.from ≡ 0 → ends ≡ ends_from 0 (map (unit_of kind unicast) datagrams) → AreRising start 0 ends
     → ((es : List ℕ) → IsOnWay packer es) → IsSending start kind unicast datagrams ends window packer
 sending_first start kind unicast datagrams ends window packer is from_is are rising way = record {

@@ -1,7 +1,7 @@
 pub mod Sending
 pub mod Units
-pub mod Lanes
 pub mod Windows
 pub mod Services
-pub mod Tables
+pub mod SectionPackets
+pub mod IntPackets
 pub mod Slots

@@ -7,11 +7,11 @@ use Rattle.stream_spec.specs.Units.{packets_of}
 use Rattle.stream_spec.specs.Stream.{written, packet_counts}
 use Rattle.plan_spec.specs.Built.{is_sent}
 use Rattle.mux_core.specs.Units.{HasPid, AreFor}
-use Rattle.mux_core.specs.declared.lanes.Lane.{Lane}
-use Rattle.mux_core.specs.declared.lanes.Lane.TheVariants.{Ule, Mpe}
+use Rattle.mux_core.specs.declared.service_packets.ServicePackets.{ServicePackets}
+use Rattle.mux_core.specs.declared.service_packets.ServicePackets.TheVariants.{Ule, Mpe}
 
 -- the packets of a service that are still to come
-abbrev pub packets_in : Lane → List PacketFields
+abbrev pub packets_in : ServicePackets → List PacketFields
 packets_in (Ule packets) = packets
 packets_in (Mpe packets) = packets
 

@@ -23,12 +23,6 @@ abbrev pub ends_from : ℕ → List (List ℕ) → List ℕ
 ends_from place [] = []
 ends_from place (unit ∷ units) = (place + length unit) ∷ ends_from (place + length unit) units
 
--- the units stand at the front of the bytes, and end there
-pub record HoldUnits (units : List (List ℕ)) (bytes ends : List ℕ) : Type 0 where
-  pub rest : List ℕ
-  pub bytes_are : bytes ≡ joined units ++ rest
-  pub ends_are : ends ≡ ends_from 0 units
-
 -- the PID of the kind is one
 abbrev pub HasPid : KindFields → Type 0
 HasPid (ule pid address packing) = pid ≤ 8191

@@ -5,22 +5,20 @@ ghost use Rattle.wire_spec.specs.Content.{Puts, Stays};
 ghost use Rattle.ts_spec.specs.Packet.{PacketFields};
 ghost use Rattle.plan.specs.PlanView.{plan_fields};
 ghost use Rattle.mux_core.specs.Services.{packet_total, turn_of, AreAt};
-ghost use Rattle.mux_core.specs.Tables.{IsTableAt};
+ghost use Rattle.mux_core.specs.IntPackets.{IsTableAt};
 ghost use Rattle.mux_core.specs.Slots.{turns_in, is_early, AddsRecord, Hands};
 
+use crate::int_packets::IntPackets;
+use crate::records::{LONGEST_RECORD, PACKET, write_record};
 use crate::services::Services;
-use crate::slots::write_record;
-use crate::table::TablePackets;
+use byte_slices::zeros;
 use ipe_io::{Failed, Sink, put_all};
 use plan::Plan;
 use std::alloc::{AllocError as OutOfMemory, Global};
 use std::marker::Model;
 
 /// Bytes with which a batch is full: 1,024 packets, which are 47 pages of memory, so that a file is written page by page.
-const FULL: usize = 1024 * 188;
-
-/// Bytes of the longest record.
-const LONGEST: usize = 196;
+const FULL: usize = 1024 * PACKET;
 
 /// Records that no sink has yet; contracts see their bytes.
 #[derive(Drop)]
@@ -40,13 +38,6 @@ impl Model for Batch {
     ghost invariant = { λ b. (b.fill ≤ length b.buffer.items) × (length b.buffer.items ≡ 192708) };
 }
 
-/// So many zeros.
-fn zeros(alloc: Global, count: usize) -> Result<Vec<u8>, OutOfMemory>
-    ensures size { IfOk result (λ bytes. length bytes.items ≡ count) }
-{
-    vec![in alloc; 0u8; count]
-}
-
 impl Batch {
     ghost use Rattle.std.specs.Prelude.{◌≡◌, ◌≤◌, ◌<◌, ◌+◌, ℕ, List, [], length, take, Some, IfOk, OnOk, if◌then◌else◌};
     ghost use Rattle.wire_spec.specs.Causes.{HasCause};
@@ -54,14 +45,14 @@ impl Batch {
     ghost use Rattle.ts_spec.specs.Packet.{PacketFields};
     ghost use Rattle.plan.specs.PlanView.{plan_fields};
     ghost use Rattle.mux_core.specs.Services.{packet_total, turn_of, AreAt};
-    ghost use Rattle.mux_core.specs.Tables.{IsTableAt};
+    ghost use Rattle.mux_core.specs.IntPackets.{IsTableAt};
     ghost use Rattle.mux_core.specs.Slots.{turns_in, is_early, AddsRecord, Hands};
 
     /// Takes memory for the records; there are none yet.
     pub(crate) fn new(alloc: Global) -> Result<Batch, OutOfMemory>
         ensures empty { IfOk result (λ batch. batch ≡ []) }
     {
-        let buffer = zeros(alloc, FULL + LONGEST)?;
+        let buffer = zeros(alloc, FULL + LONGEST_RECORD)?;
         Ok(Batch { buffer, fill: 0 })
     }
 
@@ -71,7 +62,7 @@ impl Batch {
         plan: &Plan,
         services: &mut Services<'_>,
         turn: usize,
-        table: &mut TablePackets,
+        table: &mut IntPackets,
         slot: u64,
     )
         requires room { length self.old ≤ 192512 }
@@ -94,13 +85,9 @@ impl Batch {
         ensures flushed { Stays (K.told sink.old).flushed (K.told sink.new).flushed }
         ensures cause { HasCause (K.told sink.old).faults (K.told sink.new).faults result }
     {
-        match put_all(sink, &self.buffer[..self.fill]) {
-            Ok(()) => {
-                self.fill = 0;
-                Ok(())
-            }
-            Err(Failed) => Err(Failed),
-        }
+        put_all(sink, &self.buffer[..self.fill])?;
+        self.fill = 0;
+        Ok(())
     }
 
     /// Appends all records to the sink where the batch is full. On `Failed` a prefix of them was appended.

@@ -5,15 +5,16 @@
 #![tactic(auto)]
 
 mod batch;
-mod lanes;
-mod packets;
+mod int_packets;
+mod int_section;
 mod records;
 mod sending;
+mod service_packets;
 mod services;
 mod slots;
-mod table;
+mod stamps;
+mod unit_window;
 mod units;
-mod window;
 
 pub use datagram_routing::{Lists, Offered};
 pub use sending::{MuxFault, Sent, stream};

@@ -1,73 +1,101 @@
-//! A slot -> the time stamp of its record, where records have one.
-ghost use Rattle.std.specs.Prelude.{◌≡◌, ◌≤◌, ◌<◌, ◌++◌, length, drop};
-ghost use Rattle.stream_spec.specs.Stream.{stamp_bytes};
-ghost use Rattle.ts_spec.specs.Recording.{stamped, m2ts};
-ghost use Rattle.plan.specs.Parts.{form_of};
+//! A slot -> its record: the time stamp, and the packet of the INT or of the service whose turn it is.
+ghost use Rattle.std.specs.Prelude.{◌≡◌, ◌≤◌, ◌+◌, ℕ, List, length, take, drop, Some, if◌then◌else◌};
+ghost use Rattle.ts_spec.specs.Packet.{PacketFields};
+ghost use Rattle.plan.specs.PlanView.{plan_fields};
+ghost use Rattle.mux_core.specs.Services.{packet_total, turn_of, AreAt};
+ghost use Rattle.mux_core.specs.IntPackets.{IsTableAt};
+ghost use Rattle.mux_core.specs.Slots.{turns_in, is_early, TakesSlot, WritesRecord};
 
-use ipe_io::Recording;
+use crate::int_packets::IntPackets;
+use crate::services::Services;
+use crate::stamps::{LONGEST_STAMP, write_stamp};
+use plan::Plan;
 
-/// Microseconds in a second.
-const MICROS: u128 = 1_000_000;
+/// Bytes of a packet (ISO/IEC 13818-1 clause 2.4.3.2).
+pub(crate) const PACKET: usize = 188;
 
-/// Units of 27 MHz in a second (ISO/IEC 13818-1 clause 2.4.2.1).
-const TICKS: u128 = 27_000_000;
+/// Bytes of the longest record.
+pub(crate) const LONGEST_RECORD: usize = LONGEST_STAMP + PACKET;
 
-/// Values of the 30 bits of the time in an m2ts record.
-const TICK_VALUES: u128 = 1 << 30;
-
-/// Values of 64 bits.
-const MICRO_VALUES: u128 = 1 << 64;
-
-/// The whole microseconds from the first slot to this one.
-fn micros_of(packet_rate: u32, slot: u64) -> [u8; 8]
-    requires { 0 < packet_rate }
-    ensures { result ≡ stamp_bytes stamped packet_rate slot }
+/// Whether a slot carries a packet of the INT. Without an INT nothing is divided, since division is slow.
+fn is_of_table(plan: &Plan, table: &IntPackets, slot: u64) -> bool
+    requires table { IsTableAt (plan_fields plan.now) slot table.now }
+    ensures read { result ≡ is_early (plan_fields plan.now) slot }
 {
-    let micros = u128::from(slot) * MICROS / u128::from(packet_rate);
-    let stamp = (micros % MICRO_VALUES) as u64;
-    stamp.to_be_bytes()
+    table.count() > 0 && slot % u64::from(plan.cycle) < table.count()
 }
 
-/// The time at 27 MHz from the first slot to this one.
-fn ticks_of(packet_rate: u32, slot: u64) -> [u8; 4]
-    requires { 0 < packet_rate }
-    ensures { result ≡ stamp_bytes m2ts packet_rate slot }
+/// Writes the packet of a slot: that of the INT in the first slots of a cycle, otherwise that of the service whose turn it is.
+fn packet_for_slot(
+    plan: &Plan,
+    services: &mut Services<'_>,
+    turn: usize,
+    table: &mut IntPackets,
+    slot: u64,
+    into: &mut [u8; 188],
+)
+    requires table { IsTableAt (plan_fields plan.now) slot table.old }
+    requires turn { turn_of services.old ≡ Some turn }
+    ensures table { IsTableAt (plan_fields plan.now) (slot + 1) table.new }
+    ensures services { (lists : List (List PacketFields)) → AreAt lists (turns_in (plan_fields plan.now) lists slot) services.old
+        → TakesSlot (plan_fields plan.now) lists slot services.new into.new }
+    ensures size { length into.new ≡ 188 }
+    ensures left { packet_total services.old.packets ≡ packet_total services.new.packets + (if is_early (plan_fields plan.now) slot then 0 else 1) }
+    ensures count { table.new.count ≡ table.old.count }
 {
-    let ticks = u128::from(slot) * TICKS / u128::from(packet_rate);
-    let stamp = (ticks % TICK_VALUES) as u32;
-    stamp.to_be_bytes()
+    if is_of_table(plan, table, slot) {
+        table.next(plan, slot, into);
+    } else {
+        services.next(turn, into);
+    }
 }
 
-/// Writes these bytes to the front of `into`.
-fn put(into: &mut [u8], bytes: &[u8])
-    requires { length bytes.now ≤ length into.old }
-    ensures { into.new ≡ bytes.now ++ drop (length bytes.now) into.old }
+/// Writes the packet of a slot to the front of `into`.
+fn put_packet(
+    plan: &Plan,
+    services: &mut Services<'_>,
+    turn: usize,
+    table: &mut IntPackets,
+    slot: u64,
+    into: &mut [u8],
+)
+    requires room { 188 ≤ length into.old }
+    requires table { IsTableAt (plan_fields plan.now) slot table.old }
+    requires turn { turn_of services.old ≡ Some turn }
+    ensures table { IsTableAt (plan_fields plan.now) (slot + 1) table.new }
+    ensures services { (lists : List (List PacketFields)) → AreAt lists (turns_in (plan_fields plan.now) lists slot) services.old
+        → TakesSlot (plan_fields plan.now) lists slot services.new (take 188 into.new) }
+    ensures after { drop 188 into.new ≡ drop 188 into.old }
+    ensures size { length into.new ≡ length into.old }
+    ensures left { packet_total services.old.packets ≡ packet_total services.new.packets + (if is_early (plan_fields plan.now) slot then 0 else 1) }
+    ensures count { table.new.count ≡ table.old.count }
 {
-    into[..bytes.len()].copy_from_slice(bytes);
+    let Some(packet) = into.first_chunk_mut::<PACKET>() else {
+        unreachable!();
+    };
+    packet_for_slot(plan, services, turn, table, slot, packet);
 }
 
-/// Writes the stamp of a slot's record to the front of `into`, and answers its length: 0, 4 or 8 bytes.
-pub(crate) fn write_stamp(
-    recording: Recording,
-    packet_rate: u32,
+/// Writes the record of a slot to the front of `into`, its stamp and its packet; answers its length, 188, 192 or 196 bytes.
+pub(crate) fn write_record(
+    plan: &Plan,
+    services: &mut Services<'_>,
+    turn: usize,
+    table: &mut IntPackets,
     slot: u64,
     into: &mut [u8],
 ) -> usize
-    requires rate { 0 < packet_rate }
-    requires room { 8 ≤ length into.old }
-    ensures size { result ≡ length (stamp_bytes (form_of recording) packet_rate slot) }
-    ensures most { result ≤ 8 }
-    ensures written { into.new ≡ stamp_bytes (form_of recording) packet_rate slot ++ drop result into.old }
+    requires room { 196 ≤ length into.old }
+    requires table { IsTableAt (plan_fields plan.now) slot table.old }
+    requires turn { turn_of services.old ≡ Some turn }
+    ensures table { IsTableAt (plan_fields plan.now) (slot + 1) table.new }
+    ensures written { (lists : List (List PacketFields)) → AreAt lists (turns_in (plan_fields plan.now) lists slot) services.old
+        → WritesRecord (plan_fields plan.now) lists slot services.new into.old into.new result }
+    ensures most { result ≤ 196 }
+    ensures left { packet_total services.old.packets ≡ packet_total services.new.packets + (if is_early (plan_fields plan.now) slot then 0 else 1) }
+    ensures count { table.new.count ≡ table.old.count }
 {
-    match recording {
-        Recording::Plain => 0,
-        Recording::Stamped => {
-            put(into, &micros_of(packet_rate, slot));
-            8
-        }
-        Recording::M2ts => {
-            put(into, &ticks_of(packet_rate, slot));
-            4
-        }
-    }
+    let stamp = write_stamp(plan.recording, plan.packet_rate, slot, into);
+    put_packet(plan, services, turn, table, slot, &mut into[stamp..]);
+    stamp + PACKET
 }

@@ -11,13 +11,13 @@ ghost use Rattle.plan_spec.specs.Built.{are_sent};
 ghost use Rattle.mux_core.specs.declared.sending.MuxFault.TheVariants.{Sink as SinkFault, OutOfMemory as NoMemory};
 
 use crate::batch::Batch;
+use crate::int_packets::IntPackets;
 use crate::services::Services;
 use crate::slots::put_slots;
-use crate::table::TablePackets;
-use ipe_io::{Failed, Sink};
 use datagram_routing::{Lists, Offered, each_datagram_is_for_its_service, nothing_is_left_out};
+use ipe_io::{Failed, Sink};
 use plan::Plan;
-use std::alloc::Global;
+use std::alloc::{AllocError as OutOfMemory, Global};
 use stream_law::there_is_one_stream;
 
 /// How much was sent.
@@ -36,6 +36,17 @@ pub enum MuxFault {
     Sink,
     /// Out of memory.
     OutOfMemory,
+}
+
+impl From<OutOfMemory> for MuxFault {
+    ghost use Rattle.std.specs.Prelude.{◌≡◌};
+    ghost use Rattle.mux_core.specs.declared.sending.MuxFault.TheVariants as fault;
+
+    ghost from_gives = { λ _ e. e ≡ fault.OutOfMemory };
+
+    fn from(_error: OutOfMemory) -> MuxFault {
+        MuxFault::OutOfMemory
+    }
 }
 
 /// How many datagrams all services have.
@@ -76,18 +87,9 @@ pub fn stream<K: Sink>(
     there_is_one_stream();
     each_datagram_is_for_its_service();
     nothing_is_left_out();
-    let mut services = match Services::new(alloc, plan, &offered.lists) {
-        Ok(services) => services,
-        Err(_) => return Err(MuxFault::OutOfMemory),
-    };
-    let mut table = match TablePackets::new(alloc, plan) {
-        Ok(table) => table,
-        Err(_) => return Err(MuxFault::OutOfMemory),
-    };
-    let mut batch = match Batch::new(alloc) {
-        Ok(batch) => batch,
-        Err(_) => return Err(MuxFault::OutOfMemory),
-    };
+    let mut services = Services::new(alloc, plan, &offered.lists)?;
+    let mut table = IntPackets::new(alloc, plan)?;
+    let mut batch = Batch::new(alloc)?;
     let datagrams = count_datagrams(&offered.lists);
     match put_slots(plan, &mut services, &mut table, &mut batch, sink) {
         Ok(packets) => Ok(Sent { packets, datagrams }),

@@ -4,7 +4,7 @@ ghost use Rattle.std.specs.List.{range_with_len};
 ghost use Rattle.plan.specs.PlanView.{plan_fields};
 ghost use Rattle.mux_core.specs.Services.{packets_in, has_packets, packets_from_lists, AreLists};
 
-use crate::lanes::Lane;
+use crate::service_packets::ServicePackets;
 use datagram_routing::Lists;
 use plan::Plan;
 use std::alloc::{AllocError as OutOfMemory, Global};
@@ -13,7 +13,7 @@ use std::marker::Model;
 /// The services of a plan on their way; contracts see what each has left, and which is asked first.
 #[derive(Drop)]
 pub(crate) struct Services<'a> {
-    lanes: Vec<Lane<'a>>,
+    services: Vec<ServicePackets<'a>>,
     /// The service after the one served last.
     first: usize,
 }
@@ -24,18 +24,18 @@ impl<'a> Model for Services<'a> {
 
     ghost Value = { Serving };
 
-    ghost view = { λ s. record { packets = map packets_in s.lanes.items; first = s.first } };
+    ghost view = { λ s. record { packets = map packets_in s.services.items; first = s.first } };
 
-    ghost invariant = { λ s. s.first ≤ length s.lanes.items };
+    ghost invariant = { λ s. s.first ≤ length s.services.items };
 }
 
 /// The first of the services from one on, and before another, that has packets left.
-fn find_from(lanes: &[Lane<'_>], from: usize, to: usize) -> Option<usize>
-    requires { to ≤ length lanes.now }
-    ensures { result ≡ find (has_packets (map packets_in lanes.now)) (range_with_len from (to - from)) }
+fn find_from(services: &[ServicePackets<'_>], from: usize, to: usize) -> Option<usize>
+    requires { to ≤ length services.now }
+    ensures { result ≡ find (has_packets (map packets_in services.now)) (range_with_len from (to - from)) }
 {
     for k in from..to {
-        if lanes[k].has_next() {
+        if services[k].has_next() {
             return Some(k);
         }
     }
@@ -43,22 +43,22 @@ fn find_from(lanes: &[Lane<'_>], from: usize, to: usize) -> Option<usize>
 }
 
 /// The packets of each service.
-fn lanes_of<'a>(
+fn services_of<'a>(
     alloc: Global,
     plan: &'a Plan,
     lists: &'a Lists,
-) -> Result<Vec<Lane<'a>>, OutOfMemory>
+) -> Result<Vec<ServicePackets<'a>>, OutOfMemory>
     requires { AreLists (plan_fields plan.now) lists.now }
-    ensures written { IfOk result (λ lanes. map packets_in lanes.items ≡ packets_from_lists (plan_fields plan.now).services lists.now) }
-    ensures short { IfOk result (λ lanes. All (λ lane. length (packets_in lane) ≤ 2 ^ 48) lanes.items) }
-    ensures few { IfOk result (λ lanes. length lanes.items ≤ 64) }
+    ensures written { IfOk result (λ services. map packets_in services.items ≡ packets_from_lists (plan_fields plan.now).services lists.now) }
+    ensures short { IfOk result (λ services. All (λ service. length (packets_in service) ≤ 2 ^ 48) services.items) }
+    ensures few { IfOk result (λ services. length services.items ≤ 64) }
 {
-    let mut lanes = Vec::new(alloc);
+    let mut services = Vec::new(alloc);
     for place in 0..plan.services.len() {
-        let lane = Lane::new(alloc, plan.services.at(place), lists.at(place as u32))?;
-        lanes.push(lane)?;
+        let service = ServicePackets::new(alloc, plan.services.at(place), lists.at(place as u32))?;
+        services.push(service)?;
     }
-    Ok(lanes)
+    Ok(services)
 }
 
 impl<'a> Services<'a> {
@@ -76,8 +76,8 @@ impl<'a> Services<'a> {
         ensures written { IfOk result (λ s. s ≡ record { packets = packets_from_lists (plan_fields plan.now).services lists.now; first = 0 }) }
         ensures most { IfOk result (λ s. packet_total s.packets ≤ 2 ^ 54) }
     {
-        let lanes = lanes_of(alloc, plan, lists)?;
-        Ok(Services { lanes, first: 0 })
+        let services = services_of(alloc, plan, lists)?;
+        Ok(Services { services, first: 0 })
     }
 
     /// The service whose turn it is; None where no packets are left.
@@ -85,9 +85,9 @@ impl<'a> Services<'a> {
         ensures read { result ≡ turn_of self.now }
         ensures left { nat_lt 0 (packet_total self.now.packets) ≡ is_some result }
     {
-        match find_from(&self.lanes, self.first, self.lanes.len()) {
+        match find_from(&self.services, self.first, self.services.len()) {
             Some(k) => Some(k),
-            None => find_from(&self.lanes, 0, self.first),
+            None => find_from(&self.services, 0, self.first),
         }
     }
 
@@ -97,7 +97,7 @@ impl<'a> Services<'a> {
         ensures next { TakesTurn self.old self.new into.new }
         ensures left { packet_total self.old.packets ≡ packet_total self.new.packets + 1 }
     {
-        self.lanes[turn].next(into);
+        self.services[turn].next(into);
         self.first = turn + 1;
     }
 }

@@ -1,35 +1,16 @@
 //! A datagram of a service -> its unit.
 ghost use Rattle.std.specs.Prelude.{◌≡◌, ℕ, ◌+◌, ◌*◌, ◌<◌, ◌≤◌, ◌^◌, ◌++◌, List, true, length, take, drop, map, All, IfOk};
-ghost use Rattle.wire_spec.specs.Datagram.{ether_type_of};
 ghost use Rattle.plan_spec.specs.Built.{is_sent};
 ghost use Rattle.plan.specs.Parts.{kind_seen};
 ghost use Rattle.mux_core.specs.Units.{unit_bytes, ends_from, IsFor, AreFor};
 ghost use Rattle.stream_spec.specs.Units.{unit_of};
 
 use addr_rules::mac_of;
+use byte_slices::array_bytes;
 use ip_datagram::{DatagramList, destination};
-use mpe_section::write_mpe;
+use mpe_section::{mpe_size, write_mpe};
 use plan::{Kind, Service};
 use std::alloc::{AllocError as OutOfMemory, Global};
-
-/// Bytes of a unit beside its datagram at most: the head and the CRC_32 of a datagram_section (EN 301 192 clause 7.1).
-const BESIDE: usize = 16;
-
-/// Bytes of an SNDU beside its datagram and its NPA address: D, Length, Type and the CRC-32 (RFC 4326 section 4).
-const BESIDE_SNDU: usize = 8;
-
-/// EtherType of IPv4 and of IPv6.
-const IPV4: u16 = 0x0800;
-
-const IPV6: u16 = 0x86DD;
-
-/// EtherType of a datagram.
-fn ether_type(datagram: &[u8]) -> u16
-    requires { 0 < length datagram.now }
-    ensures read { result ≡ ether_type_of datagram.now }
-{
-    if datagram[0] / 16 == 4 { IPV4 } else { IPV6 }
-}
 
 /// Writes the unit of a datagram to the front of `into`; answers its length.
 fn write_unit(service: &Service, datagram: &[u8], into: &mut [u8]) -> usize
@@ -44,7 +25,7 @@ fn write_unit(service: &Service, datagram: &[u8], into: &mut [u8]) -> usize
     match service.kind {
         Kind::Ule { address, .. } => {
             let npa = if address { Some(mac) } else { None };
-            ule_unit::write(npa, ether_type(datagram), datagram, into)
+            ule_unit::write(npa, ule_unit::ether_type(datagram), datagram, into)
         }
         Kind::Mpe { .. } => write_mpe(mac, None, datagram, into),
         Kind::Fec { .. } | Kind::Gse { .. } => unreachable!(),
@@ -63,14 +44,6 @@ pub(crate) fn put_unit(service: &Service, datagram: &[u8], at: usize, into: &mut
     write_unit(service, datagram, &mut into[at..])
 }
 
-/// Bytes of the NPA address of a service.
-fn address_size(unicast: &[u8; 6]) -> usize
-    ensures read { result ≡ 6 }
-    ensures size { length unicast.now ≡ 6 }
-{
-    unicast.len()
-}
-
 /// Bytes of the unit of a datagram.
 fn unit_size(service: &Service, datagram: &[u8]) -> usize
     requires built { is_sent (kind_seen service.now.kind) ≡ true }
@@ -78,12 +51,10 @@ fn unit_size(service: &Service, datagram: &[u8]) -> usize
     ensures size { result ≡ length (unit_of (kind_seen service.now.kind) service.now.unicast datagram.now) }
     ensures most { result ≤ 32773 }
 {
-    let npa = address_size(&service.unicast);
+    let _ = array_bytes(&service.unicast);
     match service.kind {
-        Kind::Ule { address, .. } => {
-            datagram.len() + BESIDE_SNDU + if address { npa } else { 0 }
-        }
-        Kind::Mpe { .. } => datagram.len() + BESIDE,
+        Kind::Ule { address, .. } => ule_unit::size(address, datagram.len()),
+        Kind::Mpe { .. } => mpe_size(datagram.len()),
         Kind::Fec { .. } | Kind::Gse { .. } => unreachable!(),
     }
 }

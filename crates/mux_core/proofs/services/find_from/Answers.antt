@@ -6,12 +6,12 @@ use Rattle.mux_core.proofs.services.find_from.Goals as goal
 pub loop-k-preserved : goal.loop-k-preserved
 loop-k-preserved c =
     c.loop-k.invariant
-    ∙ find_next (has_packets (map packets_in c.args.lanes.now)) c.loop-k.k c.args.to (omega arith)
-    (has_there c.args.lanes.now c.loop-k.k c.index-lanes-k.result (omega arith) c.index-lanes-k.is ∙ sym c.has_next.ensures.read ∙ c.if-has_next.false)
+    ∙ find_next (has_packets (map packets_in c.args.services.now)) c.loop-k.k c.args.to (omega arith)
+    (has_there c.args.services.now c.loop-k.k c.index-services-k.result (omega arith) c.index-services-k.is ∙ sym c.has_next.ensures.read ∙ c.if-has_next.false)
 
 pub returns-then-has_next : goal.returns-then-has_next
 returns-then-has_next c =
     sym
     (c.loop-k.invariant
-    ∙ find_here (has_packets (map packets_in c.args.lanes.now)) c.loop-k.k c.args.to (omega arith)
-    (has_there c.args.lanes.now c.loop-k.k c.index-lanes-k.result (omega arith) c.index-lanes-k.is ∙ sym c.has_next.ensures.read ∙ c.if-has_next.true))
+    ∙ find_here (has_packets (map packets_in c.args.services.now)) c.loop-k.k c.args.to (omega arith)
+    (has_there c.args.services.now c.loop-k.k c.index-services-k.result (omega arith) c.index-services-k.is ∙ sym c.has_next.ensures.read ∙ c.if-has_next.true))

@@ -7,4 +7,4 @@ use Rattle.mux_core.proofs.services.find_from.Given as goal
 
 abbrev pub invariant-loop-k : goal.invariant-loop-k
 invariant-loop-k l =
-    find (has_packets (map packets_in l.lanes)) (range_with_len l.from (l.to - l.from)) ≡ find (has_packets (map packets_in l.lanes)) (range_with_len l.k (l.to - l.k))
+    find (has_packets (map packets_in l.services)) (range_with_len l.from (l.to - l.from)) ≡ find (has_packets (map packets_in l.services)) (range_with_len l.k (l.to - l.k))

@@ -1,4 +1,5 @@
 use Rattle.std.proofs.Common.{◌≡◌, ◌+◌, ◌<◌, ℕ, List, true, false, ltb, length, refl, ap, ◌∙◌, arith}
+use Rattle.std.proofs.lemmas.Result.{err_from_is_err_and}
 use Rattle.ipe_io.proofs.Told.{stays-refl, stays-trans}
 use Rattle.ts_spec.specs.Packet.{PacketFields}
 use Rattle.plan_spec.specs.Plan.{PlanFields}
@@ -30,8 +31,8 @@ some_left n e = grind (arith, e)
 none_left : (n : ℕ) → ltb 0 n ≡ false → n ≡ 0
 none_left n e = grind (arith, e)
 
-pub returns-in-Err-clause-written : goal.returns-in-Err-clause-written
-returns-in-Err-clause-written g c =
+pub returns-in_err-put_full-clause-written : goal.returns-in_err-put_full-clause-written
+returns-in_err-put_full-clause-written g c =
     let plan : PlanFields = plan_fields c.args.plan.now in
     let services : List (List PacketFields) = c.args.services.now.packets in
     let slot : ℕ = c.loop-turn.slot in
@@ -39,15 +40,16 @@ returns-in-Err-clause-written g c =
     let adds : AddsRecord plan services slot c.add.new.services c.loop-turn.batch c.add.new.self = c.add.ensures.added services c.loop-turn.invariant.services in
     let handed : AreHanded plan services slot (g.K.Sink.told c.args.sink.now).held (g.K.Sink.told c.loop-turn.sink).held c.loop-turn.batch = c.loop-turn.invariant.handed in
     let some : 0 < packet_total c.loop-turn.services.packets = some_left (packet_total c.loop-turn.services.packets) c.in-Some.ensures.left in
-    record {
+    let failed = err_from_is_err_and c.from_residual.result c.from_residual.ensures.1 in
+    rw failed.1 (record {
       slots = end.0;
       count = end.1;
       written = part_handed plan services end.0 (slot + 1) (g.K.Sink.told c.args.sink.now).held (g.K.Sink.told c.loop-turn.sink).held (g.K.Sink.told c.put_full.new.sink).held handed.front c.add.new.self
           (omega (arith, goes_on plan services c.args.plan.now.valid end.0 slot c.loop-turn.services end.1 c.loop-turn.invariant.services some))
           (added_bytes plan services slot c.add.new.services (g.K.Sink.told c.args.sink.now).held (g.K.Sink.told c.loop-turn.sink).held c.loop-turn.batch c.add.new.self adds handed)
-          handed.appended c.in-Err.ensures.handed;
+          handed.appended c.in_err-put_full.ensures.handed;
       packets = tt;
-    }
+    })
 
 pub loop-turn-smaller : goal.loop-turn-smaller
 loop-turn-smaller g c =
@@ -78,14 +80,14 @@ loop-turn-preserved g c =
         c.loop-turn.invariant.most,
       );
       handed = one_handed plan services slot c.add.new.services (g.K.Sink.told c.args.sink.now).held (g.K.Sink.told c.loop-turn.sink).held (g.K.Sink.told c.put_full.new.sink).held c.loop-turn.batch c.add.new.self
-          c.put_full.new.self adds c.loop-turn.invariant.handed c.in-Ok.ensures.handed;
-      room = c.in-Ok.ensures.room;
-      flushed = stays-trans (g.K.Sink.told c.args.sink.now).flushed (g.K.Sink.told c.loop-turn.sink).flushed (g.K.Sink.told c.put_full.new.sink).flushed c.loop-turn.invariant.flushed c.in-Ok.ensures.flushed;
-      same = c.in-Ok.ensures.cause.kept ∙ c.loop-turn.invariant.same;
+          c.put_full.new.self adds c.loop-turn.invariant.handed c.in_ok-put_full.ensures.handed;
+      room = c.in_ok-put_full.ensures.room;
+      flushed = stays-trans (g.K.Sink.told c.args.sink.now).flushed (g.K.Sink.told c.loop-turn.sink).flushed (g.K.Sink.told c.put_full.new.sink).flushed c.loop-turn.invariant.flushed c.in_ok-put_full.ensures.flushed;
+      same = c.in_ok-put_full.ensures.cause.kept ∙ c.loop-turn.invariant.same;
     }
 
-pub returns-in-Ok-put-clause-written : goal.returns-in-Ok-put-clause-written
-returns-in-Ok-put-clause-written g c =
+pub returns-clause-written : goal.returns-clause-written
+returns-clause-written g c =
     let plan : PlanFields = plan_fields c.args.plan.now in
     let services : List (List PacketFields) = c.args.services.now.packets in
     let slot : ℕ = c.loop-turn.slot in
@@ -93,21 +95,22 @@ returns-in-Ok-put-clause-written g c =
     record {
       slots = slot;
       count = record { last = c.loop-turn.invariant.last none; over = over_there plan services slot c.loop-turn.services c.loop-turn.invariant.services none };
-      written = all_handed plan services slot (g.K.Sink.told c.args.sink.now).held (g.K.Sink.told c.loop-turn.sink).held (g.K.Sink.told c.put.new.sink).held c.loop-turn.batch c.loop-turn.invariant.handed c.in-Ok-put.ensures.written;
+      written = all_handed plan services slot (g.K.Sink.told c.args.sink.now).held (g.K.Sink.told c.loop-turn.sink).held (g.K.Sink.told c.put.new.sink).held c.loop-turn.batch c.loop-turn.invariant.handed c.in_ok-put.ensures.written;
       packets = refl;
     }
 
-pub returns-in-Err-put-clause-written : goal.returns-in-Err-put-clause-written
-returns-in-Err-put-clause-written g c =
+pub returns-in_err-put-clause-written : goal.returns-in_err-put-clause-written
+returns-in_err-put-clause-written g c =
     let plan : PlanFields = plan_fields c.args.plan.now in
     let services : List (List PacketFields) = c.args.services.now.packets in
     let slot : ℕ = c.loop-turn.slot in
     let none : packet_total c.loop-turn.services.packets ≡ 0 = none_left (packet_total c.loop-turn.services.packets) c.in_default.ensures.left in
     let handed : AreHanded plan services slot (g.K.Sink.told c.args.sink.now).held (g.K.Sink.told c.loop-turn.sink).held c.loop-turn.batch = c.loop-turn.invariant.handed in
-    record {
+    let failed = err_from_is_err_and c.from_residual-in_err-put.result c.from_residual-in_err-put.ensures.1 in
+    rw failed.1 (record {
       slots = slot;
       count = record { last = c.loop-turn.invariant.last none; over = over_there plan services slot c.loop-turn.services c.loop-turn.invariant.services none };
       written = part_handed plan services slot slot (g.K.Sink.told c.args.sink.now).held (g.K.Sink.told c.loop-turn.sink).held (g.K.Sink.told c.put.new.sink).held handed.front c.loop-turn.batch (omega arith)
-          handed.bytes_are handed.appended c.in-Err-put.ensures.written;
+          handed.bytes_are handed.appended c.in_err-put.ensures.written;
       packets = tt;
-    }
+    })

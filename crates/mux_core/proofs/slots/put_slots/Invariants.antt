@@ -5,7 +5,7 @@ use Rattle.stream_spec.specs.Slots.{is_of_service}
 use Rattle.stream_spec.specs.Stream.{slot_in}
 use Rattle.plan.specs.PlanView.{plan_fields}
 use Rattle.mux_core.specs.Services.{packet_total, AreAt}
-use Rattle.mux_core.specs.Tables.{IsTableAt}
+use Rattle.mux_core.specs.IntPackets.{IsTableAt}
 use Rattle.mux_core.specs.Slots.{turns_in}
 use Rattle.mux_core.proofs.Ended.{AreHanded}
 use Rattle.mux_core.proofs.slots.put_slots.Given as goal

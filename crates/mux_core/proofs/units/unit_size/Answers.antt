@@ -1,20 +1,23 @@
-use Rattle.std.proofs.Common.{◌≡◌, ℕ, ◌+◌, Bool, cond, List, length, sym, ap, arith, ◌∙◌}
+use Rattle.std.proofs.Common.{◌≡◌, ℕ, Bool, cond, List, length, None, Some, Option, refl, sym, ap, arith, ◌∙◌}
+use Rattle.section_spec.specs.Mpe.{mpe_bytes, mpe_to_write}
 use Rattle.plan.specs.Parts.{kind_seen}
 use Rattle.plan.specs.declared.service.Kind.{Kind}
-use Rattle.stream_spec.specs.Units.{unit_of}
-use Rattle.mux_core.proofs.Windows.{length-sndu_of}
+use Rattle.wire_spec.specs.Datagram.{ether_type_of}
+use Rattle.stream_spec.specs.Units.{mac_for, unit_of}
+use Rattle.mux_core.proofs.Windows.{npa_is}
 use Rattle.mux_core.proofs.units.unit_size.Goals as goal
-use Rattle.mux_core.proofs.units.unit_size.Goals.{then-address, else-address}
 
-pub returns-after-address-clause-size : goal.returns-after-address-clause-size
-returns-after-address-clause-size c =
+pub returns-in-Ule-clause-size : goal.returns-in-Ule-clause-size
+returns-in-Ule-clause-size c =
     let unicast : List ℕ = c.args.service.now.unicast in
     let datagram : List ℕ = c.args.datagram.now in
-    let size : length (unit_of (kind_seen c.args.service.now.kind) unicast datagram) ≡ length datagram + 8 + cond c.in-Ule.address 6 0
-    = ap (λ (k : Kind). length (unit_of (kind_seen k) unicast datagram)) c.in-Ule.is ∙ length-sndu_of c.in-Ule.address unicast datagram c.address_size-npa.ensures.size in
-    let npa : c.if-address.result ≡ cond c.in-Ule.address 6 0 =
-    elim c.if-address.branch [
-      | then-address w ↦ w.result-is ∙ c.address_size-npa.ensures.read ∙ ap (λ (b : Bool). cond {A = ℕ} b 6 0) (sym w.if-address.true)
-      | else-address w ↦ w.result-is ∙ ap (λ (b : Bool). cond {A = ℕ} b 6 0) (sym w.if-address.false)
-    ] in
-    omega (arith, size, npa)
+    let npa : Option (List ℕ) = cond c.in-Ule.address (Some (mac_for unicast datagram)) None in
+    let six : length unicast ≡ 6 = ap (λ (bytes : List ℕ). length bytes) (sym c.array_bytes.ensures.same) ∙ c.array_bytes.ensures.size in
+    let is = npa_is c.in-Ule.address unicast datagram six in
+    c.size.ensures.size npa (ether_type_of datagram) datagram is.0 is.1 refl ∙ sym (ap (λ (k : Kind). length (unit_of (kind_seen k) unicast datagram)) c.in-Ule.is)
+
+pub returns-in-Mpe-clause-size : goal.returns-in-Mpe-clause-size
+returns-in-Mpe-clause-size c =
+    let unicast : List ℕ = c.args.service.now.unicast in
+    let datagram : List ℕ = c.args.datagram.now in
+    c.mpe_size.ensures.size (mac_for unicast datagram) None datagram refl ∙ sym (ap (λ (k : Kind). length (unit_of (kind_seen k) unicast datagram)) c.in-Mpe.is)

@@ -1,0 +1,36 @@
+use Rattle.std.proofs.Common.{ℕ, List, length, map, sym, subst, ◌≤◌, ◌^◌}
+use Rattle.ts_spec.specs.Packet.{PacketFields}
+use Rattle.unit_stream.specs.Packers.{AreRising}
+use Rattle.plan_spec.specs.Plan.{KindFields}
+use Rattle.plan.specs.Parts.{kind_seen}
+use Rattle.stream_spec.specs.Units.{unit_of}
+use Rattle.mux_core.proofs.Held.{rising_held}
+use Rattle.mux_core.proofs.Windows.{window_first, sending_first, packets_first, few_first}
+use Rattle.mux_core.proofs.service_packets.DatagramPackets.new.Goals as goal
+
+pub invariant_of-result : goal.invariant_of-result
+invariant_of-result g c =
+    let kind : KindFields = kind_seen c.args.service.now.kind in
+    let unicast : List ℕ = c.args.service.now.unicast in
+    let datagrams : List (List ℕ) = c.args.datagrams.now in
+    let ends : List ℕ = c.in_ok-ends.ends.items in
+    sending_first g.F.UnitForm.START kind unicast datagrams ends c.in_ok-window.window c.new-2.result
+    (window_first kind unicast datagrams c.in_ok-window.window c.requires.built c.requires.datagrams c.requires.few
+    c.in_ok-window.ensures.empty.0 c.in_ok-window.ensures.empty.1 c.in_ok-window.ensures.empty.2 c.in_ok-window.ensures.size)
+    c.in_ok-window.ensures.empty.0 c.in_ok-ends.ensures.written
+    (subst (AreRising g.F.UnitForm.START 0) (sym c.in_ok-ends.ensures.written) (rising_held g.F.UnitForm.START 0 (map (unit_of kind unicast) datagrams) c.requires.least))
+    c.new-2.ensures.on_way
+
+pub returns-clause-written : goal.returns-clause-written
+returns-clause-written g c =
+    packets_first g.F.UnitForm.form (kind_seen c.args.service.now.kind) c.args.service.now.unicast c.args.datagrams.now c.in_ok-ends.ends.items c.new-2.result c.args.packing c.args.pid
+    c.in_ok-ends.ensures.written c.new-2.ensures.begins
+
+pub returns-clause-most : goal.returns-clause-most
+returns-clause-most g c =
+    let kind : KindFields = kind_seen c.args.service.now.kind in
+    let unicast : List ℕ = c.args.service.now.unicast in
+    let datagrams : List (List ℕ) = c.args.datagrams.now in
+    subst (λ (packets : List PacketFields). length packets ≤ 2 ^ 48)
+    (sym (packets_first g.F.UnitForm.form kind unicast datagrams c.in_ok-ends.ends.items c.new-2.result c.args.packing c.args.pid c.in_ok-ends.ensures.written c.new-2.ensures.begins))
+    (few_first g.F.UnitForm.form kind unicast datagrams c.args.packing c.args.pid c.in_ok-ends.ensures.most c.requires.few)
