@@ -10,9 +10,9 @@ plan_of_both recording slots cycle pid = record sample_plan {
   recording = recording;
   cycle = cycle;
   services =
-    sample_service (codes "lecture") (fec 512 1024 64 (Some (record { start = 100; length = slots }))) 1
-    ∷ sample_service (codes "files") (ule pid true true) 2
-    ∷ [];
+      sample_service (codes "lecture") (fec 512 1024 64 (Some (record { start = 100; length = slots }))) 1
+      ∷ sample_service (codes "files") (ule pid true true) 2
+      ∷ [];
 }
 
 abbrev pub plan_with : ℕ → ℕ → PlanFields

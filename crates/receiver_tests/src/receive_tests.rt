@@ -3,8 +3,8 @@ ghost use Rattle.std.specs.Prelude.{◌≡◌, true, IfOk};
 ghost use Rattle.plan.specs.PlanView.{plan_fields};
 ghost use Rattle.plan_spec.specs.Built.{are_received};
 
-use receive_command::{ReceiveEnd, UleEnd, receive, ule};
 use demux_core::can_receive;
+use receive_command::{ReceiveEnd, UleEnd, receive, ule};
 use service_plan::{Plan, read_plan, ule_plan};
 use std::alloc::Global;
 use std::test::Fail;

@@ -3,8 +3,8 @@ ghost use Rattle.std.specs.Prelude.{◌≡◌, ◌≤◌, ◌<◌, length};
 ghost use Rattle.plan.specs.PlanView.{plan_fields};
 
 use crate::receiver_cases::{Part, record_of};
-use demux_core::{Receiver, can_receive};
 use bumpalo::Bump;
+use demux_core::{Receiver, can_receive};
 use loss_report::{ServiceCounts, StreamCounts};
 use service_plan::{Plan, read_plan, ule_plan};
 use std::alloc::Global;

@@ -1,9 +1,9 @@
 //! What is counted of packets by hand, and which datagrams are delivered.
 use crate::reception_cases::{Case, SECTIONS, SNDUS, TWO};
-use service_reception::{Counts, Reception, TableReception, UnitReader};
 use addr_rules::MacList;
 use ipe_io::Failed;
 use section_codec::SectionForm;
+use service_reception::{Counts, Reception, TableReception, UnitReader};
 use std::alloc::Global;
 use std::test::Fail;
 use test_recordings::units::{DATAGRAM, INT, NEXT_INT, OTHER, SECTION, SNDU};

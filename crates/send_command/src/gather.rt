@@ -8,8 +8,8 @@ ghost use Rattle.datagram_routing.specs.Offering.{HasRoom};
 ghost use Rattle.mux_core.specs.Sending.{IsUnderPlan};
 ghost use Rattle.send_command.specs.Gathering.{HasReadCause, IsIntake, IsGathered, ReadsAll, ReadsNext, TakesIn};
 
-use ipe_io::Source;
 use datagram_routing::Offered;
+use ipe_io::Source;
 use pcap_file::{CaptureFault, CaptureReader, NextFault, OpenFault, datagram_of};
 use plan::Plan;
 use std::alloc::Global;

@@ -1,7 +1,7 @@
 //! Small captures, and the streams that are sent of them; packets by hand from RFC 4326 and ISO/IEC 13818-1.
-use send_command::{SendEnd, Tally, can_send, send, tell_fault, tell_tally};
 use ipe_io::{MemSink, MemSource};
 use pcap_file::CaptureFault;
+use send_command::{SendEnd, Tally, can_send, send, tell_fault, tell_tally};
 use service_plan::{Plan, read_plan};
 use std::alloc::Global;
 use std::test::Fail;
