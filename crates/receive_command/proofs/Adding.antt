@@ -42,6 +42,21 @@ pub adds_none : (a : Option (List File)) → AddsFiles a a []
 adds_none None = tt
 adds_none (Some files) = sym (append-nil files)
 
+stays_none : (a b : Option (List File)) → AddsFiles a b [] → Stays a b
+stays_none None b added = tt
+stays_none (Some xs) None added = absurd added
+stays_none (Some xs) (Some ys) added = added ∙ append-nil xs
+
+-- of one service, no head is whole where the file could not be added
+pub none_begun : (services : List ServiceFields) (a b : Option (List File)) (count counted : ℕ) → length services ≡ 1
+    → (heads : AddsHeads services a b) × (counted ≡ count + heads.count) → (counted ≡ count) × Stays a b
+none_begun services a b count counted one begun =
+    let heads : AddsHeads services a b = begun.0 in
+    let none : heads.count ≡ 0 = omega (arith, heads.fewer, one) in (
+      omega (arith, begun.1, none),
+      stays_none a b (subst (λ (k : ℕ). AddsCaptures false head_of (take k services) a b) none heads.files),
+    )
+
 pub adds_then : (a b c : Option (List File)) (xs : List File) (file : File) → AddsFiles a b xs → AddsFile b c file → AddsFiles a c (xs ++ file ∷ [])
 adds_then None b c xs file first then = tt
 adds_then (Some olds) None c xs file first then = absurd first

@@ -5,6 +5,7 @@
 #![tactic(auto)]
 
 mod captures;
+mod faults;
 mod files;
 mod outlet;
 mod reading;
@@ -16,5 +17,6 @@ mod steps;
 mod tests;
 mod ule_command;
 
-pub use receiving::{ReceiveEnd, receive};
-pub use ule_command::{UleEnd, ule};
+pub use faults::ReceiveFault;
+pub use receiving::receive;
+pub use ule_command::ule;

@@ -3,7 +3,7 @@ ghost use Rattle.std.specs.Prelude.{◌≡◌, true, IfOk};
 ghost use Rattle.plan.specs.PlanView.{plan_fields};
 ghost use Rattle.plan_spec.specs.Built.{are_received};
 
-use crate::{ReceiveEnd, UleEnd, receive, ule};
+use crate::{ReceiveFault, receive, ule};
 use demux_core::can_receive;
 use ipe_io::{MemRack, MemSink, MemSource};
 use service_plan::{Plan, read_plan, ule_plan};
@@ -160,7 +160,7 @@ fn plan_of(alloc: Global) -> Result<Plan, Fail>
 /// What a reception has left after.
 #[derive(Drop)]
 struct Ended {
-    end: ReceiveEnd,
+    end: Result<(), ReceiveFault>,
     output: MemSink,
     rack: MemRack,
 }
@@ -180,7 +180,7 @@ fn received(alloc: Global, plan: &Plan, bytes: &[u8], fails: [&[u32]; 3]) -> Res
 fn an_empty_recording_gives_a_head_and_nineteen_lines(rt: HostRuntime) -> Result<(), Fail> {
     let plan = ule_plan(rt.alloc(), 256)?;
     let ended = received(rt.alloc(), &plan, &[], [&[], &[], &[]])?;
-    assert_eq!(rt; ended.end, ReceiveEnd::Done);
+    assert_eq!(rt; ended.end, Ok(()));
     assert_eq!(rt; ended.output.bytes(), EMPTY);
     assert_eq!(rt; ended.output.flushed(), EMPTY.len());
     assert_eq!(rt; ended.rack.files(), 1);
@@ -197,7 +197,7 @@ fn two_services_are_received_and_reported(rt: HostRuntime) -> Result<(), Fail> {
     let plan = plan_of(rt.alloc())?;
     let bytes = recording(rt.alloc(), &INT, 187)?;
     let ended = received(rt.alloc(), &plan, &bytes, [&[], &[], &[]])?;
-    assert_eq!(rt; ended.end, ReceiveEnd::Done);
+    assert_eq!(rt; ended.end, Ok(()));
     assert_eq!(rt; ended.output.bytes(), WHOLE);
     assert_eq!(rt; ended.rack.files(), 2);
     if ended.rack.files() == 2 {
@@ -210,7 +210,7 @@ fn two_services_are_received_and_reported(rt: HostRuntime) -> Result<(), Fail> {
     }
     let bytes = recording(rt.alloc(), &WRONG_HASH, 0)?;
     let ended = received(rt.alloc(), &plan, &bytes, [&[], &[], &[]])?;
-    assert_eq!(rt; ended.end, ReceiveEnd::Done);
+    assert_eq!(rt; ended.end, Ok(()));
     assert!(rt;
         ended
             .output
@@ -227,15 +227,15 @@ fn each_failing_call_ends_the_reception(rt: HostRuntime) -> Result<(), Fail> {
     // each file is added, has its head, the head of its record, the datagram, and is flushed
     for call in 0..10u32 {
         let ended = received(rt.alloc(), &plan, &bytes, [&[], &[], &[call]])?;
-        assert_eq!(rt; ended.end, ReceiveEnd::RackFault, "at {call}");
+        assert_eq!(rt; ended.end, Err(ReceiveFault::Rack), "at {call}");
         assert_eq!(rt; ended.output.bytes().len(), 0);
     }
     let ended = received(rt.alloc(), &plan, &bytes, [&[], &[], &[10]])?;
-    assert_eq!(rt; ended.end, ReceiveEnd::Done);
+    assert_eq!(rt; ended.end, Ok(()));
     // the report is written at once, and flushed
     for call in 0..2u32 {
         let ended = received(rt.alloc(), &plan, &bytes, [&[], &[call], &[]])?;
-        assert_eq!(rt; ended.end, ReceiveEnd::SinkFault, "at {call}");
+        assert_eq!(rt; ended.end, Err(ReceiveFault::Sink), "at {call}");
         assert_eq!(rt; ended.rack.files(), 2);
         if ended.rack.files() == 2 {
             assert_eq!(rt; ended.rack.file(1), FILE.as_slice());
@@ -251,7 +251,7 @@ fn each_failing_call_ends_the_reception(rt: HostRuntime) -> Result<(), Fail> {
         (12, [60, 60]),
     ] {
         let ended = received(rt.alloc(), &plan, &bytes, [&[call], &[], &[]])?;
-        assert_eq!(rt; ended.end, ReceiveEnd::SourceFault, "at {call}");
+        assert_eq!(rt; ended.end, Err(ReceiveFault::Source), "at {call}");
         assert_eq!(rt; ended.output.bytes().len(), 0);
         assert_eq!(rt; ended.rack.files(), 2);
         if ended.rack.files() == 2 {
@@ -267,9 +267,9 @@ fn one_pid_is_received_alone(rt: HostRuntime) -> Result<(), Fail> {
     let alloc = rt.alloc();
     let bytes = recording(alloc, &INT, 100)?;
     for (rack_fails, end, length) in [
-        (9, UleEnd::Done, 60),
-        (2, UleEnd::RackFault, 24),
-        (4, UleEnd::RackFault, 60),
+        (9, Ok(()), 60),
+        (2, Err(ReceiveFault::Rack), 24),
+        (4, Err(ReceiveFault::Rack), 60),
     ] {
         let mut input = MemSource::new(alloc, &bytes, 100, &[])?;
         let mut rack = MemRack::new(alloc, 1, 1000, &[rack_fails])?;
@@ -282,6 +282,6 @@ fn one_pid_is_received_alone(rt: HostRuntime) -> Result<(), Fail> {
     }
     let mut input = MemSource::new(alloc, &bytes, 100, &[0])?;
     let mut rack = MemRack::new(alloc, 1, 1000, &[])?;
-    assert_eq!(rt; ule(alloc, 256, &mut input, &mut rack), UleEnd::SourceFault);
+    assert_eq!(rt; ule(alloc, 256, &mut input, &mut rack), Err(ReceiveFault::Source));
     Ok(())
 }

@@ -22,6 +22,6 @@ returns-in-Err-Fault c = record {
 pub returns : goal.returns
 returns c = record {
   written = on_ok c.add_rules.result (λ added.
-      adds_carried c.args.section.now c.args.units c.in-Ok.table c.args.report.now c.add_table-2.new.self c.add_rules.new.report c.in-Ok.ensures.read c.in-Ok-add_table.ensures.written added)
+      adds_carried c.args.section.now c.args.units c.in-Ok.table c.args.report.now c.add_table-2.new.self c.add_rules.new.report c.in-Ok.ensures.read c.in_ok-add_table.ensures.written added)
       c.add_rules.ensures.written;
 }
