@@ -15,8 +15,8 @@ ghost use Rattle.demux_core.specs.Services.{HasReceivedOne, IsReceivingOne, IsFr
 use addr_rules::MacList;
 use bumpalo::Bump;
 use ipe_io::{Failed, OutOfMemory, Outlet};
-use section_codec::SectionForm;
 use plan::Kind;
+use section_codec::SectionForm;
 use service_reception::{Counts, Reception};
 use ts_packet::Packet;
 use ule_unit::UleForm;

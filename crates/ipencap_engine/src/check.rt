@@ -6,8 +6,8 @@ ghost use Rattle.ipencap_engine.specs.Jobs.{to_check};
 ghost use Rattle.ipencap_engine.specs.Statuses.{outcome_line, status_of};
 ghost use Rattle.ipencap_engine.specs.Runs.{Runs};
 
-use crate::usable_plan::outcome_of;
 use crate::status::{Outcome, Status};
+use crate::usable_plan::outcome_of;
 use ipe_io::{Failed, Shelf, Sink};
 use settings_load::{list_services, load_plan};
 use std::alloc::Global;

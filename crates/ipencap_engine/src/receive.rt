@@ -5,8 +5,8 @@ ghost use Rattle.ipencap_engine.specs.Jobs.{to_receive};
 ghost use Rattle.ipencap_engine.specs.Statuses.{outcome_line, status_of};
 ghost use Rattle.ipencap_engine.specs.Runs.{Runs};
 
-use crate::usable_plan::{outcome_of, plan_in_use};
 use crate::status::{Outcome, Status};
+use crate::usable_plan::{outcome_of, plan_in_use};
 use ipe_io::{Rack, Shelf, Sink, Source};
 use receive_command::receive;
 use std::alloc::Global;

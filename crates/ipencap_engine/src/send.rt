@@ -6,8 +6,8 @@ ghost use Rattle.ipencap_engine.specs.Jobs.{to_send};
 ghost use Rattle.ipencap_engine.specs.Statuses.{outcome_line, status_of};
 ghost use Rattle.ipencap_engine.specs.Runs.{Runs};
 
-use crate::usable_plan::{outcome_of, plan_in_use};
 use crate::status::{Outcome, Status};
+use crate::usable_plan::{outcome_of, plan_in_use};
 use ipe_io::{Shelf, Sink, Source};
 use send_command::{SendEnd, send};
 use std::alloc::Global;

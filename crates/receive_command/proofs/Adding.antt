@@ -1,13 +1,13 @@
 -- Files of services that are added one after another.
-use Rattle.std.proofs.Common.{◌≡◌, inl, inr, ℕ, suc, zero, ◌+◌, ◌<◌, ◌≤◌, Bool, true, false, List, [], ◌∷◌, ◌++◌, length, map, take, get_or, set, refl, ap, sym, ◌∙◌, subst, append_assoc, arith, Option, None, Some, IfSome}
+use Rattle.std.proofs.Common.{◌≡◌, inl, inr, ℕ, suc, zero, ◌+◌, Bool, false, List, [], ◌∷◌, ◌++◌, length, map, take, get_or, set, refl, ap, sym, ◌∙◌, subst, append_assoc, arith, Option, None, Some, IfSome}
 use Rattle.std.specs.List.{slice_get}
 use Rattle.std.proofs.lemmas.List.{append-nil, take_all, take_more, map-append}
-use Rattle.std.proofs.lemmas.Option.{slice_get_within, get_or_from_slice_get, slice_get-map}
+use Rattle.std.proofs.lemmas.Option.{slice_get_within, get_or_from_slice_get}
 use Rattle.wire_spec.specs.Content.{File, AddsFile, ChangesFile, Stays, grown, empty_file, no_file}
 use Rattle.plan_spec.specs.Plan.{ServiceFields}
 use Rattle.pcap_file.specs.Capture.{capture_head}
 use Rattle.std.proofs.lemmas.List.{get_or_at, set_at}
-use Rattle.receive_command.specs.Files.{file_name, file_of, head_of, file_with, AddsFiles, AddsCaptures, AddsHeads, AddsHeadsPart, AddsParts, AddsPart, IsPart, AreParts}
+use Rattle.receive_command.specs.Files.{file_name, file_of, head_of, file_with, AddsFiles, AddsCaptures, AddsHeads, AddsHeadsPart, AddsPart, IsPart, AreParts}
 
 -- A new file that grew.
 

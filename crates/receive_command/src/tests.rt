@@ -282,6 +282,9 @@ fn one_pid_is_received_alone(rt: HostRuntime) -> Result<(), Fail> {
     }
     let mut input = MemSource::new(alloc, &bytes, 100, &[0])?;
     let mut rack = MemRack::new(alloc, 1, 1000, &[])?;
-    assert_eq!(rt; ule(alloc, 256, &mut input, &mut rack), Err(ReceiveFault::Source));
+    assert_eq!(rt;
+        ule(alloc, 256, &mut input, &mut rack),
+        Err(ReceiveFault::Source)
+    );
     Ok(())
 }

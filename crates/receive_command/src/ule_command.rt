@@ -17,7 +17,12 @@ use std::alloc::Global;
 /// Receives the SNDUs of one PID of a plain recording, whatever their addresses, into the capture `ule.pcap`.
 ///
 /// All memory is taken before the first record is read; where it runs out, nothing was read and no file was added.
-pub fn ule<I: Source, R: Rack>(alloc: Global, pid: u16, input: &mut I, rack: &mut R) -> Result<(), ReceiveFault>
+pub fn ule<I: Source, R: Rack>(
+    alloc: Global,
+    pid: u16,
+    input: &mut I,
+    rack: &mut R,
+) -> Result<(), ReceiveFault>
     requires { pid ≤ 8190 }
     ensures done { OnOk result (EndsWhole (plan_of_pid pid) (I.told input.old).left (I.told input.new).left (R.told rack.old).files (R.told rack.new).files) }
     ensures read { OnOk result ((I.told input.new).ended ≡ true) }

@@ -1,4 +1,4 @@
-use Rattle.std.proofs.Common.{◌≡◌, ◌∙◌, ap, sym, refl, arith, length, Err, ◌+◌, ℕ, map}
+use Rattle.std.proofs.Common.{◌∙◌, ap, sym, refl, arith, length, Err, ◌+◌, ℕ}
 use Rattle.std.proofs.lemmas.List.{length-map}
 use Rattle.wire_spec.specs.Causes.{raised}
 use Rattle.plan_spec.specs.Plan.{PlanFields}

@@ -1,11 +1,9 @@
-use Rattle.std.proofs.Common.{◌≡◌, ◌+◌, ℕ, List, ap, sym, ◌∙◌, arith, map, subst, Err, Some, option_map, is_ok}
-use Rattle.std.specs.List.{slice_get}
-use Rattle.std.proofs.lemmas.Option.{slice_get-map, slice_get_within}
+use Rattle.std.proofs.Common.{ℕ, List, ap, sym, ◌∙◌, arith, map, subst, Err, option_map, is_ok}
+use Rattle.std.proofs.lemmas.Option.{slice_get-map}
 use Rattle.std.proofs.lemmas.List.{length-map}
 use Rattle.std.proofs.lemmas.Bool.{false≢true}
 use Rattle.wire_spec.specs.Content.{AddsFile}
 use Rattle.pcap_file.specs.Capture.{capture_head}
-use Rattle.plan_spec.specs.Plan.{ServiceFields}
 use Rattle.plan.specs.Parts.{service_seen}
 use Rattle.receive_command.specs.Files.{file_of, head_of, AddsPart}
 use Rattle.ipe_io.specs.declared.faults.AddFault.TheVariants.{Failed, OutOfMemory}

@@ -1,15 +1,12 @@
-use Rattle.std.proofs.Common.{◌≡◌, ◌++◌, ◌∷◌, [], length, ap, sym, ◌∙◌, refl, arith, map, Ok, Err, is_ok, ℕ}
-use Rattle.std.proofs.lemmas.List.{length-map}
+use Rattle.std.proofs.Common.{◌≡◌, ◌++◌, ◌∷◌, [], length, ap, sym, ◌∙◌, arith, Ok, Err, is_ok, ℕ}
 use Rattle.std.proofs.lemmas.Bool.{false≢true}
 use Rattle.wire_spec.specs.Causes.{raised}
-use Rattle.ts_spec.specs.Recording.{RecordingForm, record_size, records_of}
+use Rattle.ts_spec.specs.Recording.{RecordingForm, record_size}
 use Rattle.plan_spec.specs.Plan.{PlanFields}
-use Rattle.plan.specs.Parts.{service_seen}
 use Rattle.plan.specs.PlanView.{plan_fields}
 use Rattle.ts_record.specs.Reading.{ReadsRecord, ReadsEnd, record_seen}
-use Rattle.ipe_io.proofs.Told.{raised-zero}
 use Rattle.receive_command.specs.Reading.{records_in}
-use Rattle.receive_command.proofs.Advance.{same_form, consumes_none, text_none, received_none, few_received, services_received, record_more, files_more, received_more, taken_more, consumed_more, whole_at_end, few_taken, front_at, front_taken, limit_at, limit_taken, stop_at, stop_taken}
+use Rattle.receive_command.proofs.Advance.{few_received, record_more, files_more, received_more, taken_more, consumed_more, whole_at_end, few_taken, front_at, front_taken, limit_at, limit_taken, stop_at, stop_taken}
 use Rattle.receive_command.proofs.CameUp.{reading_failed, reading_not_failed, reading_too_long}
 use Rattle.receive_command.proofs.reading.read_records.Goals as goal
 

@@ -1,4 +1,4 @@
-use Rattle.std.proofs.Common.{◌≡◌, ◌∙◌, ap, sym, refl, arith, inl, inr, length, map, subst, ℕ, Err}
+use Rattle.std.proofs.Common.{ap, refl, arith, inl, inr, subst, ℕ, Err}
 use Rattle.std.proofs.lemmas.List.{length-map}
 use Rattle.plan_spec.specs.Plan.{PlanFields}
 use Rattle.plan.specs.Parts.{service_seen}

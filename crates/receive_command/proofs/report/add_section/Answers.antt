@@ -1,7 +1,5 @@
-use Rattle.std.proofs.Common.{ap, ◌∙◌, sym, Err, append_assoc, ◌++◌, List}
-use Rattle.int_spec.specs.Reading.{carried}
+use Rattle.std.proofs.Common.{ap, ◌∙◌, Err}
 use Rattle.int_table.specs.declared.reading.IntReadFault.TheVariants as unread
-use Rattle.loss_report.specs.Lines.{Line}
 use Rattle.receive_command.proofs.Lines.{on_ok, adds_refused, adds_carried}
 use Rattle.receive_command.proofs.report.add_section.Goals as goal
 

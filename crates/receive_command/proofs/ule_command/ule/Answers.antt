@@ -1,8 +1,7 @@
-use Rattle.std.proofs.Common.{◌≡◌, ◌<◌, ◌≤◌, ◌*◌, ℕ, length, ap, subst, refl, Err}
+use Rattle.std.proofs.Common.{◌≡◌, ◌<◌, ◌≤◌, ◌*◌, ℕ, length, ap, subst, Err}
 use Rattle.wire_spec.specs.Causes.{raised}
 use Rattle.ts_spec.specs.Recording.{record_size}
 use Rattle.plan_spec.specs.Plan.{PlanFields}
-use Rattle.receive_command.specs.Files.{AddsHeads}
 use Rattle.receive_command.specs.Reading.{most_records}
 use Rattle.receive_command.specs.Ends.{EndsWhole, EndsFront, EndsAtLimit, EndsInFiles}
 use Rattle.receive_command.specs.declared.faults.ReceiveFault.TheVariants as fault
