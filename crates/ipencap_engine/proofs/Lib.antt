@@ -1,5 +1,4 @@
 pub mod Pieces
-pub mod Longer
 pub mod Asked
 pub mod Lines
 pub mod Plans

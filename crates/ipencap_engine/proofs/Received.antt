@@ -15,9 +15,11 @@ use Rattle.settings_load.specs.Settings.{Refusal, IsAcceptedFile}
 use Rattle.receive_command.specs.Files.{AddsFiles, AddsCaptures, AddsHeads, AddsParts, capture_of}
 use Rattle.receive_command.specs.Reading.{records_in, most_records}
 use Rattle.receive_command.specs.Ends.{EndsWhole, EndsFront, EndsAtLimit, EndsInFiles, EndsReported, EndsInReport}
+use Rattle.receive_command.specs.declared.faults.ReceiveFault.{ReceiveFault}
+use Rattle.receive_command.specs.declared.faults.ReceiveFault.TheVariants as fault
 use Rattle.receive_command.proofs.Parted.{EndsPart, part_of_front, part_of_limit, part_of_files}
 use Rattle.receive_command.proofs.Assembly.{parts_whole, parts_of_heads, parts_of_some}
-use Rattle.ipencap_engine.specs.Statuses.{status_line}
+use Rattle.ipencap_engine.specs.Statuses.{status_line, status_of_fault}
 use Rattle.ipencap_engine.specs.Built.{IsPlanInUse, IsRefusedForUse}
 use Rattle.ipencap_engine.specs.World.{World, world, Object, the_shelf, the_input, the_output, the_rack}
 use Rattle.ipencap_engine.specs.Jobs.{Job, to_ule, to_receive, row, may_end, may_use, is_recording, TellsSettings, GivesPlan, IsGiven, IsPlanOf, IsInputOf}
@@ -27,7 +29,7 @@ use Rattle.ipencap_engine.specs.Runs.{Runs, KeepsShelf, JudgesSettings, CountsFa
 use Rattle.ipencap_engine.specs.declared.status.Status.{Status}
 use Rattle.ipencap_engine.specs.declared.status.Status.TheVariants.{Done, Usage, Settings, Capture, ShelfFault, SourceFault, SinkFault, RackFault, OutOfMemory, TooLong}
 use Rattle.ipencap_engine.proofs.Pieces.{consumed, at_end_is, CutBehind, cut_behind}
-use Rattle.ipencap_engine.proofs.Longer.{capture_more, parts_of_longer}
+use Rattle.receive_command.proofs.Longer.{capture_more, parts_of_longer}
 use Rattle.ipencap_engine.proofs.Plans.{told_of, told_name, one_given}
 use Rattle.ipencap_engine.proofs.Arriving.{arrives, alike_files, parts_stay}
 use Rattle.ipencap_engine.proofs.Settings.{done_line, judged, keeps_same}
@@ -122,6 +124,20 @@ appends_none : (held : Option (List ℕ)) → Appends held held []
 appends_none None = tt
 appends_none (Some bytes) = sym (append-nil bytes)
 
+-- What is known of a reception that was not done, by its fault.
+pub record Fails (p : PlanFields) (why : ReceiveFault) (input taken : InputTold) (rack racked : RackTold) : Type 0 where
+  pub front : why ≡ fault.Source → EndsFront p input.left taken.left rack.files racked.files
+  pub front_taken : why ≡ fault.Source → (n : ℕ) × (n < record_size p.recording * most_records) × (taken.taken ≡ raised input.taken n)
+  pub not_ended : why ≡ fault.Source → input.ended ≡ false → taken.ended ≡ false
+  pub limit : why ≡ fault.TooLong → EndsAtLimit p input.left taken.left rack.files racked.files
+  pub limit_taken : why ≡ fault.TooLong → taken.taken ≡ raised input.taken (record_size p.recording * most_records)
+  pub files : why ≡ fault.Rack → EndsInFiles p input.left taken.left rack.files racked.files
+  pub files_taken : why ≡ fault.Rack → (n : ℕ) × (n ≤ record_size p.recording * most_records) × (taken.taken ≡ raised input.taken n)
+  pub source : why ≡ fault.Source → Rose input.faults taken.faults
+  pub file : why ≡ fault.Rack → Rose rack.faults racked.faults
+  pub input_kept : why ≢ fault.Source → taken.faults ≡ input.faults
+  pub rack_kept : why ≢ fault.Rack → racked.faults ≡ rack.faults
+
 -- `ule`.
 
 one_pid : (pid : ℕ) (shelf : ShelfTold) (plan : PlanFields) → IsPlanOf (to_ule pid) shelf plan → plan_of_pid pid ≡ plan
@@ -166,7 +182,7 @@ ule_done pid shelf input taken output rack racked same of_shelf of_output ends e
     (λ bytes pieces tail told cut. whole_parts (plan_of_pid pid) input.left taken.left rack.files racked.files bytes pieces tail told cut ends)
     (λ bytes pieces tail told cut done. captures (plan_of_pid pid) input.left taken.left rack.files racked.files bytes pieces tail told cut ends)
 
-pub ule_source_fault : (pid : ℕ) (shelf : ShelfTold) (input taken : InputTold) (output : OutputTold) (rack racked : RackTold) (same : Object → Type 0)
+ule_source_fault : (pid : ℕ) (shelf : ShelfTold) (input taken : InputTold) (output : OutputTold) (rack racked : RackTold) (same : Object → Type 0)
     → same the_shelf → same the_output → EndsFront (plan_of_pid pid) input.left taken.left rack.files racked.files → (n : ℕ) × (n < 188 * most_records) × (taken.taken ≡ raised input.taken n)
     → (input.ended ≡ false → taken.ended ≡ false) → Rose input.faults taken.faults → racked.faults ≡ rack.faults
     → Runs (to_ule pid) SourceFault (status_line SourceFault) (world shelf input output rack) (world shelf taken output racked) same
@@ -180,7 +196,7 @@ ule_source_fault pid shelf input taken output rack racked same of_shelf of_outpu
     (λ bytes pieces tail told cut. parts (plan_of_pid pid) input.left taken.left rack.files racked.files bytes pieces tail told cut (part_of_front (plan_of_pid pid) input.left taken.left rack.files racked.files ends))
     (λ bytes pieces tail told cut done. absurd (cc))
 
-pub ule_rack_fault : (pid : ℕ) (shelf : ShelfTold) (input taken : InputTold) (output : OutputTold) (rack racked : RackTold) (same : Object → Type 0)
+ule_rack_fault : (pid : ℕ) (shelf : ShelfTold) (input taken : InputTold) (output : OutputTold) (rack racked : RackTold) (same : Object → Type 0)
     → same the_shelf → same the_output → EndsInFiles (plan_of_pid pid) input.left taken.left rack.files racked.files → (n : ℕ) × (n ≤ 188 * most_records) × (taken.taken ≡ raised input.taken n)
     → taken.faults ≡ input.faults → Rose rack.faults racked.faults
     → Runs (to_ule pid) RackFault (status_line RackFault) (world shelf input output rack) (world shelf taken output racked) same
@@ -194,7 +210,7 @@ ule_rack_fault pid shelf input taken output rack racked same of_shelf of_output 
     (λ bytes pieces tail told cut. parts (plan_of_pid pid) input.left taken.left rack.files racked.files bytes pieces tail told cut (part_of_files (plan_of_pid pid) input.left taken.left rack.files racked.files ends))
     (λ bytes pieces tail told cut done. absurd (cc))
 
-pub ule_too_long : (pid : ℕ) (shelf : ShelfTold) (input taken : InputTold) (output : OutputTold) (rack racked : RackTold) (same : Object → Type 0)
+ule_too_long : (pid : ℕ) (shelf : ShelfTold) (input taken : InputTold) (output : OutputTold) (rack racked : RackTold) (same : Object → Type 0)
     → same the_shelf → same the_output → EndsAtLimit (plan_of_pid pid) input.left taken.left rack.files racked.files → taken.taken ≡ raised input.taken (188 * most_records)
     → taken.faults ≡ input.faults → racked.faults ≡ rack.faults
     → Runs (to_ule pid) TooLong (status_line TooLong) (world shelf input output rack) (world shelf taken output racked) same
@@ -208,7 +224,7 @@ ule_too_long pid shelf input taken output rack racked same of_shelf of_output en
     (λ bytes pieces tail told cut. parts (plan_of_pid pid) input.left taken.left rack.files racked.files bytes pieces tail told cut (part_of_limit (plan_of_pid pid) input.left taken.left rack.files racked.files ends))
     (λ bytes pieces tail told cut done. absurd (cc))
 
-pub ule_no_memory : (pid : ℕ) (shelf : ShelfTold) (input taken : InputTold) (output : OutputTold) (rack racked : RackTold) (same : Object → Type 0)
+ule_no_memory : (pid : ℕ) (shelf : ShelfTold) (input taken : InputTold) (output : OutputTold) (rack racked : RackTold) (same : Object → Type 0)
     → same the_shelf → same the_output → same the_input → taken ≡ input → racked.count ≡ rack.count → Stays rack.files racked.files → taken.faults ≡ input.faults → racked.faults ≡ rack.faults
     → Runs (to_ule pid) OutOfMemory (status_line OutOfMemory) (world shelf input output rack) (world shelf taken output racked) same
 ule_no_memory pid shelf input taken output rack racked same of_shelf of_output unread told_same count stays count_in count_rack =
@@ -220,6 +236,21 @@ ule_no_memory pid shelf input taken output rack racked same of_shelf of_output u
     (λ e. in_memory (λ r. told_same) count stays) refl
     (λ bytes pieces tail told cut. parts_stay (capture_of (records_in (plan_of_pid pid) pieces)) (plan_of_pid pid).services rack.files racked.files stays)
     (λ bytes pieces tail told cut done. absurd (cc))
+
+-- `ule` was not done
+pub ule_fails : (pid : ℕ) (shelf : ShelfTold) (why : ReceiveFault) (input taken : InputTold) (output : OutputTold) (rack racked : RackTold) (same : Object → Type 0)
+    → same the_shelf → same the_output → Fails (plan_of_pid pid) why input taken rack racked → why ≢ fault.Sink → (why ≡ fault.OutOfMemory → same the_input)
+    → (why ≡ fault.OutOfMemory → taken ≡ input) → (why ≡ fault.OutOfMemory → racked.count ≡ rack.count) → (why ≡ fault.OutOfMemory → Stays rack.files racked.files)
+    → Runs (to_ule pid) (status_of_fault why) (status_line (status_of_fault why)) (world shelf input output rack) (world shelf taken output racked) same
+ule_fails pid shelf fault.Source input taken output rack racked same of_shelf of_output e other unread told_same count stays =
+    ule_source_fault pid shelf input taken output rack racked same of_shelf of_output (e.front refl) (e.front_taken refl) (e.not_ended refl) (e.source refl) (e.rack_kept (λ f. absurd (cc)))
+ule_fails pid shelf fault.Sink input taken output rack racked same of_shelf of_output e other unread told_same count stays = absurd (other refl)
+ule_fails pid shelf fault.Rack input taken output rack racked same of_shelf of_output e other unread told_same count stays =
+    ule_rack_fault pid shelf input taken output rack racked same of_shelf of_output (e.files refl) (e.files_taken refl) (e.input_kept (λ f. absurd (cc))) (e.file refl)
+ule_fails pid shelf fault.TooLong input taken output rack racked same of_shelf of_output e other unread told_same count stays =
+    ule_too_long pid shelf input taken output rack racked same of_shelf of_output (e.limit refl) (e.limit_taken refl) (e.input_kept (λ f. absurd (cc))) (e.rack_kept (λ f. absurd (cc)))
+ule_fails pid shelf fault.OutOfMemory input taken output rack racked same of_shelf of_output e other unread told_same count stays =
+    ule_no_memory pid shelf input taken output rack racked same of_shelf of_output (unread refl) (told_same refl) (count refl) (stays refl) (e.input_kept (λ f. absurd (cc))) (e.rack_kept (λ f. absurd (cc)))
 
 -- `receive`.
 
@@ -277,7 +308,7 @@ receive_done name p old new input taken output held rack racked same shelf is no
     (λ bytes pieces tail told cut. whole_parts p input.left taken.left rack.files racked.files bytes pieces tail told cut ends.ends)
     (λ bytes pieces tail told cut done. captures p input.left taken.left rack.files racked.files bytes pieces tail told cut ends.ends)
 
-pub receive_sink_fault : (name : List ℕ) (p : PlanFields) (old new : ShelfTold) (input taken : InputTold) (output held : OutputTold) (rack racked : RackTold) (same : Object → Type 0)
+receive_sink_fault : (name : List ℕ) (p : PlanFields) (old new : ShelfTold) (input taken : InputTold) (output held : OutputTold) (rack racked : RackTold) (same : Object → Type 0)
     → KeepsShelf (to_receive name) false old new → IsPlanInUse (old.file name) p
     → ((bytes : List ℕ) (refusal : Refusal) → old.file name ≡ Some bytes → IsRefusedForUse bytes refusal → ⊥)
     → EndsInReport p input.left taken.left rack.files racked.files output.held held.held → Stays output.flushed held.flushed
@@ -307,7 +338,7 @@ receive_sink_fault name p old new input taken output held rack racked same shelf
     (λ bytes pieces tail told cut. whole_parts p input.left taken.left rack.files racked.files bytes pieces tail told cut ends.ends)
     (λ bytes pieces tail told cut done. absurd (cc))
 
-pub receive_source_fault : (name : List ℕ) (p : PlanFields) (old new : ShelfTold) (input taken : InputTold) (output held : OutputTold) (rack racked : RackTold) (same : Object → Type 0)
+receive_source_fault : (name : List ℕ) (p : PlanFields) (old new : ShelfTold) (input taken : InputTold) (output held : OutputTold) (rack racked : RackTold) (same : Object → Type 0)
     → KeepsShelf (to_receive name) false old new → IsPlanInUse (old.file name) p
     → ((bytes : List ℕ) (refusal : Refusal) → old.file name ≡ Some bytes → IsRefusedForUse bytes refusal → ⊥)
     → EndsFront p input.left taken.left rack.files racked.files → (n : ℕ) × (n < record_size p.recording * most_records) × (taken.taken ≡ raised input.taken n) → (input.ended ≡ false → taken.ended ≡ false)
@@ -324,7 +355,7 @@ receive_source_fault name p old new input taken output held rack racked same she
     (λ bytes pieces tail told cut. parts p input.left taken.left rack.files racked.files bytes pieces tail told cut (part_of_front p input.left taken.left rack.files racked.files ends))
     (λ bytes pieces tail told cut done. absurd (cc))
 
-pub receive_rack_fault : (name : List ℕ) (p : PlanFields) (old new : ShelfTold) (input taken : InputTold) (output held : OutputTold) (rack racked : RackTold) (same : Object → Type 0)
+receive_rack_fault : (name : List ℕ) (p : PlanFields) (old new : ShelfTold) (input taken : InputTold) (output held : OutputTold) (rack racked : RackTold) (same : Object → Type 0)
     → KeepsShelf (to_receive name) false old new → IsPlanInUse (old.file name) p
     → ((bytes : List ℕ) (refusal : Refusal) → old.file name ≡ Some bytes → IsRefusedForUse bytes refusal → ⊥)
     → EndsInFiles p input.left taken.left rack.files racked.files → (n : ℕ) × (n ≤ record_size p.recording * most_records) × (taken.taken ≡ raised input.taken n)
@@ -341,7 +372,7 @@ receive_rack_fault name p old new input taken output held rack racked same shelf
     (λ bytes pieces tail told cut. parts p input.left taken.left rack.files racked.files bytes pieces tail told cut (part_of_files p input.left taken.left rack.files racked.files ends))
     (λ bytes pieces tail told cut done. absurd (cc))
 
-pub receive_too_long : (name : List ℕ) (p : PlanFields) (old new : ShelfTold) (input taken : InputTold) (output held : OutputTold) (rack racked : RackTold) (same : Object → Type 0)
+receive_too_long : (name : List ℕ) (p : PlanFields) (old new : ShelfTold) (input taken : InputTold) (output held : OutputTold) (rack racked : RackTold) (same : Object → Type 0)
     → KeepsShelf (to_receive name) false old new → IsPlanInUse (old.file name) p
     → ((bytes : List ℕ) (refusal : Refusal) → old.file name ≡ Some bytes → IsRefusedForUse bytes refusal → ⊥)
     → EndsAtLimit p input.left taken.left rack.files racked.files → taken.taken ≡ raised input.taken (record_size p.recording * most_records)
@@ -377,7 +408,7 @@ lacking_parts p input taken rack racked (inl heads) bytes pieces tail told cut =
     parts_of_heads (records_in p pieces) p.services rack.files racked.files (parts_of_some p.services rack.files racked.files heads.1)
 lacking_parts p input taken rack racked (inr whole) bytes pieces tail told cut = whole_parts p input.left taken.left rack.files racked.files bytes pieces tail told cut whole
 
-pub receive_no_memory : (name : List ℕ) (p : PlanFields) (old new : ShelfTold) (input taken : InputTold) (output held : OutputTold) (rack racked : RackTold) (same : Object → Type 0)
+receive_no_memory : (name : List ℕ) (p : PlanFields) (old new : ShelfTold) (input taken : InputTold) (output held : OutputTold) (rack racked : RackTold) (same : Object → Type 0)
     → KeepsShelf (to_receive name) false old new → IsPlanInUse (old.file name) p
     → ((bytes : List ℕ) (refusal : Refusal) → old.file name ≡ Some bytes → IsRefusedForUse bytes refusal → ⊥)
     → ((taken ≡ input) × AddsHeads p.services rack.files racked.files) ⊎ EndsWhole p input.left taken.left rack.files racked.files
@@ -393,3 +424,28 @@ receive_no_memory name p old new input taken output held rack racked same shelf 
     (λ e. lacks name p old new input taken output held rack racked same ends) refl
     (lacking_parts p input taken rack racked ends)
     (λ bytes pieces tail told cut done. absurd (cc))
+
+-- `receive` was not done
+pub receive_fails : (name : List ℕ) (p : PlanFields) (why : ReceiveFault) (old new : ShelfTold) (input taken : InputTold) (output held : OutputTold) (rack racked : RackTold) (same : Object → Type 0)
+    → KeepsShelf (to_receive name) false old new → IsPlanInUse (old.file name) p
+    → ((bytes : List ℕ) (refusal : Refusal) → old.file name ≡ Some bytes → IsRefusedForUse bytes refusal → ⊥)
+    → Fails p why input taken rack racked
+    → (why ≡ fault.Sink → EndsInReport p input.left taken.left rack.files racked.files output.held held.held) → (why ≡ fault.Sink → Stays output.flushed held.flushed)
+    → (why ≡ fault.OutOfMemory → ((taken ≡ input) × AddsHeads p.services rack.files racked.files) ⊎ EndsWhole p input.left taken.left rack.files racked.files)
+    → (why ≡ fault.Sink → Rose output.faults held.faults) → (why ≢ fault.Sink → held.faults ≡ output.faults) → (why ≢ fault.Sink → same the_output)
+    → Runs (to_receive name) (status_of_fault why) (status_line (status_of_fault why)) (world old input output rack) (world new taken held racked) same
+receive_fails name p fault.Source old new input taken output held rack racked same shelf is none e report unflushed memory sink output_kept unwritten =
+    receive_source_fault name p old new input taken output held rack racked same shelf is none
+    (e.front refl) (e.front_taken refl) (e.not_ended refl) (e.source refl) (output_kept (λ f. absurd (cc))) (e.rack_kept (λ f. absurd (cc))) (unwritten (λ f. absurd (cc)))
+receive_fails name p fault.Sink old new input taken output held rack racked same shelf is none e report unflushed memory sink output_kept unwritten =
+    receive_sink_fault name p old new input taken output held rack racked same shelf is none
+    (report refl) (unflushed refl) (e.input_kept (λ f. absurd (cc))) (sink refl) (e.rack_kept (λ f. absurd (cc)))
+receive_fails name p fault.Rack old new input taken output held rack racked same shelf is none e report unflushed memory sink output_kept unwritten =
+    receive_rack_fault name p old new input taken output held rack racked same shelf is none
+    (e.files refl) (e.files_taken refl) (e.input_kept (λ f. absurd (cc))) (output_kept (λ f. absurd (cc))) (e.file refl) (unwritten (λ f. absurd (cc)))
+receive_fails name p fault.TooLong old new input taken output held rack racked same shelf is none e report unflushed memory sink output_kept unwritten =
+    receive_too_long name p old new input taken output held rack racked same shelf is none
+    (e.limit refl) (e.limit_taken refl) (e.input_kept (λ f. absurd (cc))) (output_kept (λ f. absurd (cc))) (e.rack_kept (λ f. absurd (cc))) (unwritten (λ f. absurd (cc)))
+receive_fails name p fault.OutOfMemory old new input taken output held rack racked same shelf is none e report unflushed memory sink output_kept unwritten =
+    receive_no_memory name p old new input taken output held rack racked same shelf is none
+    (memory refl) (e.input_kept (λ f. absurd (cc))) (output_kept (λ f. absurd (cc))) (e.rack_kept (λ f. absurd (cc))) (unwritten (λ f. absurd (cc)))

@@ -106,7 +106,7 @@ runs_done name plan old new input taken output held rack same tally shelf is non
       (λ bytes told. gives name old plan bytes is told) (λ e. absurd (cc)) (none_refused name old none);
   unused = unused;
   counts = record { shelf = shelf; input = count_in; output = count_out; rack = refl };
-  reads = (ended, record { bytes = reads.bytes; takes = reads.takes; ahead = reads.ahead; shows = tt });
+  reads = (ended, record { bytes = reads.bytes; takes = reads.takes; ahead = reads.ahead; shows = tt }, λ bytes told. ((sent bytes told).captured, (sent bytes told).is.told));
   stands = λ p bytes given told.
       subst (λ (q : PlanFields). StandsWhole (to_send name) q bytes Done (tally_line tally) (world old input output rack) (world new taken held rack)) (plan_is name old plan p is given)
       (whole_done name bytes plan tally (world old input output rack) (world new taken held rack) (sent bytes told) flushed refl);

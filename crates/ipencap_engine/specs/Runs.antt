@@ -1,9 +1,10 @@
 -- What a run is: all that the top call promises, by what the objects tell before and after.
-use Rattle.std.specs.Prelude.{◌≡◌, ◌≢◌, ◌⊎◌, ℕ, ◌*◌, ◌<◌, ◌≤◌, Bool, true, false, List, [], Contains, Some, ⊤}
+use Rattle.std.specs.Prelude.{◌≡◌, ◌≢◌, ◌⊎◌, ℕ, ◌*◌, ◌<◌, ◌≤◌, Bool, true, false, List, [], Contains, None, Some, ⊤}
 use Rattle.wire_spec.specs.Causes.{Rose, raised}
 use Rattle.wire_spec.specs.Lists.{IsCut}
 use Rattle.ts_spec.specs.Recording.{RecordingForm, record_size, Record}
 use Rattle.pcap_file.specs.Capture.{capture_text}
+use Rattle.pcap_file.specs.Told.{Tells}
 use Rattle.pcap_file.specs.Reader.{is_cut, Takes, IsReadAhead, ShowsNoFault}
 use Rattle.pcap_file.specs.declared.faults.CaptureFault.{CaptureFault}
 use Rattle.plan_spec.specs.Plan.{ServiceFields, PlanFields, pid_of}
@@ -109,9 +110,14 @@ pub record TakesCapture (before after : InputTold) (holds : List ℕ → Type 0)
   pub ahead : IsReadAhead bytes
   pub shows : holds bytes
 
--- at SourceFault they show no fault of the capture, or none but that it is cut; at Capture the line has their fault
+-- the told bytes of a capture have no fault
+abbrev pub TellsNoFault : InputTold → Type 0
+TellsNoFault input = (bytes : List ℕ) → input.left ≡ Some bytes → (captured : List (List ℕ)) × Tells bytes captured None
+
+-- at Done the told bytes have no fault; at SourceFault those that were read show none, or none but that they are cut; at Capture the
+-- line has their fault
 abbrev pub ReadsCapture : Status → World → World → Type 0
-ReadsCapture status.Done before after = (after.input.ended ≡ true) × TakesCapture before.input after.input (λ bytes. ⊤)
+ReadsCapture status.Done before after = (after.input.ended ≡ true) × TakesCapture before.input after.input (λ bytes. ⊤) × TellsNoFault before.input
 ReadsCapture status.SinkFault before after = TakesCapture before.input after.input (λ bytes. ⊤)
 ReadsCapture status.SourceFault before after = GoesOn before.input after.input × TakesCapture before.input after.input ShowsNoFault
 ReadsCapture end before after = ⊤

@@ -8,7 +8,7 @@ ghost use Rattle.ipencap_engine.specs.Runs.{Runs};
 use crate::status::{Outcome, Status};
 use crate::usable_plan::{outcome_of, plan_in_use};
 use ipe_io::{Rack, Shelf, Sink, Source};
-use receive_command::{ReceiveEnd, receive};
+use receive_command::receive;
 use std::alloc::Global;
 
 /// Loads the settings, and writes what the recording delivers of each service of their plan, and the report.
@@ -30,11 +30,7 @@ pub fn receive_recording<S: Shelf, I: Source, O: Sink, R: Rack>(
         Err(error) => return outcome_of(error),
     };
     match receive(alloc, &plan, input, output, rack) {
-        ReceiveEnd::Done => Outcome::Ended(Status::Done),
-        ReceiveEnd::SourceFault => Outcome::Ended(Status::SourceFault),
-        ReceiveEnd::SinkFault => Outcome::Ended(Status::SinkFault),
-        ReceiveEnd::RackFault => Outcome::Ended(Status::RackFault),
-        ReceiveEnd::TooLong => Outcome::Ended(Status::TooLong),
-        ReceiveEnd::OutOfMemory => Outcome::Ended(Status::OutOfMemory),
+        Ok(()) => Outcome::Ended(Status::Done),
+        Err(fault) => Outcome::Ended(Status::from(fault)),
     }
 }

@@ -5,6 +5,7 @@ ghost use Rattle.ipencap_engine.specs.Statuses.{status_line, outcome_line, statu
 
 use ipe_io::{Sink, put_all};
 use pcap_file::CaptureFault;
+use receive_command::ReceiveFault;
 use send_command::{Tally, tell_fault, tell_tally};
 use settings_load::{FileFault, put_fault};
 
@@ -31,6 +32,23 @@ pub enum Status {
     OutOfMemory,
     /// The recording has 2^32 records or more.
     TooLong,
+}
+
+impl From<ReceiveFault> for Status {
+    ghost use Rattle.std.specs.Prelude.{◌≡◌};
+    ghost use Rattle.ipencap_engine.specs.Statuses.{status_of_fault};
+
+    ghost from_gives = { λ fault status. status ≡ status_of_fault fault };
+
+    fn from(fault: ReceiveFault) -> Status {
+        match fault {
+            ReceiveFault::Source => Status::SourceFault,
+            ReceiveFault::Sink => Status::SinkFault,
+            ReceiveFault::Rack => Status::RackFault,
+            ReceiveFault::TooLong => Status::TooLong,
+            ReceiveFault::OutOfMemory => Status::OutOfMemory,
+        }
+    }
 }
 
 /// How a run ends, with what its line says.

@@ -41,10 +41,7 @@ pub fn read_words(alloc: Global, words: &[String]) -> Result<Task<'_>, WordsFaul
     ensures usage { IsErrOf result WordsFault.Usage → IsNoBuiltCommand (map (λ word. string_bytes word) words.now) }
     ensures memory { IsErrOf result WordsFault.OutOfMemory → IsCommand (map (λ word. string_bytes word) words.now) }
 {
-    let command = match parse_words(alloc, words) {
-        Ok(command) => command,
-        Err(fault) => return Err(fault),
-    };
+    let command = parse_words(alloc, words)?;
     match built(command) {
         Some(task) => Ok(task),
         None => Err(WordsFault::Usage),

@@ -1,13 +1,13 @@
 -- Files of services that are added one after another.
-use Rattle.std.proofs.Common.{◌≡◌, inl, inr, ℕ, suc, zero, ◌+◌, ◌<◌, ◌≤◌, Bool, true, false, List, [], ◌∷◌, ◌++◌, length, map, take, get_or, set, refl, ap, sym, ◌∙◌, subst, append_assoc, arith, Option, None, Some, IfSome}
+use Rattle.std.proofs.Common.{◌≡◌, inl, inr, ℕ, suc, zero, ◌+◌, Bool, false, List, [], ◌∷◌, ◌++◌, length, map, take, get_or, set, refl, ap, sym, ◌∙◌, subst, append_assoc, arith, Option, None, Some, IfSome}
 use Rattle.std.specs.List.{slice_get}
 use Rattle.std.proofs.lemmas.List.{append-nil, take_all, take_more, map-append}
-use Rattle.std.proofs.lemmas.Option.{slice_get_within, get_or_from_slice_get, slice_get-map}
+use Rattle.std.proofs.lemmas.Option.{slice_get_within, get_or_from_slice_get}
 use Rattle.wire_spec.specs.Content.{File, AddsFile, ChangesFile, Stays, grown, empty_file, no_file}
 use Rattle.plan_spec.specs.Plan.{ServiceFields}
 use Rattle.pcap_file.specs.Capture.{capture_head}
 use Rattle.std.proofs.lemmas.List.{get_or_at, set_at}
-use Rattle.receive_command.specs.Files.{file_name, file_of, head_of, file_with, AddsFiles, AddsCaptures, AddsHeads, AddsHeadsPart, AddsParts, AddsPart, IsPart, AreParts}
+use Rattle.receive_command.specs.Files.{file_name, file_of, head_of, file_with, AddsFiles, AddsCaptures, AddsHeads, AddsHeadsPart, AddsPart, IsPart, AreParts}
 
 -- A new file that grew.
 
@@ -41,6 +41,21 @@ adds_grown a b c at count name text bytes named many place added put =
 pub adds_none : (a : Option (List File)) → AddsFiles a a []
 adds_none None = tt
 adds_none (Some files) = sym (append-nil files)
+
+stays_none : (a b : Option (List File)) → AddsFiles a b [] → Stays a b
+stays_none None b added = tt
+stays_none (Some xs) None added = absurd added
+stays_none (Some xs) (Some ys) added = added ∙ append-nil xs
+
+-- of one service, no head is whole where the file could not be added
+pub none_begun : (services : List ServiceFields) (a b : Option (List File)) (count counted : ℕ) → length services ≡ 1
+    → (heads : AddsHeads services a b) × (counted ≡ count + heads.count) → (counted ≡ count) × Stays a b
+none_begun services a b count counted one begun =
+    let heads : AddsHeads services a b = begun.0 in
+    let none : heads.count ≡ 0 = omega (arith, heads.fewer, one) in (
+      omega (arith, begun.1, none),
+      stays_none a b (subst (λ (k : ℕ). AddsCaptures false head_of (take k services) a b) none heads.files),
+    )
 
 pub adds_then : (a b c : Option (List File)) (xs : List File) (file : File) → AddsFiles a b xs → AddsFile b c file → AddsFiles a c (xs ++ file ∷ [])
 adds_then None b c xs file first then = tt

@@ -1,5 +1,5 @@
 -- From the heads of files to their captures.
-use Rattle.std.proofs.Common.{◌≡◌, ◌⊎◌, inl, inr, ℕ, suc, zero, ◌+◌, ◌-◌, ◌<◌, ◌≤◌, Bool, true, false, List, [], ◌∷◌, ◌++◌, length, map, take, drop, min, get_or, flat_map, refl, ap, ap₂, sym, ◌∙◌, subst, arith, length-append, length-drop, Option, None, Some, option_map, IfSome}
+use Rattle.std.proofs.Common.{◌≡◌, inl, inr, ℕ, suc, zero, ◌+◌, ◌-◌, ◌<◌, ◌≤◌, Bool, true, false, List, [], ◌∷◌, ◌++◌, length, map, take, drop, min, get_or, flat_map, refl, ap, ap₂, sym, ◌∙◌, subst, arith, length-append, length-drop, Option, None, Some, option_map, IfSome}
 use Rattle.std.specs.List.{slice_get}
 use Rattle.std.proofs.lemmas.List.{append-nil, take_all, take-append-le, take_min, length-take, length-map, get_or-append-add, get_or-take, get_or-drop, ext_get_or, get_or_append_left}
 use Rattle.std.proofs.Math.ListN.{drop_of_length-le}

@@ -1,5 +1,5 @@
 -- How the captures of a recording end, from how its reading ends.
-use Rattle.std.proofs.Common.{◌≡◌, ℕ, ◌+◌, ◌<◌, ◌≤◌, true, false, List, [], ◌++◌, length, take, map, refl, ap, sym, ◌∙◌, subst, arith, Option, IfSome}
+use Rattle.std.proofs.Common.{◌≡◌, ℕ, ◌+◌, ◌<◌, false, List, ◌++◌, length, take, sym, subst, arith, Option, IfSome}
 use Rattle.wire_spec.specs.Content.{File}
 use Rattle.plan_spec.specs.Plan.{PlanFields}
 use Rattle.reception_spec.specs.Delivered.{delivered_pairs}
@@ -8,7 +8,7 @@ use Rattle.demux_core.specs.Receiving.{ReceiverState, HasReceived}
 use Rattle.receive_command.specs.Files.{AddsCaptures, AddsHeadsPart, head_of, capture_of}
 use Rattle.receive_command.specs.Flushes.{Flush}
 use Rattle.receive_command.specs.Reading.{records_in, ReadsWhole, ReadsFront, ReadsToLimit, ReadsToStop}
-use Rattle.receive_command.specs.Ends.{EndsWhole, WritesWhole, EndsFront, EndsAtLimit, EndsInFiles, in_heads, in_record, in_flush}
+use Rattle.receive_command.specs.Ends.{WritesWhole, EndsFront, EndsAtLimit, EndsInFiles, in_heads, in_record, in_flush}
 use Rattle.receive_command.proofs.Assembly.{pairs_grown, pairs_and_grown, captures_of_pairs, captures_flushed, captures_flushed_to}
 
 pub sized : (a : Option (List File)) (count first : ℕ) → first ≡ count → IfSome a (λ told. length told ≡ count) → IfSome a (λ told. length told ≡ first)

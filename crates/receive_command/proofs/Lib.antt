@@ -1,3 +1,4 @@
+pub mod CameUp
 pub mod Texts
 pub mod Heads
 pub mod Grown
@@ -10,4 +11,5 @@ pub mod Assembly
 pub mod Ends
 pub mod Parted
 pub mod Lines
+pub mod Longer
 pub mod Plans

@@ -1,14 +1,14 @@
 -- Lines of a report, added one after another.
-use Rattle.std.proofs.Common.{◌≡◌, ℕ, ◌+◌, ◌<◌, ◌≤◌, List, [], ◌∷◌, ◌++◌, length, map, take, flat_map, refl, ap, sym, ◌∙◌, subst, arith, append_assoc, Option, None, Some, Result, Ok, Err, OnOk, IfOk}
+use Rattle.std.proofs.Common.{◌≡◌, ℕ, ◌+◌, List, [], ◌∷◌, ◌++◌, map, take, flat_map, refl, ap, sym, ◌∙◌, subst, append_assoc, Option, None, Some, Result, Ok, Err, OnOk, IfOk}
 use Rattle.std.specs.List.{slice_get}
-use Rattle.std.proofs.lemmas.List.{take_more, take_all, map-append, append-nil}
+use Rattle.std.proofs.lemmas.List.{take_more, map-append, append-nil}
 use Rattle.std.proofs.lemmas.Grind.{flat_map-append}
 use Rattle.std.proofs.lemmas.Option.{slice_get_within, get_or_from_slice_get}
 use Rattle.ts_spec.specs.Recording.{Record}
 use Rattle.section_spec.specs.Section.{section_form}
 use Rattle.std.specs.Prelude.{find}
 use Rattle.int_spec.specs.Table.{TableFields}
-use Rattle.int_spec.specs.Reading.{Reading, IsReading, no_section, no_table, no_loops, no_descriptors, wrong_hash, more_sections, carried}
+use Rattle.int_spec.specs.Reading.{IsReading, no_section, no_table, no_loops, no_descriptors, wrong_hash, more_sections, carried}
 use Rattle.int_table.specs.declared.table.IntFault.{IntFault}
 use Rattle.int_table.specs.declared.table.IntFault.TheVariants as fault
 use Rattle.plan_spec.specs.Plan.{IntFields, PlanFields}

@@ -1,5 +1,5 @@
 -- What an outlet was given, one pair more, and one that was refused.
-use Rattle.std.proofs.Common.{◌≡◌, ℕ, ◌+◌, ◌<◌, ◌≤◌, List, [], ◌∷◌, ◌++◌, length, take, refl, ap, sym, ◌∙◌, arith, subst, Option}
+use Rattle.std.proofs.Common.{◌≡◌, ℕ, ◌+◌, ◌<◌, ◌≤◌, List, [], ◌∷◌, ◌++◌, length, take, refl, sym, ◌∙◌, arith, subst, Option}
 use Rattle.std.proofs.lemmas.List.{length-take}
 use Rattle.wire_spec.specs.Causes.{Rose}
 use Rattle.wire_spec.specs.Content.{File, ChangesFile, grown}
@@ -7,7 +7,7 @@ use Rattle.pcap_file.specs.Capture.{capture_record}
 use Rattle.ipe_io.proofs.Told.{IsThere}
 use Rattle.receive_command.specs.declared.outlet.Progress.{Progress}
 use Rattle.receive_command.specs.declared.outlet.Progress.TheVariants.{Whole, Stopped, Passed}
-use Rattle.receive_command.specs.Growth.{Grow, GrowTo, StayTold, EndsWith, text_in, records_at, records_and}
+use Rattle.receive_command.specs.Growth.{Grow, GrowTo, StayTold, EndsWith, text_in, records_at}
 use Rattle.receive_command.specs.Outlets.{RackSeen, WasGiven, StandsFor, Refuses, failures}
 use Rattle.receive_command.proofs.Grown.{grow-nil, grow_then, grow_same, grow_one, grow_exact, grown_ends, records-push}
 

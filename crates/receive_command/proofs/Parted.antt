@@ -1,19 +1,19 @@
 -- However a reception stops, each file is a prefix of the capture of what the records read deliver.
-use Rattle.std.proofs.Common.{◌≡◌, inl, inr, ℕ, zero, suc, ◌+◌, ◌<◌, ◌≤◌, ◌==◌, Bool, true, false, cond, List, [], ◌∷◌, ◌++◌, length, map, take, drop, flat_map, refl, ap, ap₂, sym, ◌∙◌, subst, arith, append_assoc, Option, None, Some, All}
+use Rattle.std.proofs.Common.{◌≡◌, inl, inr, ℕ, zero, suc, ◌+◌, ◌<◌, ◌≤◌, ◌==◌, Bool, true, false, cond, List, [], ◌∷◌, ◌++◌, length, map, take, drop, refl, ap, ap₂, sym, ◌∙◌, subst, arith, append_assoc, Option, None, Some}
 use Rattle.std.specs.List.{slice_get}
 use Rattle.std.specs.Io.KnownBytes.{Consumes}
-use Rattle.std.proofs.lemmas.List.{append-nil, take-append-le}
+use Rattle.std.proofs.lemmas.List.{take-append-le}
 use Rattle.std.proofs.Math.Seq.{take-append-add}
 use Rattle.wire_spec.specs.Content.{File}
 use Rattle.ts_spec.specs.Recording.{Record, RecordingForm, plain, stamped, m2ts, plain_record, stamped_record, m2ts_record, m2ts_stamp, moment_behind, m2ts_records, records_of}
 use Rattle.plan_spec.specs.Plan.{ServiceFields, PlanFields}
-use Rattle.reception_spec.specs.Delivered.{delivered_datagrams, delivered_pairs, pairs_of_record}
+use Rattle.reception_spec.specs.Delivered.{delivered_pairs, pairs_of_record}
 use Rattle.pcap_file.specs.Capture.{capture_head, capture_record}
 use Rattle.std.proofs.lemmas.List.{map-append}
 use Rattle.receive_command.specs.Growth.{records_at, text_in}
-use Rattle.receive_command.specs.Files.{file_of, file_with, files_from, head_of, capture_of, capture_and, IsPart, AreParts, AddsParts, AddsFiles, AddsCaptures, AddsHeadsPart, AddsPairs}
+use Rattle.receive_command.specs.Files.{file_of, file_with, files_from, head_of, capture_of, capture_and, AreParts, AddsParts, AddsHeadsPart, AddsPairs}
 use Rattle.receive_command.specs.Reading.{HasRead, records_in}
-use Rattle.receive_command.specs.Ends.{EndsFront, EndsAtLimit, StopsInHeads, StopsInRecord, StopsInFlush, EndsInFiles, in_heads, in_record, in_flush}
+use Rattle.receive_command.specs.Ends.{EndsFront, EndsAtLimit, StopsInRecord, EndsInFiles, in_heads, in_record, in_flush}
 use Rattle.receive_command.proofs.Adding.{whole_part, parts_front, parts_next}
 use Rattle.receive_command.proofs.Advance.{consumes_none, some_size, records_length}
 use Rattle.receive_command.proofs.Assembly.{captures_of_pairs, parts_whole, parts_of_heads}

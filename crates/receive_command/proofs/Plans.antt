@@ -1,11 +1,11 @@
 -- What holds of every plan: how many services it has, and their names.
-use Rattle.std.proofs.Common.{◌≡◌, ◌⊎◌, inl, inr, ℕ, zero, suc, ◌<◌, ◌≤◌, Bool, true, false, ◌&&◌, ◌||◌, Some, List, [], ◌∷◌, length, refl, ap, sym, ◌∙◌, subst, arith}
+use Rattle.std.proofs.Common.{◌≡◌, ◌⊎◌, inl, inr, ℕ, zero, suc, ◌<◌, ◌≤◌, Bool, true, false, ◌&&◌, ◌||◌, Some, List, [], ◌∷◌, length, refl, subst, arith}
 use Rattle.std.specs.Prelude.{nat_le, slice_get}
 use Rattle.std.specs.List.{list_all}
 use Rattle.std.proofs.lemmas.Bool.{leb-true}
 use Rattle.plan_spec.specs.Plan.{ServiceFields, PlanFields, is_baseband}
 use Rattle.plan_spec.specs.Checks.{is_between, is_service_name}
-use Rattle.plan_spec.specs.Valid.{most_services, is_valid_rule, has_valid_values, is_valid_service, is_valid_frame_size, is_valid_int, has_valid_top, is_in_range, is_consistent, is_plan_of_settings, is_plan_of_pid, is_plan}
+use Rattle.plan_spec.specs.Valid.{most_services, is_valid_rule, has_valid_values, is_valid_service, is_valid_frame_size, is_valid_int, has_valid_top, is_in_range, is_plan_of_settings, is_plan_of_pid, is_plan}
 
 both : (a b : Bool) → (a && b) ≡ true → (a ≡ true) × (b ≡ true)
 both true b e = (refl, e)

@@ -1,5 +1,5 @@
 -- The files of services: a capture for each, in the order of the services.
-use Rattle.std.specs.Prelude.{◌≡◌, ◌⊎◌, ℕ, ◌+◌, ◌<◌, ◌==◌, Bool, true, false, List, [], ◌∷◌, ◌++◌, length, take, drop, map, slice_get, codes, if◌then◌else◌, Option, None, Some, ⊤}
+use Rattle.std.specs.Prelude.{◌≡◌, ◌⊎◌, ℕ, ◌+◌, ◌<◌, Bool, true, false, List, [], ◌∷◌, ◌++◌, length, take, drop, map, slice_get, codes, if◌then◌else◌, Option, None, Some, ⊤}
 use Rattle.wire_spec.specs.Content.{File, AddsFile, Stays}
 use Rattle.ts_spec.specs.Recording.{Record}
 use Rattle.plan_spec.specs.Plan.{ServiceFields}

@@ -1,3 +1,4 @@
+pub mod Faults
 pub mod Growth
 pub mod Outlets
 pub mod Files

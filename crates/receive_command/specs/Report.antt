@@ -1,7 +1,7 @@
 -- The report of a reception: the counts of the recording and of each service, and what the IP/MAC notification table says.
-use Rattle.std.specs.Prelude.{◌≡◌, ℕ, List, [], ◌∷◌, ◌++◌, map, flat_map, Option, None, Some, ⊤}
+use Rattle.std.specs.Prelude.{◌≡◌, ℕ, List, [], ◌++◌, map, flat_map, Option, None, Some, ⊤}
 use Rattle.ts_spec.specs.Recording.{Record}
-use Rattle.int_spec.specs.Table.{EntryFields, TableFields}
+use Rattle.int_spec.specs.Table.{EntryFields}
 use Rattle.int_spec.specs.Reading.{Reading, no_section, no_table, no_loops, no_descriptors, wrong_hash, more_sections, carried, IsReading}
 use Rattle.plan_spec.specs.Plan.{ServiceFields, IntFields, PlanFields}
 use Rattle.reception_spec.specs.Numbers.{StreamNumbers, stream_numbers}

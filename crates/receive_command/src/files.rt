@@ -31,14 +31,8 @@ fn add_file<R: Rack>(alloc: Global, name: &str, rack: &mut R) -> Result<u32, Add
     ensures memory { IsErrOf result AddFault.OutOfMemory → ((R.told rack.new).count ≡ (R.told rack.old).count) × Stays (R.told rack.old).files (R.told rack.new).files }
     ensures cause { HasAddCause (R.told rack.old).faults (R.told rack.new).faults result }
 {
-    let text = match file_name(alloc, name) {
-        Ok(text) => text,
-        Err(_) => return Err(AddFault::OutOfMemory),
-    };
-    let at = match rack.add(alloc, text.as_str()) {
-        Ok(at) => at,
-        Err(fault) => return Err(fault),
-    };
+    let text = file_name(alloc, name)?;
+    let at = rack.add(alloc, text.as_str())?;
     let mut head = [0u8; 24];
     write_head(&mut head);
     match put_file(rack, at, &head) {
@@ -63,15 +57,9 @@ pub(crate) fn add_files<R: Rack>(
         × ((R.told rack.new).count ≡ (R.told rack.old).count + heads.count) }
     ensures cause { HasAddCause (R.told rack.old).faults (R.told rack.new).faults result }
 {
-    let first = match add_file(alloc, services.at(0).name.text(), rack) {
-        Ok(at) => at,
-        Err(fault) => return Err(fault),
-    };
+    let first = add_file(alloc, services.at(0).name.text(), rack)?;
     for k in 1..services.len() {
-        match add_file(alloc, services.at(k).name.text(), rack) {
-            Ok(_) => {}
-            Err(fault) => return Err(fault),
-        }
+        add_file(alloc, services.at(k).name.text(), rack)?;
     }
     Ok(first)
 }
@@ -85,10 +73,7 @@ pub(crate) fn flush_files<R: Rack>(rack: &mut R, first: u32, services: u32) -> R
     ensures cause { HasCause (R.told rack.old).faults (R.told rack.new).faults result }
 {
     for k in 0..services {
-        match rack.flush(first + k) {
-            Ok(()) => {}
-            Err(Failed) => return Err(Failed),
-        }
+        rack.flush(first + k)?;
     }
     Ok(())
 }

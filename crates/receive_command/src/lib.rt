@@ -5,6 +5,7 @@
 #![tactic(auto)]
 
 mod captures;
+mod faults;
 mod files;
 mod outlet;
 mod reading;
@@ -14,5 +15,6 @@ mod report;
 mod steps;
 mod ule_command;
 
-pub use receiving::{ReceiveEnd, receive};
-pub use ule_command::{UleEnd, ule};
+pub use faults::ReceiveFault;
+pub use receiving::receive;
+pub use ule_command::ule;

@@ -46,10 +46,7 @@ pub(crate) fn put_datagram<R: Rack>(rack: &mut R, at: u32, datagram: &[u8]) -> R
     ensures cause { HasCause (R.told rack.old).faults (R.told rack.new).faults result }
 {
     let start = head(datagram);
-    match put_piece(rack, at, &start) {
-        Ok(()) => {}
-        Err(put) => return Err(put),
-    }
+    put_piece(rack, at, &start)?;
     match put_piece(rack, at, datagram) {
         Ok(()) => Ok(()),
         Err(put) => Err(start.len() + put),

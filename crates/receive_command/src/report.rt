@@ -91,10 +91,7 @@ fn add_section(
         Err(IntReadFault::Fault(fault)) => return report.add_table(units, number_of(fault)),
         Err(IntReadFault::OutOfMemory) => return Err(OutOfMemory),
     };
-    match report.add_table(units, 0) {
-        Ok(()) => {}
-        Err(_) => return Err(OutOfMemory),
-    }
+    report.add_table(units, 0)?;
     add_rules(report, &table)
 }
 

@@ -4,7 +4,7 @@ ghost use Rattle.plan.specs.PlanView.{plan_fields};
 ghost use Rattle.plan_spec.specs.Built.{are_received};
 
 use demux_core::can_receive;
-use receive_command::{ReceiveEnd, UleEnd, receive, ule};
+use receive_command::{ReceiveFault, receive, ule};
 use service_plan::{Plan, read_plan, ule_plan};
 use std::alloc::Global;
 use std::test::Fail;
@@ -59,7 +59,7 @@ struct Case<'a> {
     /// How many bytes stand after the last record.
     tail: usize,
     fails: &'a [Failing],
-    end: ReceiveEnd,
+    end: Result<(), ReceiveFault>,
     report: Option<Report<'a>>,
     /// `one.pcap` and `two.pcap`, as far as they are added.
     files: &'a [Held],
@@ -121,7 +121,7 @@ const RECEIVED: Case = Case {
     section: &INT_OF_TWO,
     tail: 187,
     fails: &[],
-    end: ReceiveEnd::Done,
+    end: Ok(()),
     report: Some(WHOLE_REPORT),
     files: &[FLUSHED, FLUSHED],
 };
@@ -137,21 +137,21 @@ const NO_TAIL: Case = Case {
 
 const RACK: Case = Case {
     name: "the rack fails",
-    end: ReceiveEnd::RackFault,
+    end: Err(ReceiveFault::Rack),
     report: None,
     ..NO_TAIL
 };
 
 const OUTPUT: Case = Case {
     name: "the output fails",
-    end: ReceiveEnd::SinkFault,
+    end: Err(ReceiveFault::Sink),
     report: None,
     ..NO_TAIL
 };
 
 const INPUT: Case = Case {
     name: "the input fails",
-    end: ReceiveEnd::SourceFault,
+    end: Err(ReceiveFault::Source),
     report: None,
     ..NO_TAIL
 };
@@ -274,7 +274,7 @@ fn plan_of(alloc: Global) -> Result<Plan, Fail>
 /// How a reception ended, and what it left.
 #[derive(Drop)]
 struct Ended {
-    end: ReceiveEnd,
+    end: Result<(), ReceiveFault>,
     outside: Outside,
 }
 
@@ -310,7 +310,7 @@ fn difference(alloc: Global, ended: &Ended, case: &Case<'_>) -> Result<&'static 
     };
     let left = Left {
         output: report.as_bytes(),
-        flushed: if case.end == ReceiveEnd::Done {
+        flushed: if case.end == Ok(()) {
             report.len()
         } else {
             0
@@ -368,7 +368,7 @@ fn an_empty_recording_has_a_report(rt: HostRuntime) -> Result<(), Fail> {
         line: "",
         files: &files,
     };
-    assert_eq!(rt; ended.end, ReceiveEnd::Done);
+    assert_eq!(rt; ended.end, Ok(()));
     assert_eq!(rt; ended.outside.difference(&left), "");
     Ok(())
 }
@@ -377,29 +377,29 @@ fn an_empty_recording_has_a_report(rt: HostRuntime) -> Result<(), Fail> {
 #[derive(Clone, Copy)]
 struct UleCase {
     fails: Failing,
-    end: UleEnd,
+    end: Result<(), ReceiveFault>,
     file: Held,
 }
 
 static ULE_CASES: [UleCase; 4] = [
     UleCase {
         fails: Failing::Rack(9),
-        end: UleEnd::Done,
+        end: Ok(()),
         file: FLUSHED,
     },
     UleCase {
         fails: Failing::Rack(2),
-        end: UleEnd::RackFault,
+        end: Err(ReceiveFault::Rack),
         file: HEAD,
     },
     UleCase {
         fails: Failing::Rack(4),
-        end: UleEnd::RackFault,
+        end: Err(ReceiveFault::Rack),
         file: WHOLE,
     },
     UleCase {
         fails: Failing::Input(0),
-        end: UleEnd::SourceFault,
+        end: Err(ReceiveFault::Source),
         file: HEAD,
     },
 ];

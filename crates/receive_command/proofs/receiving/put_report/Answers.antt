@@ -1,1 +1,0 @@
-use Rattle.receive_command.proofs.receiving.put_report.Goals as goal

@@ -1,7 +1,5 @@
-use Rattle.std.proofs.Common.{ap, ◌∙◌, sym, Err, append_assoc, ◌++◌, List}
-use Rattle.int_spec.specs.Reading.{carried}
+use Rattle.std.proofs.Common.{ap, ◌∙◌, Err}
 use Rattle.int_table.specs.declared.reading.IntReadFault.TheVariants as unread
-use Rattle.loss_report.specs.Lines.{Line}
 use Rattle.receive_command.proofs.Lines.{on_ok, adds_refused, adds_carried}
 use Rattle.receive_command.proofs.report.add_section.Goals as goal
 
@@ -22,6 +20,6 @@ returns-in-Err-Fault c = record {
 pub returns : goal.returns
 returns c = record {
   written = on_ok c.add_rules.result (λ added.
-      adds_carried c.args.section.now c.args.units c.in-Ok.table c.args.report.now c.add_table-2.new.self c.add_rules.new.report c.in-Ok.ensures.read c.in-Ok-add_table.ensures.written added)
+      adds_carried c.args.section.now c.args.units c.in-Ok.table c.args.report.now c.add_table-2.new.self c.add_rules.new.report c.in-Ok.ensures.read c.in_ok-add_table.ensures.written added)
       c.add_rules.ensures.written;
 }

@@ -1,4 +1,4 @@
-use Rattle.std.proofs.Common.{ap, ◌∙◌, sym, option_map, Some, option_copied}
+use Rattle.std.proofs.Common.{ap, option_map}
 use Rattle.plan.specs.Parts.{int_seen}
 use Rattle.plan.specs.PlanView.{plan_fields}
 use Rattle.receive_command.proofs.Lines.{on_ok, adds_no_section, adds_one_section}

@@ -1,4 +1,3 @@
-use Rattle.std.proofs.Common.{ap, ◌∙◌, sym}
 use Rattle.plan.specs.PlanView.{plan_fields}
 use Rattle.receive_command.proofs.Lines.{if_ok, whole_report}
 use Rattle.receive_command.proofs.report.report_of.Goals as goal

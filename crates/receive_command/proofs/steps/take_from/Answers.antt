@@ -1,11 +1,7 @@
-use Rattle.std.proofs.Common.{◌≡◌, ◌∷◌, [], ◌++◌, length, ap, sym, ◌∙◌, refl, arith, List, ℕ}
-use Rattle.wire_spec.specs.Causes.{Rose}
-use Rattle.ts_spec.specs.Recording.{Record as ReadRecord}
-use Rattle.plan_spec.specs.Plan.{PlanFields}
+use Rattle.std.proofs.Common.{◌∷◌, [], ◌++◌, length, ap, ◌∙◌, arith}
 use Rattle.ts_record.specs.Reading.{record_seen}
 use Rattle.reception_spec.specs.Delivered.{pairs_of_record}
-use Rattle.receive_command.specs.Outlets.{RackSeen, WasGiven}
-use Rattle.receive_command.proofs.Grown.{told_same}
+use Rattle.receive_command.specs.Outlets.{RackSeen}
 use Rattle.receive_command.proofs.Outlets.{stands_nothing, all_written, part_written, rack_rose, rack_kept}
 use Rattle.receive_command.proofs.steps.take_from.Goals as goal
 
