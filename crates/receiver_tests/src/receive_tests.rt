@@ -310,11 +310,7 @@ fn difference(alloc: Global, ended: &Ended, case: &Case<'_>) -> Result<&'static 
     };
     let left = Left {
         output: report.as_bytes(),
-        flushed: if case.end == Ok(()) {
-            report.len()
-        } else {
-            0
-        },
+        flushed: if case.end == Ok(()) { report.len() } else { 0 },
         line: "",
         files: &files,
     };
