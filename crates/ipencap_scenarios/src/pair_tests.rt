@@ -26,7 +26,7 @@ fn numbers_of(delivered: &Delivered<'_>) -> Numbers {
 }
 
 /// The rules of the INT, with their component_tag.
-const RULES: [(&str, u64); 2] = [("239.1.0.0/16", 0), ("239.2.0.0/16", 1)];
+const RULES: &[(&str, u64)] = &[("239.1.0.0/16", 0), ("239.2.0.0/16", 1)];
 
 /// The report that a loss must give. The rules are those of the INT, so there are none where no section came.
 fn report_of_loss(alloc: Global, loss: &Loss<'_>) -> Result<String, Fail> {
@@ -40,10 +40,11 @@ fn report_of_loss(alloc: Global, loss: &Loss<'_>) -> Result<String, Fail> {
             numbers: numbers_of(&loss.files),
         },
     ];
+    let count = if loss.tables > 0 { 2 } else { 0 };
     let table = TableReport {
         units: loss.tables,
         refused: 0,
-        rules: if loss.tables > 0 { &RULES } else { &[] },
+        rules: RULES.get(..count).ok_or("no such rules")?,
     };
     let report = Report {
         records: loss.records,

@@ -30,8 +30,8 @@ impl Numbers {
 
 /// A service, and what is said of it. Its units are read, and it has no MPE-FEC frames.
 #[derive(Clone, Copy)]
-pub struct ServiceReport<'a> {
-    pub name: &'a str,
+pub struct ServiceReport {
+    pub name: &'static str,
     pub numbers: Numbers,
 }
 
@@ -40,7 +40,7 @@ pub struct ServiceReport<'a> {
 pub struct TableReport<'a> {
     pub units: u64,
     pub refused: u64,
-    pub rules: &'a [(&'a str, u64)],
+    pub rules: &'a [(&'static str, u64)],
 }
 
 /// What a report says. Each packet has a payload.
@@ -50,13 +50,13 @@ pub struct Report<'a> {
     pub tail_bytes: u64,
     pub unreadable: u64,
     pub other: u64,
-    pub services: &'a [ServiceReport<'a>],
+    pub services: &'a [ServiceReport],
     /// None where the settings have no INT.
     pub table: Option<TableReport<'a>>,
 }
 
 /// Appends the lines of a service.
-fn put_service(into: &mut String, service: &ServiceReport<'_>) -> Result<(), OutOfMemory> {
+fn put_service(into: &mut String, service: &ServiceReport) -> Result<(), OutOfMemory> {
     let numbers = &service.numbers;
     let lines = [
         ("heard", numbers.heard),

@@ -11,7 +11,7 @@ pub struct SmallPacket {
     pub counter: u8,
 }
 
-/// The packets, and after them so many bytes EE.
+/// The packets, and after them so many bytes 47, with which a packet begins.
 pub fn small_recording(
     alloc: Global,
     packets: &[SmallPacket],
@@ -22,7 +22,7 @@ pub fn small_recording(
         recording.extend_from_slice(&on_pid(start(packet.counter, 0, &SNDU), packet.pid))?;
     }
     for _ in 0..tail {
-        recording.push(0xEE)?;
+        recording.push(0x47)?;
     }
     Ok(recording)
 }
