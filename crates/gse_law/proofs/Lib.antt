@@ -25,3 +25,6 @@ pub mod Offered
 pub mod Records
 pub mod PackedSteps
 pub mod PduNumbers
+pub mod Each
+pub mod Places
+pub mod Sizes
