@@ -47,7 +47,8 @@ impl FrameReader {
 
     /// Reads the next frame into `into`, or answers false at the end of the input, where fewer bytes than a frame may be left over.
     ///
-    /// `Failed`: the source failed. `TooLong`: 2^32 frames were read before; nothing is taken from the source.
+    /// `Failed`: the source failed, where fewer than 2^32 frames were read before. `TooLong`: so many were read before; nothing is
+    /// taken from the source.
     /// After false or an Err `into` holds any bytes. After an Err the reader is closed, and may not be asked again.
     pub fn next<S: Source>(&mut self, source: &mut S, into: &mut [u8]) -> Result<bool, RecordFault>
         requires open { self.old.is_open ≡ true }
@@ -59,15 +60,17 @@ impl FrameReader {
         ensures size { self.new.size ≡ self.old.size }
         ensures opened { OnOk result (self.new.is_open ≡ true) }
         ensures ended { result ≡ Ok false → (S.told source.new).ended ≡ true }
-        ensures goes_on { result ≡ Ok true → (S.told source.old).ended ≡ false → (S.told source.new).ended ≡ false }
+        ensures unended { result ≡ Ok true → (S.told source.old).ended ≡ false → (S.told source.new).ended ≡ false }
         ensures few { OnOk result (self.old.count < 2 ^ 32) }
         ensures too_long { IsErrOf result RecordFault.TooLong ↔ (self.old.count ≡ 2 ^ 32) }
         ensures unchanged { IsErrOf result RecordFault.TooLong → source.new ≡ source.old }
         ensures failed { IsErrOf result RecordFault.Failed → (bytes : List ℕ) × (length bytes < self.old.size)
             × TakesBytes (S.told source.old) (S.told source.new) bytes }
         ensures cause { IsErrOf result RecordFault.Failed → Rose (S.told source.old).faults (S.told source.new).faults }
+        ensures soon { IsErrOf result RecordFault.Failed → self.old.count < 2 ^ 32 }
+        ensures goes_on { IsErrOf result RecordFault.Failed → (S.told source.old).ended ≡ false → (S.told source.new).ended ≡ false }
         ensures later { (S.told source.old).faults ≤ (S.told source.new).faults }
-        ensures kept { OnOk result ((S.told source.new).faults ≡ (S.told source.old).faults) }
+        ensures kept { ¬ IsErrOf result RecordFault.Failed → (S.told source.new).faults ≡ (S.told source.old).faults }
         ensures closed { OnErr result (self.new ≡ closed self.old) }
     {
         if self.count == MOST_FRAMES {

@@ -24,3 +24,6 @@ pub mod Offered
 pub mod Records
 pub mod PackedSteps
 pub mod PduNumbers
+pub mod Each
+pub mod Places
+pub mod Sizes

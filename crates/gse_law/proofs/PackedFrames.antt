@@ -11,20 +11,20 @@ use Rattle.wire_spec.specs.Crc.{crc32_remainder}
 use Rattle.addr_rules.specs.declared.filter.Label.{Label}
 use Rattle.addr_rules.specs.declared.filter.Label.TheVariants.{Six, Three, Broadcast}
 use Rattle.gse_spec.specs.Frame.{FrameFields, frame_fields, frame_bytes}
-use Rattle.gse_spec.specs.Packet.{GsePacket, complete_packet, start_packet, middle_packet, end_packet, Reading, packet, packet_in, is_packet, packets_of, label_after_packet, readings_of}
+use Rattle.gse_spec.specs.Packet.{GsePacket, complete_packet, start_packet, middle_packet, end_packet, Reading, packet, packets_in, is_gse_packet, packets_of, label_after_packet, readings_of}
 use Rattle.gse_spec.specs.Written.{label_bytes, Writing, bytes_of_packet, field_of}
-use Rattle.gse_spec.specs.Reassembly.{PlacedPacket, Pdu, PlacedPdu, pdus_after}
-use Rattle.gse_spec.specs.Received.{is_of, placed, ends_pdu, packets_from, received_pdus}
+use Rattle.gse_spec.specs.Reassembly.{PlacedPacket, Pdu, PlacedPdu, pdu_of, pdus_after}
+use Rattle.gse_spec.specs.Received.{is_frame_of, placed, ends_pdu, packets_from, received_pdus}
 use Rattle.gse_spec.specs.Packing.{first_size, rest_after_first, middle_size, rest_after_middle, is_again, Rest, Turn, no_turn, begins, goes_on, Choice, in_front, covered_by, packed_turn, packed_within, FragIds, all_ids, InOrder, next_in_order, in_order_after, in_order, steps_of, packed}
-use Rattle.gse_spec.specs.Sending.{frames_with, frames_for}
+use Rattle.gse_spec.specs.Sending.{frames_with, packets_in_order, frames_for}
 use Rattle.gse_law.specs.Streams.{frames_of}
 use Rattle.gse_law.specs.Writable.{IsWritable, AreWritable, IsFrameRead}
-use Rattle.gse_law.specs.Packed.{placed_frames, last_one, last_packets, pdu_in, AllFit, IsSendable, AreSendable, AllFramesFit, RestFits, ChoosesSendable}
+use Rattle.gse_law.specs.Packed.{placed_frames, last_one, last_packets, AreShortPdus, IsSendable, AreSendable, AllFramesFit, RestFits, packet_step, frame_step, ChoosesSendable}
 use Rattle.crc_law.proofs.CheckSum.{crc32_below}
 use Rattle.gse_law.proofs.Openers.{equals_itself}
 use Rattle.gse_law.proofs.Written.{written_read}
 use Rattle.gse_law.proofs.WrittenFrames.{frame_read}
-use Rattle.gse_law.proofs.Isolation.{bare_from, of_own_frames}
+use Rattle.gse_law.proofs.Isolation.{bare_from, bare_frames, pdus_of_placed, of_own_frames}
 use Rattle.gse_law.proofs.Packing.{pick, pick_both, again, packed_given}
 
 -- Each frame can be written.
@@ -65,7 +65,14 @@ complete_size : (pdu : Pdu) (r : Bool) → length (bytes_of_packet r (complete_p
 complete_size pdu true = omega arith
 complete_size pdu false = omega (arith, length-append (label_bytes pdu.label) pdu.bytes)
 
-module _ {State : Type 0} (choice : Choice State) (Good : State → Type 0) (chooses : ChoosesSendable choice Good) (room : ℕ) where
+-- a choice that keeps to such states, begins PDUs that can be sent there, and goes on with rests that have a CRC-32
+pub record KeepsSendable {State : Type 0} (choice : Choice State) (Good : State → Type 0) : Type 0 where
+  pub begun : (s : State) (id : ℕ) (pdu : Pdu) → Good s → choice.next s ≡ begins id pdu → IsSendable pdu
+  pub gone_on : (s : State) (rest : Rest) → Good s → choice.next s ≡ goes_on rest → RestFits (Some rest)
+  pub after_packet : (s : State) (left : Option Rest) → Good s → RestFits left → Good (choice.after_packet s left)
+  pub after_frame : (s : State) → Good s → Good (choice.after_frame s)
+
+module _ {State : Type 0} (choice : Choice State) (Good : State → Type 0) (chooses : KeepsSendable choice Good) (room : ℕ) where
   abbrev sum : List ℕ → ℕ
   sum bytes = crc32_remainder 0xFFFF_FFFF bytes
 
@@ -124,8 +131,26 @@ module _ {State : Type 0} (choice : Choice State) (Good : State → Type 0) (cho
   first_fits (frame ∷ frames) fit = fit
 
   -- whatever the choice
-  pub chosen_fit : (most : ℕ) (s : State) → Good s → AllFramesFit room (packed_within choice sum room most room None s)
+  chosen_fit : (most : ℕ) (s : State) → Good s → AllFramesFit room (packed_within choice sum room most room None s)
   chosen_fit most s good = first_fits (packed_within choice sum room most room None s) (within_fits most room None s (omega arith) good)
+
+module _ {State : Type 0} (choice : Choice State) where
+  chooses_keeps : KeepsSendable choice (ChoosesSendable choice)
+  chooses_keeps = record {
+    begun = λ s id pdu chooses is. chooses.begun [] tt id pdu is;
+    gone_on = λ s rest chooses is. chooses.gone_on [] tt rest is;
+    after_packet = λ s left chooses fit. record {
+      begun = λ steps fits. chooses.begun (packet_step left ∷ steps) (fit, fits);
+      gone_on = λ steps fits. chooses.gone_on (packet_step left ∷ steps) (fit, fits);
+    };
+    after_frame = λ s chooses. record {
+      begun = λ steps fits. chooses.begun (frame_step ∷ steps) fits;
+      gone_on = λ steps fits. chooses.gone_on (frame_step ∷ steps) fits;
+    };
+  }
+
+  pub chosen_can_be_written : (s : State) → ChoosesSendable choice s → (room most : ℕ) → AllFramesFit room (packed_within choice (λ bytes. crc32_remainder 0xFFFF_FFFF bytes) room most room None s)
+  chosen_can_be_written s chooses room most = chosen_fit choice (ChoosesSendable choice) chooses_keeps room most s chooses
 
 -- One list of PDUs, in order.
 
@@ -159,7 +184,7 @@ module _ (ids : FragIds) where
   in_order_keeps id None (pdu ∷ pdus) None able fit = (able.1, tt)
   in_order_keeps id None (pdu ∷ pdus) (Some rest) able fit = (able.1, fit)
 
-  in_order_chooses : ChoosesSendable (in_order ids) CanBeSent
+  in_order_chooses : KeepsSendable (in_order ids) CanBeSent
   in_order_chooses = record {
     begun = λ s id pdu good is. in_order_begun s.id s.rest s.pdus good.0 id pdu is;
     gone_on = λ s rest good is. in_order_gone_on s.id s.rest s.pdus good.1 rest is;
@@ -174,52 +199,56 @@ module _ (ids : FragIds) where
 
 -- Each frame is read.
 
-read_back : (writings : List Writing) → flat_map packet_in (map (λ (w : Writing). packet w.packet) writings) ≡ map (λ (w : Writing). w.packet) writings
+read_back : (writings : List Writing) → flat_map packets_in (map (λ (w : Writing). packet w.packet) writings) ≡ map (λ (w : Writing). w.packet) writings
 read_back [] = refl
 read_back (w ∷ writings) = ap (λ (t : List GsePacket). w.packet ∷ t) (read_back writings)
 
 frames_read : (isi size room h : ℕ) (frames : List (List Writing)) → size ≡ room + 10 → room ≤ 7264 → AllFramesFit room frames
-    → bare_from h (frames_of isi (frames_with isi size frames)) ≡ placed_frames (h + 1) 0 frames
+    → bare_from h (frames_of isi (frames_with isi size frames)) ≡ bare_frames (h + 1) 0 frames
 frames_read isi size room h [] size_is small fit = refl
 frames_read isi size room h (frame ∷ frames) size_is small fit =
     one_more (frame_read isi (field_of frame) size (omega (arith, fit.0.1, small)) (omega (arith, fit.0.1, size_is))) (written_read frame fit.0.0) (frames_read isi size room (h + 1) frames size_is small fit.1)
   where
     one_more : IsFrameRead isi (field_of frame) size → readings_of (field_of frame) ≡ map (λ (w : Writing). packet w.packet) frame
-        → bare_from (h + 1) (frames_of isi (frames_with isi size frames)) ≡ placed_frames (h + 1 + 1) 0 frames
+        → bare_from (h + 1) (frames_of isi (frames_with isi size frames)) ≡ bare_frames (h + 1 + 1) 0 frames
         → bare_from h (frames_of isi (frame_bytes isi (field_of frame) size ∷ frames_with isi size frames))
-        ≡ placed 0 (h + 1) 0 (map (λ (w : Writing). w.packet) frame) ++ placed_frames (h + 1 + 1) 0 frames
+        ≡ placed 0 (h + 1) 0 (map (λ (w : Writing). w.packet) frame) ++ bare_frames (h + 1 + 1) 0 frames
     one_more read readings rest =
         ap (λ (b : Bool). bare_from h (cond b
         (frame_bytes isi (field_of frame) size ∷ frames_of isi (frames_with isi size frames))
         (frames_of isi (frames_with isi size frames))))
         (ap₂ (λ (x : Bool) (t : FrameFields). x && (t.isi == isi)) read.readable read.fields ∙ equals_itself isi)
         ∙ ap₂ (λ (x y : List PlacedPacket). x ++ y)
-        (ap (λ (t : FrameFields). placed 0 (h + 1) 0 (packets_of t.field)) read.fields ∙ ap (λ (t : List Reading). placed 0 (h + 1) 0 (flat_map packet_in t)) readings
+        (ap (λ (t : FrameFields). placed 0 (h + 1) 0 (packets_of t.field)) read.fields ∙ ap (λ (t : List Reading). placed 0 (h + 1) 0 (flat_map packets_in t)) readings
         ∙ ap (placed 0 (h + 1) 0) (read_back frame))
         rest
 
 -- of any frames that can be written: the received packets are those that were written
 pub frames_are_read : (isi size : ℕ) (frames : List (List Writing)) → 10 ≤ size → size ≤ 7274 → AllFramesFit (size - 10) frames
-    → map pdu_in (received_pdus isi (frames_with isi size frames)) ≡ map pdu_in (pdus_after [] (placed_frames 1 0 frames))
+    → map pdu_of (received_pdus isi (frames_with isi size frames)) ≡ map pdu_of (pdus_after [] (placed_frames 0 1 0 frames))
 frames_are_read isi size frames least most fit =
     of_own_frames isi (frames_with isi size frames)
-    ∙ ap (λ (t : List PlacedPacket). map pdu_in (pdus_after [] t)) (frames_read isi size (size - 10) 0 frames (omega (arith, least)) (omega (arith, most)) fit)
+    ∙ ap (λ (t : List PlacedPacket). map pdu_of (pdus_after [] t)) (frames_read isi size (size - 10) 0 frames (omega (arith, least)) (omega (arith, most)) fit)
+    ∙ sym (pdus_of_placed frames)
 
-sendable_fit : (pdus : List Pdu) → AreSendable pdus → AllFit pdus
+sendable_fit : (pdus : List Pdu) → AreSendable pdus → AreShortPdus pdus
 sendable_fit [] able = tt
 sendable_fit (pdu ∷ pdus) able = (able.0.0, sendable_fit pdus able.1)
 
-pub frames_give : (isi size : ℕ) (pdus : List Pdu) → 300 ≤ size → size ≤ 7274 → AreSendable pdus → map pdu_in (received_pdus isi (frames_for isi size pdus)) ≡ pdus
+-- the packets of PDUs in order give these PDUs
+placed_give : (size : ℕ) (pdus : List Pdu) → 300 ≤ size → AreSendable pdus → map pdu_of (pdus_after [] (placed_frames 0 1 0 (packets_in_order size pdus))) ≡ pdus
+placed_give size pdus least able =
+    pdus_of_placed (packets_in_order size pdus) ∙ (packed_given all_ids (size - 10) (omega (arith, least)) pdus (sendable_fit pdus able)).0
+
+pub frames_give : (isi size : ℕ) (pdus : List Pdu) → 300 ≤ size → size ≤ 7274 → AreSendable pdus → map pdu_of (received_pdus isi (frames_for isi size pdus)) ≡ pdus
 frames_give isi size pdus least most able =
-    of_own_frames isi (frames_for isi size pdus)
-    ∙ ap (λ (t : List PlacedPacket). map pdu_in (pdus_after [] t))
-    (frames_read isi size (size - 10) 0 (packed all_ids (crc32_remainder 0xFFFF_FFFF) (size - 10) pdus) (omega (arith, least)) (omega (arith, most)) (packed_fits all_ids (size - 10) pdus able))
-    ∙ (packed_given all_ids (size - 10) (omega (arith, least)) pdus (sendable_fit pdus able)).0
+    frames_are_read isi size (packets_in_order size pdus) (omega (arith, least)) most (packed_fits all_ids (size - 10) pdus able)
+    ∙ placed_give size pdus least able
 
 -- The frames carry what the PDUs carry.
 
 -- all readings of a written field are packets
-pub all_packets : (writings : List Writing) → list_all is_packet (map (λ (w : Writing). packet w.packet) writings) ≡ true
+pub all_packets : (writings : List Writing) → list_all is_gse_packet (map (λ (w : Writing). packet w.packet) writings) ≡ true
 all_packets [] = refl
 all_packets (w ∷ writings) = all_packets writings
 
@@ -228,13 +257,13 @@ holds_all : (isi size room : ℕ) (frames : List (List Writing)) → size ≡ ro
 holds_all isi size room [] size_is small fit = refl
 holds_all isi size room (frame ∷ frames) size_is small fit =
     ap₂ (λ (x y : Bool). x && y)
-    (one_holds (frame_read isi (field_of frame) size (omega (arith, fit.0.1, small)) (omega (arith, fit.0.1, size_is))) (is_of isi (frame_bytes isi (field_of frame) size)))
+    (one_holds (frame_read isi (field_of frame) size (omega (arith, fit.0.1, small)) (omega (arith, fit.0.1, size_is))) (is_frame_of isi (frame_bytes isi (field_of frame) size)))
     (holds_all isi size room frames size_is small fit.1)
   where
-    one_holds : IsFrameRead isi (field_of frame) size → (b : Bool) → (not b || list_all is_packet (readings_of (frame_fields (frame_bytes isi (field_of frame) size)).field)) ≡ true
+    one_holds : IsFrameRead isi (field_of frame) size → (b : Bool) → (not b || list_all is_gse_packet (readings_of (frame_fields (frame_bytes isi (field_of frame) size)).field)) ≡ true
     one_holds read false = refl
     one_holds read true =
-        ap (λ (t : FrameFields). list_all is_packet (readings_of t.field)) read.fields ∙ ap (list_all is_packet) (written_read frame fit.0.0) ∙ all_packets frame
+        ap (λ (t : FrameFields). list_all is_gse_packet (readings_of t.field)) read.fields ∙ ap (list_all is_gse_packet) (written_read frame fit.0.0) ∙ all_packets frame
 
 -- the packets that end a PDU are as many as the PDUs
 abbrev weight : PlacedPacket → ℕ
@@ -276,28 +305,42 @@ count_frames isi size room place frame_number (frame ∷ frames) size_is small f
         (packets_from isi (place + 1) (frame_number + 1) (frames_with isi size frames))
         ∙ ap₂ (λ (x y : ℕ). x + y)
         (ap (λ (t : FrameFields). sum_by weight (placed place (frame_number + 1) 0 (packets_of t.field))) read.fields
-        ∙ ap (λ (t : List Reading). sum_by weight (placed place (frame_number + 1) 0 (flat_map packet_in t))) readings
+        ∙ ap (λ (t : List Reading). sum_by weight (placed place (frame_number + 1) 0 (flat_map packets_in t))) readings
         ∙ ap (λ (t : List GsePacket). sum_by weight (placed place (frame_number + 1) 0 t)) (read_back frame)
         ∙ count_placed place (frame_number + 1) 0 (map (λ (w : Writing). w.packet) frame)
         ∙ ap length (flat_last frame))
         rest
         ∙ sym (length-append (flat_map (λ (w : Writing). last_one w.packet) frame) (last_packets frames))
 
-pub length-map_in : (xs : List PlacedPdu) → length (map pdu_in xs) ≡ length xs
+pub length-map_in : (xs : List PlacedPdu) → length (map pdu_of xs) ≡ length xs
 length-map_in [] = refl
 length-map_in (x ∷ xs) = ap suc (length-map_in xs)
+
+-- frames that can be written carry what their PDUs carry, where these are as many as the packets that end one
+pub written_carry : (carried : Pdu → List (List ℕ)) (isi size : ℕ) (frames : List (List Writing)) → 10 ≤ size → size ≤ 7274 → AllFramesFit (size - 10) frames
+    → length (pdus_after [] (placed_frames 0 1 0 frames)) ≡ length (last_packets frames)
+    → CarriesPdus carried isi (frames_with isi size frames) (flat_map carried (map pdu_of (pdus_after [] (placed_frames 0 1 0 frames))))
+written_carry carried isi size frames least most fit many = record {
+  packets = holds_all isi size (size - 10) frames (omega (arith, least)) (omega (arith, most)) fit;
+  each =
+      sym (length-map_in (received_pdus isi (frames_with isi size frames)))
+      ∙ ap length (frames_are_read isi size frames least most fit)
+      ∙ length-map_in (pdus_after [] (placed_frames 0 1 0 frames))
+      ∙ many
+      ∙ sym (count_frames isi size (size - 10) 0 0 frames (omega (arith, least)) (omega (arith, most)) fit);
+  carried_are =
+      ap (flat_map carried) (sym (frames_are_read isi size frames least most fit))
+      ∙ flat_map-map carried pdu_of (received_pdus isi (frames_with isi size frames));
+}
 
 -- the frames carry the datagrams of the PDUs
 pub frames_carry : (carried : Pdu → List (List ℕ)) (isi size : ℕ) (pdus : List Pdu) → 300 ≤ size → size ≤ 7274 → AreSendable pdus
     → CarriesPdus carried isi (frames_for isi size pdus) (flat_map carried pdus)
-frames_carry carried isi size pdus least most able = record {
-  packets = holds_all isi size (size - 10) (packed all_ids (crc32_remainder 0xFFFF_FFFF) (size - 10) pdus) (omega (arith, least)) (omega (arith, most)) (packed_fits all_ids (size - 10) pdus able);
-  each =
-      sym (length-map_in (received_pdus isi (frames_for isi size pdus)))
-      ∙ ap length (frames_give isi size pdus least most able)
-      ∙ sym (packed_given all_ids (size - 10) (omega (arith, least)) pdus (sendable_fit pdus able)).1
-      ∙ sym (count_frames isi size (size - 10) 0 0 (packed all_ids (crc32_remainder 0xFFFF_FFFF) (size - 10) pdus) (omega (arith, least)) (omega (arith, most)) (packed_fits all_ids (size - 10) pdus able));
-  carried_are =
-      ap (flat_map carried) (sym (frames_give isi size pdus least most able))
-      ∙ flat_map-map carried pdu_in (received_pdus isi (frames_for isi size pdus));
-}
+frames_carry carried isi size pdus least most able =
+    let frames : List (List Writing) = packets_in_order size pdus in
+    let given : map pdu_of (pdus_after [] (placed_frames 0 1 0 frames)) ≡ pdus = placed_give size pdus least able in
+    subst (λ (t : List Pdu). CarriesPdus carried isi (frames_for isi size pdus) (flat_map carried t)) given
+    (written_carry carried isi size frames (omega (arith, least)) most (packed_fits all_ids (size - 10) pdus able)
+    (sym (length-map_in (pdus_after [] (placed_frames 0 1 0 frames)))
+    ∙ ap length given
+    ∙ sym (packed_given all_ids (size - 10) (omega (arith, least)) pdus (sendable_fit pdus able)).1))

@@ -7,7 +7,7 @@ use Rattle.gse_spec.specs.Packet.{complete_packet, start_packet, middle_packet, 
 use Rattle.gse_spec.specs.Written.{label_bytes, Writing}
 use Rattle.gse_spec.specs.Reassembly.{Pdu}
 use Rattle.gse_spec.specs.Packing.{first_size, middle_size, is_again, Rest, in_front, covered_by, packed_turn, packed_within, FragIds, id_after, InOrder, next_in_order, in_order, steps_of}
-use Rattle.gse_law.specs.Packed.{AllFit, work_of_pdus, work_of_rest, packed_from, PacksOneByOne}
+use Rattle.gse_law.specs.Packed.{AreShortPdus, work_of_pdus, work_of_rest, packed_from, PacksOneByOne}
 use Rattle.gse_law.proofs.Openers.{equals_itself, equal_numbers}
 use Rattle.gse_law.proofs.Packing.{le_cases, again}
 
@@ -59,10 +59,10 @@ module _ (ids : FragIds) (sum : List ℕ → ℕ) (room : ℕ) (enough : 290 ≤
   Later = ℕ → Option Label → InOrder → List (List Writing)
 
   abbrev SameBelow : Later → Later → ℕ → Type 0
-  SameBelow f g n = (left : ℕ) (before : Option Label) (id : ℕ) (rest : Option Rest) (pdus : List Pdu) → AllFit pdus → need left rest pdus < n
+  SameBelow f g n = (left : ℕ) (before : Option Label) (id : ℕ) (rest : Option Rest) (pdus : List Pdu) → AreShortPdus pdus → need left rest pdus < n
       → f left before (record { id = id; rest = rest; pdus = pdus }) ≡ g left before (record { id = id; rest = rest; pdus = pdus })
 
-  turn_same : (f g : Later) (left : ℕ) (before : Option Label) (id : ℕ) (rest : Option Rest) (pdus : List Pdu) → AllFit pdus → SameBelow f g (need left rest pdus)
+  turn_same : (f g : Later) (left : ℕ) (before : Option Label) (id : ℕ) (rest : Option Rest) (pdus : List Pdu) → AreShortPdus pdus → SameBelow f g (need left rest pdus)
       → packed_turn (in_order ids) sum room left before (record { id = id; rest = rest; pdus = pdus }) (next_in_order id rest pdus) f
       ≡ packed_turn (in_order ids) sum room left before (record { id = id; rest = rest; pdus = pdus }) (next_in_order id rest pdus) g
   turn_same f g left before id None [] all same = refl
@@ -111,7 +111,7 @@ module _ (ids : FragIds) (sum : List ℕ → ℕ) (room : ℕ) (enough : 290 ≤
   over_here (suc more) left before id (Some rest) pdus none = absurd (omega (arith, none))
 
   -- any two numbers of steps that are enough
-  steps_same : (most more left : ℕ) (before : Option Label) (id : ℕ) (rest : Option Rest) (pdus : List Pdu) → AllFit pdus → need left rest pdus ≤ most → need left rest pdus ≤ more
+  steps_same : (most more left : ℕ) (before : Option Label) (id : ℕ) (rest : Option Rest) (pdus : List Pdu) → AreShortPdus pdus → need left rest pdus ≤ most → need left rest pdus ≤ more
       → within most left before (record { id = id; rest = rest; pdus = pdus }) ≡ within more left before (record { id = id; rest = rest; pdus = pdus })
   steps_same zero more left before id rest pdus all few also = over_here more left before id rest pdus few
   steps_same (suc most) zero left before id rest pdus all few also = sym (over_here (suc most) left before id rest pdus also)
@@ -119,7 +119,7 @@ module _ (ids : FragIds) (sum : List ℕ → ℕ) (room : ℕ) (enough : 290 ≤
       turn_same (within most) (within more) left before id rest pdus all
       (λ l b i r ps fit less. steps_same most more l b i r ps fit (omega (arith, few, less)) (omega (arith, also, less)))
 
-  one_step : (left : ℕ) (before : Option Label) (id : ℕ) (rest : Option Rest) (pdus : List Pdu) → AllFit pdus
+  one_step : (left : ℕ) (before : Option Label) (id : ℕ) (rest : Option Rest) (pdus : List Pdu) → AreShortPdus pdus
       → packed_from ids sum room left before (record { id = id; rest = rest; pdus = pdus })
       ≡ packed_turn (in_order ids) sum room left before (record { id = id; rest = rest; pdus = pdus }) (next_in_order id rest pdus) (packed_from ids sum room)
   one_step left before id rest pdus all =

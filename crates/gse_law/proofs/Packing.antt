@@ -8,9 +8,10 @@ use Rattle.wire_spec.specs.Crc.{crc32_remainder}
 use Rattle.addr_rules.specs.declared.filter.Label.{Label}
 use Rattle.gse_spec.specs.Packet.{complete_packet, start_packet, middle_packet, end_packet}
 use Rattle.gse_spec.specs.Written.{label_bytes, Writing}
-use Rattle.gse_spec.specs.Reassembly.{PlacedPacket, Fragments, with_bytes, opened_by, opened, opened_places, fits, is_late, has_right_total, has_crc, covered, Outcome, reassembled, outcome_after, Pdu, pdu_of_outcome, pdus_after}
+use Rattle.gse_spec.specs.Reassembly.{PlacedPacket, Fragments, with_bytes, opened_by, opened, opened_places, fits, is_late, has_right_total, has_crc, covered, Outcome, reassembled, outcome_after, Pdu, pdu_of, pdu_of_outcome, pdus_after}
 use Rattle.gse_spec.specs.Packing.{first_size, middle_size, is_again, Rest, in_front, covered_by, FragIds, id_after, packed_within, in_order, steps_of, packed}
-use Rattle.gse_law.specs.Packed.{placed_frames, last_one, last_packets, Fits, AllFit, pdu_in}
+use Rattle.gse_law.specs.Packed.{last_one, last_packets, IsShortPdu, AreShortPdus}
+use Rattle.gse_law.proofs.Isolation.{bare_frames}
 use Rattle.gse_law.proofs.Openers.{equals_itself}
 use Rattle.gse_law.proofs.Reassembled.{outcome_if, lt_false, le_true, eq_true}
 
@@ -43,13 +44,13 @@ pick_both P a b c d x y yes_is no_is = by_case (le_cases a b) (le_cases c d)
 
 -- a packet in front of the others of its frame
 front_placed : (h i : ℕ) (w : Writing) (frames : List (List Writing))
-    → placed_frames h i (in_front w frames) ≡ record { place = 0; frame_number = h; index = i; packet = w.packet } ∷ placed_frames h (i + 1) frames
+    → bare_frames h i (in_front w frames) ≡ record { place = 0; frame_number = h; index = i; packet = w.packet } ∷ bare_frames h (i + 1) frames
 front_placed h i w [] = refl
 front_placed h i w (frame ∷ frames) = refl
 
 -- what a receiver puts together of these frames
 abbrev Given : List (List Writing) → List PlacedPacket → ℕ → ℕ → List Pdu → Type 0
-Given frames bs h i pdus = (map pdu_in (pdus_after bs (placed_frames h i frames)) ≡ pdus) × (length (last_packets frames) ≡ length pdus)
+Given frames bs h i pdus = (map pdu_of (pdus_after bs (bare_frames h i frames)) ≡ pdus) × (length (last_packets frames) ≡ length pdus)
 
 last_front : (w : Writing) (frames : List (List Writing)) → last_packets (in_front w frames) ≡ last_one w.packet ++ last_packets frames
 last_front w [] = append_assoc (last_one w.packet) [] []
@@ -57,10 +58,10 @@ last_front w (frame ∷ frames) = append_assoc (last_one w.packet) (flat_map (λ
 
 -- a packet in front
 given_front : (w : Writing) (frames : List (List Writing)) (bs : List PlacedPacket) (h i : ℕ) (pdus : List Pdu)
-    → map pdu_in (pdus_after bs (record { place = 0; frame_number = h; index = i; packet = w.packet } ∷ placed_frames h (i + 1) frames)) ≡ pdus
+    → map pdu_of (pdus_after bs (record { place = 0; frame_number = h; index = i; packet = w.packet } ∷ bare_frames h (i + 1) frames)) ≡ pdus
     → length (last_one w.packet ++ last_packets frames) ≡ length pdus → Given (in_front w frames) bs h i pdus
 given_front w frames bs h i pdus is count =
-    (ap (λ (t : List PlacedPacket). map pdu_in (pdus_after bs t)) (front_placed h i w frames) ∙ is, ap length (last_front w frames) ∙ count)
+    (ap (λ (t : List PlacedPacket). map pdu_of (pdus_after bs t)) (front_placed h i w frames) ∙ is, ap length (last_front w frames) ∙ count)
 
 -- the fragments of a PDU so far, and what is left of it
 record Holds (rest : Rest) (bs : List PlacedPacket) (f : Fragments) (pdu : Pdu) : Type 0 where
@@ -137,7 +138,7 @@ module _ (ids : FragIds) (room : ℕ) (enough : 290 ≤ room) where
 
   -- without a rest, in so many steps
   abbrev Packs : ℕ → Type 0
-  Packs most = (left : ℕ) (before : Option Label) (id : ℕ) (pdus : List Pdu) (bs : List PlacedPacket) (h i : ℕ) → left ≤ room → AllFit pdus
+  Packs most = (left : ℕ) (before : Option Label) (id : ℕ) (pdus : List Pdu) (bs : List PlacedPacket) (h i : ℕ) → left ≤ room → AreShortPdus pdus
       → steps_of pdus ≤ most → (left ≡ room) ⊎ (steps_of pdus + 1 ≤ most)
       → Given (from_here most left before id None pdus) bs h i pdus
 
@@ -150,7 +151,7 @@ module _ (ids : FragIds) (room : ℕ) (enough : 290 ≤ room) where
   -- with a rest
   abbrev PacksRest : ℕ → Type 0
   PacksRest most = (left : ℕ) (before : Option Label) (id : ℕ) (rest : Rest) (pdus : List Pdu) (bs : List PlacedPacket) (h i : ℕ) (f : Fragments) (pdu : Pdu) (lost : ℕ)
-      → left ≤ room → Fits pdu → AllFit pdus → Holds rest bs f pdu → h ≡ f.frame_number + lost
+      → left ≤ room → IsShortPdu pdu → AreShortPdus pdus → Holds rest bs f pdu → h ≡ f.frame_number + lost
       → Budget most left (length rest.bytes) lost (length pdu.bytes) (steps_of pdus)
       → Given (from_here most left before id (Some rest) pdus) bs h i (pdu ∷ pdus)
 
@@ -209,9 +210,9 @@ module _ (ids : FragIds) (room : ℕ) (enough : 290 ≤ room) where
           → Given (in_front (record { packet = end_packet rest.id rest.bytes rest.crc; reuses = false }) (from_here most (left - (7 + length rest.bytes)) before id None pdus)) bs h i (pdu ∷ pdus)
       last a b =
           given_front (record { packet = end_packet rest.id rest.bytes rest.crc; reuses = false }) (from_here most (left - (7 + length rest.bytes)) before id None pdus) bs h i (pdu ∷ pdus)
-          (ap (λ (o : Outcome). map pdu_in
+          (ap (λ (o : Outcome). map pdu_of
           (pdu_of_outcome 0 i (0 ∷ opened_places rest.id bs) o
-          ++ pdus_after (record { place = 0; frame_number = h; index = i; packet = end_packet rest.id rest.bytes rest.crc } ∷ bs) (placed_frames h (i + 1) (from_here most (left - (7 + length rest.bytes)) before id None pdus))))
+          ++ pdus_after (record { place = 0; frame_number = h; index = i; packet = end_packet rest.id rest.bytes rest.crc } ∷ bs) (bare_frames h (i + 1) (from_here most (left - (7 + length rest.bytes)) before id None pdus))))
           (ends rest bs f pdu h holds (near budget))
           ∙ ap (λ (t : List Pdu). pdu ∷ t) (later b).0)
           (ap suc (later b).1)
@@ -313,6 +314,6 @@ module _ (ids : FragIds) (room : ℕ) (enough : 290 ≤ room) where
       none left size lost whole steps (inr b) = omega (arith, b.0)
   both (suc most) = (pdu_step most (both most).0 (both most).1, rest_step most (both most).0 (both most).1)
 
-  pub packed_given : (pdus : List Pdu) → AllFit pdus → Given (packed ids sum room pdus) [] 1 0 pdus
+  pub packed_given : (pdus : List Pdu) → AreShortPdus pdus → Given (packed ids sum room pdus) [] 1 0 pdus
   packed_given [] all = (refl, refl)
   packed_given (pdu ∷ pdus) all = (both (steps_of (pdu ∷ pdus))).0 room None ids.first (pdu ∷ pdus) [] 1 0 (omega arith) all (omega arith) (inl refl)

@@ -2,34 +2,32 @@
 use Rattle.std.proofs.Common.{◌≡◌, ◌⊎◌, inl, inr, ℕ, zero, suc, ◌+◌, ◌-◌, ◌<◌, ◌≤◌, Bool, true, false, cond, ◌&&◌, List, [], ◌∷◌, ◌++◌, take, drop, length, map, flat_map, refl, ap, ap₂, sym, ◌∙◌, subst, arith, append-nil}
 use Rattle.std.specs.Prelude.{◌==◌, slice_index_or, All, AllPairs, Contains}
 use Rattle.std.specs.List.{range_with_len}
-use Rattle.wire_spec.specs.Crc.{crc32_remainder}
 use Rattle.gse_spec.specs.Frame.{FrameFields, frame_bytes}
 use Rattle.gse_spec.specs.Written.{Writing, field_of}
 use Rattle.gse_spec.specs.Reassembly.{Pdu}
-use Rattle.gse_spec.specs.Received.{is_of}
+use Rattle.gse_spec.specs.Received.{is_frame_of}
 use Rattle.gse_spec.specs.Carried.{CarriesPdus}
-use Rattle.gse_spec.specs.Packing.{all_ids, packed}
-use Rattle.gse_spec.specs.Sending.{frames_with, frames_for, round_of, total_length, GseService, sent_frames}
+use Rattle.gse_spec.specs.Sending.{frames_with, packets_in_order, round_of, item_count, GseService, sent_frames}
 use Rattle.gse_law.specs.Streams.{frames_of}
 use Rattle.gse_law.specs.Writable.{IsFrameRead}
 use Rattle.gse_law.specs.Packed.{AreSendable, AllFramesFit}
-use Rattle.gse_law.specs.Services.{IsSendableService, HaveOtherIsis}
+use Rattle.gse_law.specs.Services.{CanBeWritten, HaveOtherIsis}
 use Rattle.std.proofs.lemmas.Bool.{cases_Bool}
 use Rattle.gse_law.proofs.Openers.{equals_itself, equal_numbers}
 use Rattle.gse_law.proofs.WrittenFrames.{frame_read}
-use Rattle.gse_law.proofs.PackedFrames.{packed_fits, frames_carry}
+use Rattle.gse_law.proofs.PackedFrames.{frames_carry}
 use Rattle.gse_law.proofs.OwnFrames.{carries_own}
+use Rattle.gse_law.proofs.Each.{Each, each_item}
 
 -- Frames of one list.
 
 -- all of them are of the input stream, or none is
 abbrev EachOf : Bool → ℕ → List (List ℕ) → Type 0
-EachOf of isi [] = Unit {0}
-EachOf of isi (b ∷ frames) = (is_of isi b ≡ of) × EachOf of isi frames
+EachOf of isi frames = Each (λ (b : List ℕ). is_frame_of isi b ≡ of) frames
 
 frames_both : (isi : ℕ) (xs ys : List (List ℕ)) → frames_of isi (xs ++ ys) ≡ frames_of isi xs ++ frames_of isi ys
 frames_both isi [] ys = refl
-frames_both isi (b ∷ xs) ys = by_test (is_of isi b) (frames_both isi xs ys)
+frames_both isi (b ∷ xs) ys = by_test (is_frame_of isi b) (frames_both isi xs ys)
   where
     by_test : (of : Bool) → frames_of isi (xs ++ ys) ≡ frames_of isi xs ++ frames_of isi ys
         → cond of (b ∷ frames_of isi (xs ++ ys)) (frames_of isi (xs ++ ys)) ≡ cond of (b ∷ frames_of isi xs) (frames_of isi xs) ++ frames_of isi ys
@@ -46,12 +44,6 @@ frames_none isi [] each = refl
 frames_none isi (b ∷ frames) each =
     ap (λ (t : Bool). cond t (b ∷ frames_of isi frames) (frames_of isi frames)) each.0 ∙ frames_none isi frames each.1
 
-each_item : (of : Bool) (isi n : ℕ) (frames : List (List ℕ)) → EachOf of isi frames → EachOf of isi (take 1 (drop n frames))
-each_item of isi zero [] each = tt
-each_item of isi (suc n) [] each = tt
-each_item of isi zero (b ∷ frames) each = (each.0, tt)
-each_item of isi (suc n) (b ∷ frames) each = each_item of isi n frames each.1
-
 -- written frames are of their ISI
 each_written : (other isi size room : ℕ) (of : Bool) → (other == isi) ≡ of → size ≡ room + 10 → room ≤ 7264 → (frames : List (List Writing)) → AllFramesFit room frames
     → EachOf of isi (frames_with other size frames)
@@ -61,7 +53,7 @@ each_written other isi size room of is size_is small (frame ∷ frames) fit = (
   each_written other isi size room of is size_is small frames fit.1,
 )
   where
-    one : IsFrameRead other (field_of frame) size → is_of isi (frame_bytes other (field_of frame) size) ≡ of
+    one : IsFrameRead other (field_of frame) size → is_frame_of isi (frame_bytes other (field_of frame) size) ≡ of
     one read = ap₂ (λ (x : Bool) (t : FrameFields). x && (t.isi == isi)) read.readable read.fields ∙ is
 
 -- Items of a list, round by round.
@@ -114,13 +106,13 @@ abbrev Only : GseService → List GseService → Type 0
 Only s [] = ⊥
 Only s (t ∷ ts) = ((t ≡ s) × AllOther s.isi ts) ⊎ ((t.isi ≡ s.isi → ⊥) × Only s ts)
 
-abbrev AllSend : List GseService → Type 0
-AllSend [] = Unit {0}
-AllSend (t ∷ ts) = AreSendable t.pdus × AllSend ts
+abbrev pub AllWritten : ℕ → List GseService → Type 0
+AllWritten size [] = Unit {0}
+AllWritten size (t ∷ ts) = CanBeWritten size t × AllWritten size ts
 
-all_send : (ts : List GseService) → All IsSendableService ts → AllSend ts
-all_send [] all = tt
-all_send (t ∷ ts) all = (all 0 t (omega arith), all_send ts (λ k d within. all (suc k) d (omega (arith, within))))
+pub all_written : (size : ℕ) (ts : List GseService) → All (CanBeWritten size) ts → AllWritten size ts
+all_written size [] all = tt
+all_written size (t ∷ ts) all = (all 0 t (omega arith), all_written size ts (λ k d within. all (suc k) d (omega (arith, within))))
 
 all_other : (isi : ℕ) (ts : List GseService) → ((k : ℕ) (d : GseService) → k < length ts → (slice_index_or ts k d).isi ≡ isi → ⊥) → AllOther isi ts
 all_other isi [] none = tt
@@ -144,29 +136,28 @@ other_false a b none = by_test (cases_Bool (a == b))
     by_test (inl same) = absurd (none (equal_numbers a b same))
     by_test (inr other) = other
 
-module _ (size : ℕ) (least : 300 ≤ size) (most : size ≤ 7274) where
+module _ (size : ℕ) (least : 10 ≤ size) (most : size ≤ 7274) where
   abbrev frames_by : GseService → List (List ℕ)
-  frames_by t = frames_for t.isi size t.pdus
+  frames_by t = frames_with t.isi size t.frames
 
-  each_for : (of : Bool) (isi : ℕ) (t : GseService) → (t.isi == isi) ≡ of → AreSendable t.pdus → EachOf of isi (frames_by t)
+  each_for : (of : Bool) (isi : ℕ) (t : GseService) → (t.isi == isi) ≡ of → CanBeWritten size t → EachOf of isi (frames_by t)
   each_for of isi t is able =
-      each_written t.isi isi size (size - 10) of is (omega (arith, least)) (omega (arith, most)) (packed all_ids (crc32_remainder 0xFFFF_FFFF) (size - 10) t.pdus)
-      (packed_fits all_ids (size - 10) t.pdus able)
+      each_written t.isi isi size (size - 10) of is (omega (arith, least)) (omega (arith, most)) t.frames able
 
-  round_none : (isi n : ℕ) (ts : List GseService) → AllOther isi ts → AllSend ts → frames_of isi (round_of (map frames_by ts) n) ≡ []
+  round_none : (isi n : ℕ) (ts : List GseService) → AllOther isi ts → AllWritten size ts → frames_of isi (round_of (map frames_by ts) n) ≡ []
   round_none isi n [] other able = refl
   round_none isi n (t ∷ ts) other able =
       frames_both isi (take 1 (drop n (frames_by t))) (round_of (map frames_by ts) n)
       ∙ ap₂ (λ (x y : List (List ℕ)). x ++ y)
-      (frames_none isi (take 1 (drop n (frames_by t))) (each_item false isi n (frames_by t) (each_for false isi t (other_false t.isi isi other.0) able.0)))
+      (frames_none isi (take 1 (drop n (frames_by t))) (each_item (λ (b : List ℕ). is_frame_of isi b ≡ false) n (frames_by t) (each_for false isi t (other_false t.isi isi other.0) able.0)))
       (round_none isi n ts other.1 able.1)
 
-  round_own : (s : GseService) (n : ℕ) (ts : List GseService) → Only s ts → AllSend ts → frames_of s.isi (round_of (map frames_by ts) n) ≡ take 1 (drop n (frames_by s))
+  round_own : (s : GseService) (n : ℕ) (ts : List GseService) → Only s ts → AllWritten size ts → frames_of s.isi (round_of (map frames_by ts) n) ≡ take 1 (drop n (frames_by s))
   round_own s n [] only_one able = absurd only_one
   round_own s n (t ∷ ts) (inl here) able =
       frames_both s.isi (take 1 (drop n (frames_by t))) (round_of (map frames_by ts) n)
       ∙ ap₂ (λ (x y : List (List ℕ)). x ++ y)
-      (frames_all s.isi (take 1 (drop n (frames_by t))) (each_item true s.isi n (frames_by t) (each_for true s.isi t same_isi able.0))
+      (frames_all s.isi (take 1 (drop n (frames_by t))) (each_item (λ (b : List ℕ). is_frame_of s.isi b ≡ true) n (frames_by t) (each_for true s.isi t same_isi able.0))
       ∙ ap (λ (x : GseService). take 1 (drop n (frames_by x))) here.0)
       (round_none s.isi n ts here.1 able.1)
       ∙ append-nil (take 1 (drop n (frames_by s)))
@@ -176,36 +167,47 @@ module _ (size : ℕ) (least : 300 ≤ size) (most : size ≤ 7274) where
   round_own s n (t ∷ ts) (inr there) able =
       frames_both s.isi (take 1 (drop n (frames_by t))) (round_of (map frames_by ts) n)
       ∙ ap₂ (λ (x y : List (List ℕ)). x ++ y)
-      (frames_none s.isi (take 1 (drop n (frames_by t))) (each_item false s.isi n (frames_by t) (each_for false s.isi t (other_false t.isi s.isi there.0) able.0)))
+      (frames_none s.isi (take 1 (drop n (frames_by t))) (each_item (λ (b : List ℕ). is_frame_of s.isi b ≡ false) n (frames_by t) (each_for false s.isi t (other_false t.isi s.isi there.0) able.0)))
       (round_own s n ts there.1 able.1)
 
-  enough_rounds : (s : GseService) (ts : List GseService) → Only s ts → length (frames_by s) ≤ total_length (map frames_by ts)
+  enough_rounds : (s : GseService) (ts : List GseService) → Only s ts → length (frames_by s) ≤ item_count (map frames_by ts)
   enough_rounds s [] only_one = absurd only_one
-  enough_rounds s (t ∷ ts) (inl here) = subst (λ (x : GseService). length (frames_by x) ≤ length (frames_by t) + total_length (map frames_by ts)) here.0 (omega arith)
+  enough_rounds s (t ∷ ts) (inl here) = subst (λ (x : GseService). length (frames_by x) ≤ length (frames_by t) + item_count (map frames_by ts)) here.0 (omega arith)
   enough_rounds s (t ∷ ts) (inr there) = omega (arith, enough_rounds s ts there.1)
 
-  rotation_own : (s : GseService) (ts : List GseService) → Only s ts → AllSend ts → frames_of s.isi (sent_frames size ts) ≡ frames_by s
+  rotation_own : (s : GseService) (ts : List GseService) → Only s ts → AllWritten size ts → frames_of s.isi (sent_frames size ts) ≡ frames_by s
   rotation_own s ts only_one able =
-      chosen_rounds s.isi (round_of (map frames_by ts)) (λ n. take 1 (drop n (frames_by s))) (λ n. round_own s n ts only_one able) (range_with_len 0 (total_length (map frames_by ts)))
-      ∙ rounds_of_one (frames_by s) (total_length (map frames_by ts)) 0
-      ∙ take_all (total_length (map frames_by ts)) (frames_by s) (enough_rounds s ts only_one)
+      chosen_rounds s.isi (round_of (map frames_by ts)) (λ n. take 1 (drop n (frames_by s))) (λ n. round_own s n ts only_one able) (range_with_len 0 (item_count (map frames_by ts)))
+      ∙ rounds_of_one (frames_by s) (item_count (map frames_by ts)) 0
+      ∙ take_all (item_count (map frames_by ts)) (frames_by s) (enough_rounds s ts only_one)
 
-  pub own_in_rotation : (services : List GseService) (service : GseService) → All IsSendableService services → AllPairs HaveOtherIsis services → Contains services service
+  pub own_in_rotation : (services : List GseService) (service : GseService) → All (CanBeWritten size) services → AllPairs HaveOtherIsis services → Contains services service
       → frames_of service.isi (sent_frames size services) ≡ frames_by service
   own_in_rotation services service able pairs there =
-      rotation_own service services (only service services there.0 there.1 there.2 pairs) (all_send services able)
+      rotation_own service services (only service services there.0 there.1 there.2 pairs) (all_written size services able)
 
-  sendable_of : (s : GseService) (ts : List GseService) → Only s ts → AllSend ts → AreSendable s.pdus
-  sendable_of s [] only_one able = absurd only_one
-  sendable_of s (t ∷ ts) (inl here) able = subst (λ (x : GseService). AreSendable x.pdus) here.0 able.0
-  sendable_of s (t ∷ ts) (inr there) able = sendable_of s ts there.1 able.1
+  written_of : (s : GseService) (ts : List GseService) → Only s ts → AllWritten size ts → CanBeWritten size s
+  written_of s [] only_one able = absurd only_one
+  written_of s (t ∷ ts) (inl here) able = subst (CanBeWritten size) here.0 able.0
+  written_of s (t ∷ ts) (inr there) able = written_of s ts there.1 able.1
 
-  pub rotation_carries : (carried : Pdu → List (List ℕ)) (services : List GseService) (service : GseService) → All IsSendableService services
-      → AllPairs HaveOtherIsis services → Contains services service → CarriesPdus carried service.isi (sent_frames size services) (flat_map carried service.pdus)
-  rotation_carries carried services service able pairs there =
+  -- what the frames of a service carry, those of all carry
+  pub rotation_carries : (carried : Pdu → List (List ℕ)) (services : List GseService) (service : GseService) → All (CanBeWritten size) services
+      → AllPairs HaveOtherIsis services → Contains services service → (datagrams : List (List ℕ))
+      → CarriesPdus carried service.isi (frames_by service) datagrams → CarriesPdus carried service.isi (sent_frames size services) datagrams
+  rotation_carries carried services service able pairs there datagrams carries =
       let only_one : Only service services = only service services there.0 there.1 there.2 pairs in
-      let own_able : AreSendable service.pdus = sendable_of service services only_one (all_send services able) in
+      let all_able : AllWritten size services = all_written size services able in
       carries_own service.isi (sent_frames size services) (frames_by service)
-      (rotation_own service services only_one (all_send services able)
-      ∙ sym (frames_all service.isi (frames_by service) (each_for true service.isi service (equals_itself service.isi) own_able)))
-      carried (flat_map carried service.pdus) (frames_carry carried service.isi size service.pdus least most own_able)
+      (rotation_own service services only_one all_able
+      ∙ sym (frames_all service.isi (frames_by service) (each_for true service.isi service (equals_itself service.isi) (written_of service services only_one all_able))))
+      carried datagrams carries
+
+-- where they are PDUs in order
+pub rotation_in_order : (carried : Pdu → List (List ℕ)) (size : ℕ) (services : List GseService) (service : GseService) → 300 ≤ size → size ≤ 7274
+    → All (CanBeWritten size) services → AllPairs HaveOtherIsis services → Contains services service → (pdus : List Pdu) → AreSendable pdus
+    → service.frames ≡ packets_in_order size pdus → CarriesPdus carried service.isi (sent_frames size services) (flat_map carried pdus)
+rotation_in_order carried size services service least most able pairs there pdus sendable is =
+    rotation_carries size (omega (arith, least)) most carried services service able pairs there (flat_map carried pdus)
+    (subst (λ (t : List (List Writing)). CarriesPdus carried service.isi (frames_with service.isi size t) (flat_map carried pdus)) (sym is)
+    (frames_carry carried service.isi size pdus least most sendable))

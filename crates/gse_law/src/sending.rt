@@ -3,16 +3,17 @@
 ghost use Rattle.std.specs.Prelude.{◌≡◌, ℕ, ◌+◌, ◌-◌, ◌≤◌, Bool, true, List, [], length, map, flat_map, All, AllPairs, Contains, None};
 ghost use Rattle.wire_spec.specs.Crc.{crc32_remainder};
 ghost use Rattle.wire_spec.specs.Datagram.{IsDatagram};
+ghost use Rattle.wire_spec.specs.Lists.{joined, IsCut};
 ghost use Rattle.gse_spec.specs.Received.{carried_by_pdu};
 ghost use Rattle.gse_spec.specs.Packet.{packet, readings_of};
 ghost use Rattle.gse_spec.specs.Written.{Writing, field_of};
-ghost use Rattle.gse_spec.specs.Reassembly.{Pdu, pdus_after};
+ghost use Rattle.gse_spec.specs.Reassembly.{Pdu, pdu_of, pdus_after};
 ghost use Rattle.gse_spec.specs.Carried.{CarriesPdus};
 ghost use Rattle.gse_spec.specs.Numbers.{pdus_of};
-ghost use Rattle.gse_spec.specs.Packing.{FragIds, packed};
-ghost use Rattle.gse_spec.specs.Sending.{pdu_for, frames_with, frames_for, GseService, sent_frames};
-ghost use Rattle.gse_law.specs.Packed.{placed_frames, pdu_in, AllFit, AreSendable, PacksOneByOne, AllFramesFit};
-ghost use Rattle.gse_law.specs.Services.{IsSendableService, HaveOtherIsis};
+ghost use Rattle.gse_spec.specs.Packing.{Choice, packed_within, FragIds, packed};
+ghost use Rattle.gse_spec.specs.Sending.{pdu_for, frames_with, packets_in_order, frames_for, GseService, sent_frames};
+ghost use Rattle.gse_law.specs.Packed.{placed_frames, last_packets, AreShortPdus, AreSendable, PacksOneByOne, AllFramesFit, ChoosesSendable};
+ghost use Rattle.gse_law.specs.Services.{CanBeWritten, HaveOtherIsis};
 ghost use Rattle.gse_law.specs.Streams.{frames_of};
 ghost use Rattle.gse_law.specs.Writable.{AreWritable, IsFrameRead};
 
@@ -28,8 +29,8 @@ pub fn written_frames_are_read()
 
 /// A receiver of all packed frames reassembles the PDUs that were packed, each once and in order, whatever Frag IDs they have.
 pub fn packed_pdus_are_reassembled()
-    ensures given { (ids : FragIds) (room : ℕ) → 290 ≤ room → (pdus : List Pdu) → AllFit pdus
-        → map pdu_in (pdus_after [] (placed_frames 1 0 (packed ids (crc32_remainder 0xFFFFFFFF) room pdus))) ≡ pdus }
+    ensures given { (ids : FragIds) (room : ℕ) → 290 ≤ room → (pdus : List Pdu) → AreShortPdus pdus
+        → map pdu_of (pdus_after [] (placed_frames 0 1 0 (packed ids (crc32_remainder 0xFFFFFFFF) room pdus))) ≡ pdus }
 {}
 
 /// The packets of the frames follow one after another from what is left of the frame and of the PDUs.
@@ -40,7 +41,25 @@ pub fn frames_are_packed_packet_by_packet()
 /// A receiver of frames that can be written has the PDUs of the packets that were written.
 pub fn written_frames_give_their_packets()
     ensures given { (isi size : ℕ) (frames : List (List Writing)) → 10 ≤ size → size ≤ 7274 → AllFramesFit (size - 10) frames
-        → pdus_of isi (frames_with isi size frames) ≡ map pdu_in (pdus_after [] (placed_frames 1 0 frames)) }
+        → pdus_of isi (frames_with isi size frames) ≡ map pdu_of (pdus_after [] (placed_frames 0 1 0 frames)) }
+{}
+
+/// They carry what these PDUs carry, where the PDUs are as many as the packets that end one.
+pub fn written_frames_carry_their_pdus()
+    ensures carried { (carried : Pdu → List (List ℕ)) (isi size : ℕ) (frames : List (List Writing)) → 10 ≤ size → size ≤ 7274 → AllFramesFit (size - 10) frames
+        → length (pdus_after [] (placed_frames 0 1 0 frames)) ≡ length (last_packets frames)
+        → CarriesPdus carried isi (frames_with isi size frames) (flat_map carried (map pdu_of (pdus_after [] (placed_frames 0 1 0 frames)))) }
+{}
+
+/// Packing by any choice that begins PDUs which can be sent gives frames that can be written.
+pub fn chosen_frames_can_be_written<State>()
+    ensures fit { (choice : Choice State) (s : State) → ChoosesSendable choice s → (room most : ℕ)
+        → AllFramesFit room (packed_within choice (crc32_remainder 0xFFFFFFFF) room most room None s) }
+{}
+
+/// So does packing of one list of PDUs in order.
+pub fn packed_frames_can_be_written()
+    ensures fit { (ids : FragIds) (room : ℕ) (pdus : List Pdu) → AreSendable pdus → AllFramesFit room (packed ids (crc32_remainder 0xFFFFFFFF) room pdus) }
 {}
 
 /// The frames of packed PDUs give a receiver these PDUs, each once and in order.
@@ -66,16 +85,28 @@ pub fn offered_datagrams_are_carried()
         → flat_map carried_by_pdu (map (pdu_for address unicast) datagrams) ≡ datagrams }
 {}
 
-/// In the frames of several services, each on its own ISI, those of one service are its own, in order.
+/// In the frames of several services, each on its own ISI, those of one service are its own, in order, whatever made them.
 pub fn frames_are_sent_in_rotation()
-    ensures own { (size : ℕ) (services : List GseService) (service : GseService) → 300 ≤ size → size ≤ 7274 → All IsSendableService services
+    ensures own { (size : ℕ) (services : List GseService) (service : GseService) → 10 ≤ size → size ≤ 7274 → All (CanBeWritten size) services
         → AllPairs HaveOtherIsis services → Contains services service
-        → frames_of service.isi (sent_frames size services) ≡ frames_for service.isi size service.pdus }
+        → frames_of service.isi (sent_frames size services) ≡ frames_with service.isi size service.frames }
 {}
 
-/// So they carry what the PDUs of each service carry.
+/// So they carry what each service's own frames carry; of a service with one list of PDUs in order, what these PDUs carry.
 pub fn the_frames_of_services_carry_their_datagrams()
-    ensures carried { (carried : Pdu → List (List ℕ)) (size : ℕ) (services : List GseService) (service : GseService) → 300 ≤ size → size ≤ 7274
-        → All IsSendableService services → AllPairs HaveOtherIsis services → Contains services service
-        → CarriesPdus carried service.isi (sent_frames size services) (flat_map carried service.pdus) }
+    ensures carried { (carried : Pdu → List (List ℕ)) (size : ℕ) (services : List GseService) (service : GseService) → 10 ≤ size → size ≤ 7274
+        → All (CanBeWritten size) services → AllPairs HaveOtherIsis services → Contains services service → (datagrams : List (List ℕ))
+        → CarriesPdus carried service.isi (frames_with service.isi size service.frames) datagrams
+        → CarriesPdus carried service.isi (sent_frames size services) datagrams }
+    ensures in_order { (carried : Pdu → List (List ℕ)) (size : ℕ) (services : List GseService) (service : GseService) → 300 ≤ size → size ≤ 7274
+        → All (CanBeWritten size) services → AllPairs HaveOtherIsis services → Contains services service → (pdus : List Pdu) → AreSendable pdus
+        → service.frames ≡ packets_in_order size pdus → CarriesPdus carried service.isi (sent_frames size services) (flat_map carried pdus) }
+{}
+
+/// Each frame has the size of the frames, so that their bytes are cut into them again, and nothing is left.
+pub fn sent_frames_are_the_pieces_of_their_bytes()
+    ensures each { (isi size : ℕ) (frames : List (List Writing)) → 10 ≤ size → AllFramesFit (size - 10) frames
+        → All (λ frame. length frame ≡ size) (frames_with isi size frames) }
+    ensures cut { (size : ℕ) (services : List GseService) → 10 ≤ size → All (CanBeWritten size) services
+        → IsCut size (joined (sent_frames size services)) (sent_frames size services) [] }
 {}

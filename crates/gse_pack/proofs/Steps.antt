@@ -9,9 +9,9 @@ use Rattle.gse_spec.specs.Frame.{frame_bytes}
 use Rattle.gse_spec.specs.Packet.{complete_packet, start_packet, middle_packet, end_packet}
 use Rattle.gse_spec.specs.Written.{label_bytes, Writing, bytes_of_packet, field_of, complete_bytes, start_bytes, middle_bytes, end_bytes}
 use Rattle.gse_spec.specs.Reassembly.{Pdu}
-use Rattle.gse_spec.specs.Packing.{is_again, written_size, first_size, middle_size, Rest, Turn, no_turn, begins, goes_on, in_front, covered_by, InOrder, next_in_order, all_ids, in_order, packed_turn, packed_within, steps_of, packed}
+use Rattle.gse_spec.specs.Packing.{is_again, written_size, fits_whole, fits_first, first_size, fits_last, fits_middle, middle_size, Rest, Turn, no_turn, begins, goes_on, in_front, covered_by, InOrder, next_in_order, all_ids, in_order, packed_turn, packed_within, steps_of, packed}
 use Rattle.gse_spec.specs.Sending.{frames_with, frames_for}
-use Rattle.gse_pack.specs.Steps.{PackState, left_in, after_packet, after_frame, label_written, fits_whole, fits_first, fits_last, fits_middle, frames_after, all_frames, Leads, IsMoved, rest_of}
+use Rattle.gse_pack.specs.Steps.{PackState, left_in, after_packet, after_frame, label_written, frames_after, all_frames, Leads, IsMoved, rest_of}
 
 -- One packet more in the frame under way.
 

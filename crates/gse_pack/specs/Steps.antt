@@ -1,11 +1,11 @@
 -- Packing packet by packet: what has been written so far, and what the packets still to come make of it.
-use Rattle.std.specs.Prelude.{◌≡◌, ◌⊎◌, ℕ, ◌+◌, ◌-◌, ◌*◌, ◌≤◌, Bool, false, ◌&&◌, List, [], ◌∷◌, ◌++◌, drop, length, nat_le, if◌then◌else◌, Option, Some, None}
+use Rattle.std.specs.Prelude.{◌≡◌, ◌⊎◌, ℕ, ◌+◌, ◌-◌, ◌*◌, ◌≤◌, Bool, false, List, [], ◌∷◌, ◌++◌, drop, length, if◌then◌else◌, Option, Some, None}
 use Rattle.wire_spec.specs.Crc.{crc32_remainder}
 use Rattle.addr_rules.specs.declared.filter.Label.{Label}
 use Rattle.gse_spec.specs.Frame.{frame_bytes}
-use Rattle.gse_spec.specs.Written.{label_bytes, Writing, field_of}
+use Rattle.gse_spec.specs.Written.{Writing, field_of}
 use Rattle.gse_spec.specs.Reassembly.{Pdu}
-use Rattle.gse_spec.specs.Packing.{is_again, written_size, Rest, all_ids, in_order, packed_within, steps_of}
+use Rattle.gse_spec.specs.Packing.{is_again, Rest, all_ids, in_order, packed_within, steps_of}
 use Rattle.gse_spec.specs.Sending.{frames_with}
 
 -- the whole frames; the bytes of the packets in the frame under way; the label of its last packet with S = 1; the next Frag ID
@@ -28,21 +28,6 @@ after_packet p bytes before id = record { isi = p.isi; size = p.size; frames = p
 -- after the end of the frame under way
 abbrev pub after_frame : PackState → PackState
 after_frame p = record { isi = p.isi; size = p.size; frames = p.frames ++ frame_bytes p.isi p.field p.size ∷ []; field = []; before = None; id = p.id }
-
--- The tests of the six rules.
-
-abbrev pub fits_whole : ℕ → Option Label → Pdu → Bool
-fits_whole left before pdu =
-    nat_le (2 + written_size before pdu.label + length pdu.bytes) 4095 && nat_le (4 + written_size before pdu.label + length pdu.bytes) left
-
-abbrev pub fits_first : ℕ → Pdu → Bool
-fits_first left pdu = nat_le (8 + length (label_bytes pdu.label)) left
-
-abbrev pub fits_last : ℕ → ℕ → Bool
-fits_last left count = nat_le (5 + count) 4095 && nat_le (7 + count) left
-
-abbrev pub fits_middle : ℕ → ℕ → Bool
-fits_middle left count = nat_le 4 left && nat_le 2 count
 
 -- The packets still to come.
 
@@ -81,10 +66,11 @@ IsMoved p q first second = (q ≡ p) ⊎ ((q ≡ after_frame p) × (first ≡ fa
 abbrev pub label_written : Option Label → Label → Option Label
 label_written before label = if is_again before label then None else Some label
 
--- a rest of so many bytes less, or none
+-- the rest of a PDU that has these bytes left
 abbrev pub rest_of : ℕ → ℕ → List ℕ → Rest
 rest_of id crc bytes = record { id = id; crc = crc; bytes = bytes }
 
+-- the same with so many bytes less, or none
 abbrev pub rest_after : ℕ → ℕ → List ℕ → Option ℕ → Option Rest
 rest_after id crc bytes None = None
 rest_after id crc bytes (Some n) = Some (rest_of id crc (drop n bytes))

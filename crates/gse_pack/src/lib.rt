@@ -10,6 +10,8 @@ mod pdu;
 mod places;
 mod rules;
 mod service;
+#[cfg(test)]
+mod tests;
 
 pub use frames::Frames;
 pub use service::pack;

@@ -78,8 +78,9 @@ impl Packing {
     ghost use Rattle.std.specs.Prelude.{◌≡◌, ℕ, ◌+◌, ◌<◌, ◌≤◌, ◌%◌, true, false, List, [], ◌∷◌, take, length, Some, None, IfOk, IfSome, OnOk};
     ghost use Rattle.gse_spec.specs.Reassembly.{Pdu as PduRead};
     ghost use Rattle.gse_spec.specs.Written.{label_bytes, complete_bytes, start_bytes, middle_bytes, end_bytes};
+    ghost use Rattle.gse_spec.specs.Packing.{fits_whole, fits_first, fits_last, fits_middle};
     ghost use Rattle.gse_pack.specs.Views.{pdu_in};
-    ghost use Rattle.gse_pack.specs.Steps.{PackState, left_in, after_packet, after_frame, fits_whole, fits_first, fits_last, fits_middle, label_written, IsMoved, LeadsOn, rest_of, rest_after};
+    ghost use Rattle.gse_pack.specs.Steps.{PackState, left_in, after_packet, after_frame, label_written, IsMoved, LeadsOn, rest_of, rest_after};
 
     /// No frame, and none of the first one's bytes.
     pub(crate) fn new(alloc: Global, isi: u8, frame_bytes: u16) -> Packing

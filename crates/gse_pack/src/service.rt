@@ -11,8 +11,8 @@ use std::alloc::{AllocError as OutOfMemory, Global};
 
 /// Packs the datagrams of one service into baseband frames of `frame_bytes`, 300 to 7,274, on an ISI.
 ///
-/// `address`: each PDU has the address of its group or, for other destinations, `unicast`; otherwise it is broadcast. A datagram
-/// has at most 65,527 bytes, since Total Length counts Protocol Type and a label beside it.
+/// `address`: each PDU has the address of its group, FF:FF:FF:FF:FF:FF for 255.255.255.255 or, for other destinations, `unicast`;
+/// otherwise it is broadcast. A datagram has at most 65,527 bytes, since Total Length counts Protocol Type and a label beside it.
 pub fn pack(
     alloc: Global,
     list: &DatagramList,

@@ -23,8 +23,11 @@ frame_with first second dfl = head_with first second dfl ++ crc8_remainder (head
 -- Data fields.
 
 -- an address, and a packet with a datagram of 20 bytes and that label
+abbrev pub small_mac : List ℕ
+small_mac = 0x01 ∷ 0x00 ∷ 0x5E ∷ 0x01 ∷ 0x02 ∷ 0x03 ∷ []
+
 abbrev pub small_label : Label
-small_label = Six (0x01 ∷ 0x00 ∷ 0x5E ∷ 0x01 ∷ 0x02 ∷ 0x03 ∷ [])
+small_label = Six small_mac
 
 abbrev pub labelled_packet : List ℕ
 labelled_packet = 0xC0 ∷ 0x1C ∷ 0x08 ∷ 0x00 ∷ 0x01 ∷ 0x00 ∷ 0x5E ∷ 0x01 ∷ 0x02 ∷ 0x03 ∷ small_ipv4
@@ -82,6 +85,17 @@ small_frames = frame_bytes 3 first_field 40 ∷ frame_bytes 3 (last_field ++ who
 -- the first of them is damaged so that its header shows it, and a frame of another input stream is between the two
 abbrev pub damaged_frames : List (List ℕ)
 damaged_frames = (0x51 ∷ replicate 39 0) ∷ frame_bytes 4 whole_field 60 ∷ frame_bytes 3 (last_field ++ whole_field) 60 ∷ []
+
+-- a packet with an address, and one that re-uses it
+abbrev pub reusing_frames : List (List ℕ)
+reusing_frames = frame_bytes 3 (labelled_packet ++ reusing_packet) 70 ∷ []
+
+-- a packet whose label to re-use is not there, before one that has its own; and a packet that is cut, after one
+abbrev pub missing_label_frames : List (List ℕ)
+missing_label_frames = frame_bytes 3 (reusing_packet ++ labelled_packet) 70 ∷ []
+
+abbrev pub cut_packet_frames : List (List ℕ)
+cut_packet_frames = frame_bytes 3 (labelled_packet ++ 0xEF ∷ 0xFF ∷ 8 ∷ 0 ∷ []) 70 ∷ []
 
 -- Packing.
 

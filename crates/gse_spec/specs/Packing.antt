@@ -66,15 +66,23 @@ first_fragment left id pdu =
 abbrev pub rest_after_first : (List ℕ → ℕ) → ℕ → ℕ → Pdu → Rest
 rest_after_first sum left id pdu = record { id = id; crc = sum (covered_by pdu); bytes = drop (first_size left pdu) pdu.bytes }
 
+-- the tests of rules 1 and 2, where so many bytes are left in the frame: the PDU whole, after a label; a first fragment with a byte
+abbrev pub fits_whole : ℕ → Option Label → Pdu → Bool
+fits_whole left before pdu =
+    nat_le (2 + written_size before pdu.label + length pdu.bytes) 4095 && nat_le (4 + written_size before pdu.label + length pdu.bytes) left
+
+abbrev pub fits_first : ℕ → Pdu → Bool
+fits_first left pdu = nat_le (8 + length (label_bytes pdu.label)) left
+
 -- rules 1 to 3, for a PDU where so many bytes are left in the frame: a complete packet; otherwise a first fragment; otherwise the
 -- frame ends
 abbrev pub packed_pdu : {State : Type 0} → Choice State → (List ℕ → ℕ) → ℕ → ℕ → Option Label → State → ℕ → Pdu
     → (ℕ → Option Label → State → List (List Writing)) → List (List Writing)
 packed_pdu choice sum room left before state id pdu later =
-    if nat_le (2 + written_size before pdu.label + length pdu.bytes) 4095 && nat_le (4 + written_size before pdu.label + length pdu.bytes) left
+    if fits_whole left before pdu
     then in_front (record { packet = complete_packet pdu.protocol pdu.label pdu.bytes; reuses = is_again before pdu.label })
     (later (left - (4 + written_size before pdu.label + length pdu.bytes)) (Some pdu.label) (choice.after_packet state None))
-    else if nat_le (8 + length (label_bytes pdu.label)) left
+    else if fits_first left pdu
     then in_front (record { packet = first_fragment left id pdu; reuses = false })
     (later (left - (7 + length (label_bytes pdu.label) + first_size left pdu)) (Some pdu.label)
     (choice.after_packet state (Some (rest_after_first sum left id pdu))))
@@ -90,14 +98,21 @@ middle_fragment left rest = middle_packet rest.id (take (middle_size left (lengt
 abbrev pub rest_after_middle : ℕ → Rest → Rest
 rest_after_middle left rest = record { id = rest.id; crc = rest.crc; bytes = drop (middle_size left (length rest.bytes)) rest.bytes }
 
+-- the tests of rules 4 and 5, of so many bytes: all of them in the last fragment; a middle one that leaves a byte
+abbrev pub fits_last : ℕ → ℕ → Bool
+fits_last left count = nat_le (5 + count) 4095 && nat_le (7 + count) left
+
+abbrev pub fits_middle : ℕ → ℕ → Bool
+fits_middle left count = nat_le 4 left && nat_le 2 count
+
 -- rules 4 to 6, for the rest of a PDU in fragments: the last; otherwise a middle; otherwise the frame ends
 abbrev pub packed_rest : {State : Type 0} → Choice State → ℕ → ℕ → Option Label → State → Rest
     → (ℕ → Option Label → State → List (List Writing)) → List (List Writing)
 packed_rest choice room left before state rest later =
-    if nat_le (5 + length rest.bytes) 4095 && nat_le (7 + length rest.bytes) left
+    if fits_last left (length rest.bytes)
     then in_front (record { packet = end_packet rest.id rest.bytes rest.crc; reuses = false })
     (later (left - (7 + length rest.bytes)) before (choice.after_packet state None))
-    else if nat_le 4 left && nat_le 2 (length rest.bytes)
+    else if fits_middle left (length rest.bytes)
     then in_front (record { packet = middle_fragment left rest; reuses = false })
     (later (left - (3 + middle_size left (length rest.bytes))) before (choice.after_packet state (Some (rest_after_middle left rest))))
     else [] ∷ later room None (choice.after_frame state)

@@ -12,7 +12,8 @@ use Rattle.gse_spec.specs.Written.{Writing, field_of}
 use Rattle.gse_spec.specs.Reassembly.{Pdu}
 use Rattle.gse_spec.specs.Packing.{all_ids, packed}
 
--- the label of a datagram: where the service has addresses that of its group or the service's own, otherwise broadcast
+-- the label of a datagram: where the service has addresses that of its group, FF:FF:FF:FF:FF:FF for 255.255.255.255, and otherwise
+-- the service's own; where it has none, broadcast
 abbrev pub label_for : Bool → List ℕ → List ℕ → Label
 label_for address unicast datagram = if address then Six (mac_of_address (destination_of datagram) unicast) else Broadcast
 
@@ -28,9 +29,13 @@ pdu_for address unicast datagram = record {
 abbrev pub frames_with : ℕ → ℕ → List (List Writing) → List (List ℕ)
 frames_with isi size packets = map (λ (writings : List Writing). frame_bytes isi (field_of writings) size) packets
 
--- the frames of one input stream: ten bytes of each are its header
+-- the packets of frames of one size that hold a list of PDUs in order: ten bytes of each frame are its header
+abbrev pub packets_in_order : ℕ → List Pdu → List (List Writing)
+packets_in_order size pdus = packed all_ids (crc32_remainder 0xFFFF_FFFF) (size - 10) pdus
+
+-- those frames on an ISI
 abbrev pub frames_for : ℕ → ℕ → List Pdu → List (List ℕ)
-frames_for isi size pdus = frames_with isi size (packed all_ids (crc32_remainder 0xFFFF_FFFF) (size - 10) pdus)
+frames_for isi size pdus = frames_with isi size (packets_in_order size pdus)
 
 -- Several input streams.
 
@@ -38,19 +43,20 @@ frames_for isi size pdus = frames_with isi size (packed all_ids (crc32_remainder
 abbrev pub round_of : {X : Type 0} → List (List X) → ℕ → List X
 round_of lists n = flat_map (λ items. take 1 (drop n items)) lists
 
-abbrev pub total_length : {X : Type 0} → List (List X) → ℕ
-total_length [] = 0
-total_length (items ∷ lists) = length items + total_length lists
+-- the items of all lists
+abbrev pub item_count : {X : Type 0} → List (List X) → ℕ
+item_count [] = 0
+item_count (items ∷ lists) = length items + item_count lists
 
 -- in rotation: one item of each list that has one left, and so on. There are not more rounds than items
 abbrev pub in_rotation : {X : Type 0} → List (List X) → List X
-in_rotation lists = flat_map (round_of lists) (range_with_len 0 (total_length lists))
+in_rotation lists = flat_map (round_of lists) (range_with_len 0 (item_count lists))
 
--- what an input stream sends
+-- what a service sends on its input stream: the packets of each of its frames, whatever made them
 pub record GseService : Type 0 where
   pub isi : ℕ
-  pub pdus : List Pdu
+  pub frames : List (List Writing)
 
 -- the sender's frames: those of each service in rotation, one frame each, in the order of the services
 abbrev pub sent_frames : ℕ → List GseService → List (List ℕ)
-sent_frames size services = in_rotation (map (λ (service : GseService). frames_for service.isi size service.pdus) services)
+sent_frames size services = in_rotation (map (λ (service : GseService). frames_with service.isi size service.frames) services)

@@ -10,7 +10,8 @@ mod packing_examples;
 
 pub use carriage_examples::{
     a_damaged_recording_comes_through_a_channel, a_damaged_recording_gives_what_is_left,
-    a_damaged_recording_is_counted, small_frames_are_delivered, small_frames_carry_datagrams,
+    a_damaged_recording_is_counted, a_filter_sees_labels_that_are_reused,
+    refused_packets_are_counted, small_frames_are_delivered, small_frames_carry_datagrams,
 };
 pub use packet_examples::{
     fragments_belong_to_the_latest_start, frames_are_read_or_refused, labels_are_read,

@@ -1,7 +1,7 @@
 use Rattle.std.proofs.Common.{◌≡◌, ℕ, List, None, length, ap, sym, ◌∙◌, subst}
 use Rattle.std.specs.Prelude.{Some, ◌+◌, ◌*◌, drop}
-use Rattle.gse_spec.specs.Packing.{steps_of}
-use Rattle.gse_pack.specs.Steps.{PackState, Leads, fits_last, fits_middle, rest_of}
+use Rattle.gse_spec.specs.Packing.{fits_last, fits_middle, steps_of}
+use Rattle.gse_pack.specs.Steps.{PackState, Leads, rest_of}
 use Rattle.gse_pack.proofs.Steps.{end_leads, middle_leads_at}
 use Rattle.gse_pack.proofs.packing.Packing.put_part.Goals as goal
 

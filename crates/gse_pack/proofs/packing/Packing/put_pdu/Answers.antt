@@ -1,7 +1,7 @@
 use Rattle.std.proofs.Common.{◌≡◌, ℕ, ◌+◌, ◌*◌, List, length, Some, None, ap, sym, ◌∙◌, subst}
-use Rattle.gse_spec.specs.Packing.{steps_of}
+use Rattle.gse_spec.specs.Packing.{fits_whole, steps_of}
 use Rattle.gse_pack.specs.Views.{pdu_in}
-use Rattle.gse_pack.specs.Steps.{PackState, Leads, fits_whole, rest_of}
+use Rattle.gse_pack.specs.Steps.{PackState, Leads, rest_of}
 use Rattle.gse_pack.proofs.Steps.{complete_leads, start_leads_at}
 use Rattle.gse_pack.proofs.Items.{take-rest}
 use Rattle.gse_pack.proofs.Sums.{sum_is}
