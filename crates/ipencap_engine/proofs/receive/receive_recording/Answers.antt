@@ -29,8 +29,8 @@ returns-in-Ok-receive g c =
     (keeps (to_receive c.args.name.now) (g.S.Shelf.told c.args.shelf.now) (g.S.Shelf.told c.plan_in_use.new.shelf) c.in-Ok.ensures.unchanged c.in-Ok.ensures.later (c.in-Ok.ensures.kept (λ e. absurd (cc)))) c.in-Ok.ensures.read c.in-Ok.ensures.fails
     e.done e.flushed e.read e.fewer (e.input_kept (λ f. absurd (cc))) (e.output_kept (λ f. absurd (cc))) (e.rack_kept (λ f. absurd (cc)))
 
-pub returns-in-Err-receive : goal.returns-in-Err-receive
-returns-in-Err-receive g c =
+pub returns : goal.returns
+returns g c =
     let e = c.in-Err-receive.ensures in
     runs_by (to_receive c.args.name.now) (Ended c.from.result) (Ended (status_of_fault c.in-Err-receive.fault)) _ _ _ (ap (λ s. Ended s) c.from.ensures)
     (receive_fails c.args.name.now (plan_fields c.in-Ok.plan) c.in-Err-receive.fault (g.S.Shelf.told c.args.shelf.now) (g.S.Shelf.told c.plan_in_use.new.shelf) (g.I.Source.told c.args.input.now)
