@@ -11,7 +11,7 @@ use Rattle.ts_spec.specs.Sndu.{sndu_front, sndu_bytes}
 use Rattle.section_spec.specs.Mpe.{mpe_to_write, mpe_body}
 use Rattle.section_codec.proofs.Written.{length-section_bytes}
 use Rattle.unit_stream.specs.Packing.{filled, may_begin, begin_piece, middle_piece, pieces, byte_count, packetized}
-use Rattle.unit_stream.specs.Packers.{between, units_from, units_of, AreRising, end_of, AreEnds}
+use Rattle.unit_stream.specs.Packers.{between, units_from, units_of, AreRising, AreEnds}
 use Rattle.unit_stream.proofs.Written.{length-numbered}
 use Rattle.wire_spec.specs.Datagram.{ether_type_of}
 use Rattle.stream_spec.specs.Units.{mac_for, sndu_of, section_of}

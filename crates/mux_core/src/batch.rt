@@ -1,12 +1,4 @@
 //! Records on their way to the sink, many in one piece.
-ghost use Rattle.std.specs.Prelude.{◌≡◌, ◌≤◌, ◌<◌, ◌+◌, ℕ, List, [], length, take, Some, IfOk, OnOk, if◌then◌else◌};
-ghost use Rattle.wire_spec.specs.Causes.{HasCause};
-ghost use Rattle.wire_spec.specs.Content.{Puts, Stays};
-ghost use Rattle.ts_spec.specs.Packet.{PacketFields};
-ghost use Rattle.plan.specs.PlanView.{plan_fields};
-ghost use Rattle.mux_core.specs.Services.{packet_total, turn_of, AreAt};
-ghost use Rattle.mux_core.specs.IntPackets.{IsTableAt};
-ghost use Rattle.mux_core.specs.Slots.{turns_in, is_early, AddsRecord, Hands};
 
 use crate::int_packets::IntPackets;
 use crate::records::{LONGEST_RECORD, PACKET, write_record};

@@ -1,9 +1,4 @@
 //! The section of the INT -> its packets, once in each cycle of slots (EN 301 192 clause 8.4).
-ghost use Rattle.std.specs.Prelude.{◌≡◌, ℕ, ◌+◌, ◌<◌, ◌≤◌, ◌%◌, [], ◌∷◌, true, length, Some, IfOk};
-ghost use Rattle.plan.specs.PlanView.{plan_fields};
-ghost use Rattle.plan_spec.specs.Built.{are_sent};
-ghost use Rattle.mux_core.specs.Slots.{is_early};
-ghost use Rattle.mux_core.specs.IntPackets.{IsTableAt, packet_of_table};
 
 use crate::int_section::section_of;
 use plan::Plan;

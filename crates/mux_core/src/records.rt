@@ -1,5 +1,5 @@
 //! A slot -> its record: the time stamp, and the packet of the INT or of the service whose turn it is.
-ghost use Rattle.std.specs.Prelude.{◌≡◌, ◌≤◌, ◌+◌, ℕ, List, length, take, drop, Some, if◌then◌else◌};
+ghost use Rattle.std.specs.Prelude.{◌≡◌, ◌≤◌, ◌+◌, List, length, take, drop, Some, if◌then◌else◌};
 ghost use Rattle.ts_spec.specs.Packet.{PacketFields};
 ghost use Rattle.plan.specs.PlanView.{plan_fields};
 ghost use Rattle.mux_core.specs.Services.{packet_total, turn_of, AreAt};

@@ -2,7 +2,6 @@
 ghost use Rattle.std.specs.Prelude.{◌≡◌, ℕ, ◌≤◌, ◌<◌, ◌^◌, List, true, length, sum_by, IfOk, IsErrOf};
 ghost use Rattle.wire_spec.specs.Causes.{Rose};
 ghost use Rattle.wire_spec.specs.Content.{Stays};
-ghost use Rattle.plan_spec.specs.Plan.{kinds};
 ghost use Rattle.plan_spec.specs.Offered.{Records, offered as offered_to};
 ghost use Rattle.plan.specs.PlanView.{plan_fields};
 ghost use Rattle.datagram_routing.specs.Offering.{IsOffered};

@@ -1,5 +1,5 @@
 //! The datagrams of a service -> its packets, one after another.
-ghost use Rattle.std.specs.Prelude.{◌≡◌, ℕ, ◌<◌, ◌≤◌, ◌^◌, ◌∷◌, List, true, length, map, nat_lt, IfOk, All};
+ghost use Rattle.std.specs.Prelude.{◌≡◌, ◌<◌, ◌≤◌, ◌^◌, ◌∷◌, List, true, length, map, nat_lt, IfOk, All};
 ghost use Rattle.ts_spec.specs.Packet.{PacketFields};
 ghost use Rattle.stream_spec.specs.Stream.{written};
 ghost use Rattle.stream_spec.specs.Units.{packets_of_kind};

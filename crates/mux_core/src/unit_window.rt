@@ -1,8 +1,4 @@
 //! The units of a service, written one after another into a small buffer when they are due.
-ghost use Rattle.std.specs.Prelude.{◌≡◌, ◌+◌, ◌-◌, ◌≤◌, ◌<◌, true, false, length, take, drop, min, IfOk};
-ghost use Rattle.plan.specs.Parts.{kind_seen};
-ghost use Rattle.mux_core.specs.Units.{unit_bytes};
-ghost use Rattle.mux_core.specs.Windows.{IsWindow};
 
 use crate::units::put_unit;
 use byte_slices::zeros;
@@ -33,7 +29,7 @@ pub(crate) struct UnitWindow {
 }
 
 impl UnitWindow {
-    ghost use Rattle.std.specs.Prelude.{◌≡◌, ◌+◌, ◌-◌, ◌≤◌, ◌<◌, true, false, length, take, drop, min, IfOk};
+    ghost use Rattle.std.specs.Prelude.{◌≡◌, ◌+◌, ◌-◌, ◌≤◌, ◌<◌, length, take, drop, min, IfOk};
     ghost use Rattle.plan.specs.Parts.{kind_seen};
     ghost use Rattle.mux_core.specs.Units.{unit_bytes};
     ghost use Rattle.mux_core.specs.Windows.{IsWindow};

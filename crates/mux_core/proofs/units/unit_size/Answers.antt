@@ -1,5 +1,4 @@
-use Rattle.std.proofs.Common.{◌≡◌, ℕ, Bool, cond, List, length, None, Some, Option, refl, sym, ap, arith, ◌∙◌}
-use Rattle.section_spec.specs.Mpe.{mpe_bytes, mpe_to_write}
+use Rattle.std.proofs.Common.{◌≡◌, ℕ, cond, List, length, None, Some, Option, refl, sym, ap, ◌∙◌}
 use Rattle.plan.specs.Parts.{kind_seen}
 use Rattle.plan.specs.declared.service.Kind.{Kind}
 use Rattle.wire_spec.specs.Datagram.{ether_type_of}
