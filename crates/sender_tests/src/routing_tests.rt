@@ -1,5 +1,6 @@
 //! What services are offered of captures, counted by hand.
 use datagram_routing::Offered;
+use ip_datagram::DatagramList;
 use service_plan::{Plan, read_plan};
 use std::alloc::Global;
 use std::test::Fail;
@@ -130,15 +131,30 @@ fn are_sizes(offered: &Offered, sizes: &[&[u16]]) -> bool {
     if offered.lists.len() != sizes.len() {
         return false;
     }
-    for k in 0..sizes.len() {
-        let list = offered.lists.at(k as u32);
-        if list.len() as usize != sizes[k].len() {
+    for (k, wanted) in sizes.iter().enumerate() {
+        let Ok(place) = u32::try_from(k) else {
+            return false;
+        };
+        if k >= offered.lists.len() || !has_sizes(offered.lists.at(place), wanted) {
             return false;
         }
-        for i in 0..list.len() {
-            if list.at(i).len() != usize::from(sizes[k][i as usize]) {
-                return false;
+    }
+    true
+}
+
+/// Whether the datagrams of a list have these sizes.
+fn has_sizes(list: &DatagramList, sizes: &[u16]) -> bool {
+    if list.len() != sizes.len() {
+        return false;
+    }
+    for i in 0..list.len() {
+        match sizes.get(i) {
+            Some(size) => {
+                if list.at(i).len() != usize::from(*size) {
+                    return false;
+                }
             }
+            None => return false,
         }
     }
     true
