@@ -9,14 +9,14 @@ use unit_stream::{Packer, count_packets};
 #[derive(Clone, Copy)]
 struct Case {
     size: usize,
-    packets: [PacketOf; 3],
+    packets: &'static [PacketOf],
 }
 
 static CASES: [Case; 3] = [
     // Two bytes are left, and the second SNDU begins there: the pointer leads to them.
     Case {
         size: 356,
-        packets: [
+        packets: &[
             PacketOf::Start {
                 counter: 0,
                 pointer: 0,
@@ -39,7 +39,7 @@ static CASES: [Case; 3] = [
     // After a pointer one byte would be left, which cannot hold Length: there is none, and two bytes are stuffing.
     Case {
         size: 357,
-        packets: [
+        packets: &[
             PacketOf::Start {
                 counter: 0,
                 pointer: 0,
@@ -62,7 +62,7 @@ static CASES: [Case; 3] = [
     // After a pointer no byte would be left.
     Case {
         size: 358,
-        packets: [
+        packets: &[
             PacketOf::Start {
                 counter: 0,
                 pointer: 0,
