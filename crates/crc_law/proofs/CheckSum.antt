@@ -7,11 +7,10 @@ use Rattle.std.proofs.lemmas.List.{length-append, length-replicate, length-drop,
 use Rattle.std.proofs.lemmas.List.Elements.{All-nil}
 use Rattle.wire_spec.specs.Bytes.{u32_at}
 use Rattle.wire_spec.specs.BitPolynomials.{bits, number_of, added_front, divided, remainder}
-use Rattle.wire_spec.specs.Crc.{bits_of, crc_remainder, crc32_remainder}
+use Rattle.wire_spec.specs.Crc.{bits_of, crc_remainder, crc32_remainder, ends_with_crc}
 use Rattle.division_law.proofs.Fronts.{length-added}
 use Rattle.division_law.proofs.Lines.{length-bits}
 use Rattle.division_law.proofs.Registers.{crc32_law}
-use Rattle.crc_law.specs.Whole.{ends_with_crc}
 
 -- a step of division drops a bit
 length-step : (divisor line : List Bool) (b : Bool) → length (drop 1 (if b then added_front divisor (b ∷ line) else b ∷ line)) ≡ length line

@@ -4,11 +4,11 @@
 //! Begin with `whole_unit`.
 #![tactic(auto)]
 
-ghost use Rattle.crc_law.specs.Whole.{ends_with_crc, four_bytes};
+ghost use Rattle.crc_law.specs.Whole.{four_bytes};
 ghost use Rattle.std.specs.Int.{w32, to_be_bytes};
 ghost use Rattle.std.specs.Prelude.{◌++◌, ◌<◌, ◌^◌, ◌≡◌, List, ℕ, false, length, true};
 ghost use Rattle.wire_spec.specs.Bytes.{AreBytes};
-ghost use Rattle.wire_spec.specs.Crc.{crc32_remainder};
+ghost use Rattle.wire_spec.specs.Crc.{crc32_remainder, ends_with_crc};
 
 /// Bytes in pieces have the CRC-32 that they have in one, and the register ends at 0 where the last four bytes are the CRC-32
 /// of those before them, and only there: the decoder's test of ISO/IEC 13818-1 annex A. A CRC-32 fits four bytes; bytes with

@@ -11,9 +11,11 @@ mod laws;
 mod list;
 #[cfg(test)]
 mod tests;
+mod types;
 
 pub use address::{IpAddress, destination};
 pub use header::{IpFault, front};
 pub use hint::{Hint, length_hint};
 pub use laws::{a_front_is_one_datagram, hints_agree_with_fronts};
 pub use list::DatagramList;
+pub use types::{ETHER_TYPE_IPV4, ETHER_TYPE_IPV6, ether_type};

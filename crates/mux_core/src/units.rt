@@ -7,7 +7,7 @@ ghost use Rattle.stream_spec.specs.Units.{unit_of};
 
 use addr_rules::mac_of;
 use byte_slices::array_bytes;
-use ip_datagram::{DatagramList, destination};
+use ip_datagram::{DatagramList, destination, ether_type};
 use mpe_section::{mpe_size, write_mpe};
 use plan::{Kind, Service};
 use std::alloc::{AllocError as OutOfMemory, Global};
@@ -25,7 +25,7 @@ fn write_unit(service: &Service, datagram: &[u8], into: &mut [u8]) -> usize
     match service.kind {
         Kind::Ule { address, .. } => {
             let npa = if address { Some(mac) } else { None };
-            ule_unit::write(npa, ule_unit::ether_type(datagram), datagram, into)
+            ule_unit::write(npa, ether_type(datagram), datagram, into)
         }
         Kind::Mpe { .. } => write_mpe(mac, None, datagram, into),
         Kind::Fec { .. } | Kind::Gse { .. } => unreachable!(),

@@ -3,7 +3,8 @@
 //! The front of some bytes comes in, and how long the section there is goes out.
 
 ghost use Rattle.std.specs.Prelude.{◌≡◌, ◌≤◌, length};
-ghost use Rattle.section_spec.specs.Section.{section_length, section_span, section_check, has_right_crc};
+ghost use Rattle.wire_spec.specs.Crc.{ends_with_crc};
+ghost use Rattle.section_spec.specs.Section.{section_length, section_span, section_check};
 ghost use Rattle.unit_stream.specs.Form.{span_told};
 
 use crc_unit::crc32;
@@ -68,7 +69,7 @@ pub(crate) fn span_of(prefix: &[u8]) -> Span
 /// Whether the last four bytes are the CRC_32 of all before them (ISO/IEC 13818-1 annex A).
 #[tactic(auto, using(crc_law::proofs::CheckSum::short_has_no_crc))]
 pub(crate) fn has_its_crc(unit: &[u8]) -> bool
-    ensures checked { result ≡ has_right_crc unit.now }
+    ensures checked { result ≡ ends_with_crc unit.now }
 {
     if unit.len() < CRC {
         return false;

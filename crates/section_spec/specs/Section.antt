@@ -2,8 +2,8 @@
 -- the body, the CRC_32.
 use Rattle.std.specs.Prelude.{◌≡◌, ℕ, ◌+◌, ◌-◌, ◌*◌, ◌%◌, ◌^◌, ◌<◌, ◌≤◌, Bool, ◌&&◌, ◌||◌, List, ◌∷◌, ◌++◌, take, drop, length, slice_index, ◌==◌, nat_lt, nat_le, if◌then◌else◌}
 use Rattle.std.specs.Int.{w16, w32, to_be_bytes}
-use Rattle.wire_spec.specs.Bytes.{u16_at, u32_at}
-use Rattle.wire_spec.specs.Crc.{crc32_remainder}
+use Rattle.wire_spec.specs.Bytes.{u16_at}
+use Rattle.wire_spec.specs.Crc.{crc32_remainder, ends_with_crc}
 use Rattle.ts_spec.specs.Form.{UnitForm, Span, more, stuffing, whole, bad}
 
 -- section_syntax_indicator is 1
@@ -26,13 +26,9 @@ section_span b =
     if has_bad_length b then bad else
     whole (3 + section_length b)
 
--- CRC_32 over all before it (annex A)
-abbrev pub has_right_crc : List ℕ → Bool
-has_right_crc b = crc32_remainder 0xFFFF_FFFF (take (length b - 4) b) == u32_at b (length b - 4)
-
--- the check of a section; one without the indicator has no CRC_32
+-- the check of a section: CRC_32 is over all before it (annex A); a section without the indicator has none
 abbrev pub section_check : List ℕ → Bool
-section_check b = has_syntax b && has_right_crc b
+section_check b = has_syntax b && ends_with_crc b
 
 -- sections as units of a transport stream
 abbrev pub section_form : UnitForm

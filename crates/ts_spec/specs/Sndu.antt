@@ -2,8 +2,8 @@
 -- the NPA address where D is 0, the PDU, the CRC-32.
 use Rattle.std.specs.Prelude.{ℕ, ◌+◌, ◌-◌, ◌%◌, ◌^◌, Bool, false, ◌&&◌, List, [], ◌++◌, take, drop, length, slice_index, ◌==◌, nat_lt, nat_le, if◌then◌else◌, Option, Some, None}
 use Rattle.std.specs.Int.{w16, w32, to_be_bytes}
-use Rattle.wire_spec.specs.Bytes.{u16_at, u32_at, six_at}
-use Rattle.wire_spec.specs.Crc.{crc32_remainder}
+use Rattle.wire_spec.specs.Bytes.{u16_at, six_at}
+use Rattle.wire_spec.specs.Crc.{crc32_remainder, ends_with_crc}
 use Rattle.ts_spec.specs.Form.{UnitForm, Span, more, stuffing, whole, bad}
 
 -- D is set: there is no NPA address (section 4.1)
@@ -29,13 +29,9 @@ sndu_span b =
     if nat_lt (length_field b) (least_length b) then bad else
     whole (4 + length_field b)
 
--- CRC-32 over all before it (section 4.6)
-abbrev pub has_right_crc : List ℕ → Bool
-has_right_crc b = crc32_remainder 0xFFFF_FFFF (take (length b - 4) b) == u32_at b (length b - 4)
-
--- SNDUs as units of a transport stream
+-- SNDUs as units of a transport stream: the CRC-32 is over all before it (section 4.6)
 abbrev pub sndu_form : UnitForm
-sndu_form = record { start = 2; longest = 32771; span = sndu_span; check = has_right_crc }
+sndu_form = record { start = 2; longest = 32771; span = sndu_span; check = ends_with_crc }
 
 -- the bytes are as many as Length says
 abbrev pub is_whole_of : ℕ → Span → Bool
@@ -49,7 +45,7 @@ has_right_length b = is_whole_of (length b) (sndu_span b)
 
 -- the bytes are an SNDU
 abbrev pub is_sndu : List ℕ → Bool
-is_sndu b = has_right_length b && has_right_crc b
+is_sndu b = has_right_length b && ends_with_crc b
 
 -- an SNDU: its NPA address, its Type, and what stands after these and before the CRC-32
 pub record SnduFields : Type 0 where

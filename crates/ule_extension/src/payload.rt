@@ -10,7 +10,7 @@ ghost use Rattle.ts_spec.specs.Chain.{datagram_at, frame_at};
 ghost use Rattle.wire_spec.specs.Datagram.{datagram_of_type};
 
 use crate::chain::{BRIDGED, ExtFault, follow, walk};
-use ip_datagram::{IpFault, front};
+use ip_datagram::{ETHER_TYPE_IPV4, ETHER_TYPE_IPV6, IpFault, front};
 
 /// Why no datagram stands after a chain, in the order of the tests.
 #[derive(Clone, Copy, Debug, PartialEq, Eq)]
@@ -22,12 +22,6 @@ pub enum PayloadFault {
     /// The bytes after it begin with no datagram, or with one of the other version.
     Datagram(IpFault),
 }
-
-/// EtherType of IPv4 (RFC 4326 section 4.7.1).
-const ETHER_TYPE_IPV4: u16 = 0x0800;
-
-/// EtherType of IPv6 (RFC 4326 section 4.7.2).
-const ETHER_TYPE_IPV6: u16 = 0x86DD;
 
 /// The least Ethernet frame: two addresses of 6 bytes and a Type or Length (RFC 4326 section 5.2).
 const LEAST_FRAME: usize = 14;

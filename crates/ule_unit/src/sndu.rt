@@ -8,20 +8,11 @@ ghost use Rattle.std.specs.Result.{result_err};
 ghost use Rattle.ts_spec.specs.Sndu.{is_sndu, sndu_fields, has_right_length, sndu_bytes, sndu_front, address_bytes, head_number};
 ghost use Rattle.ule_unit.specs.Views.{fields_in, refusal};
 ghost use Rattle.ule_unit.specs.Writable.{IsAddress};
-ghost use Rattle.wire_spec.specs.Datagram.{ether_type_of};
 
 use crate::form::{ADDRESS, CRC, D, HEAD, NO_ADDRESS, TYPE, has_its_crc, span_of};
 use byte_slices::put;
 use crc_unit::crc32;
 use unit_stream::Span;
-
-/// Type of an SNDU that carries an IPv4 datagram, and of one that carries an IPv6 datagram (RFC 4326 section 4.4.2).
-const IPV4: u16 = 0x0800;
-
-const IPV6: u16 = 0x86DD;
-
-/// Version stands above four bits of a datagram's first byte (RFC 791 section 3.1).
-const VERSION_UNIT: u8 = 16;
 
 /// An SNDU: its NPA address, its Type, and what stands after these and before the CRC-32.
 #[derive(Clone, Copy, Debug, PartialEq, Eq)]
@@ -144,18 +135,6 @@ pub fn size(has_address: bool, datagram: usize) -> usize
 {
     let address = if has_address { ADDRESS } else { 0 };
     HEAD + address + datagram + CRC
-}
-
-/// Type of the SNDU that carries a datagram: the EtherType of its IP version (RFC 4326 section 4.4.2).
-pub fn ether_type(datagram: &[u8]) -> u16
-    requires { 0 < length datagram.now }
-    ensures read { result ≡ ether_type_of datagram.now }
-{
-    if datagram[0] / VERSION_UNIT == 4 {
-        IPV4
-    } else {
-        IPV6
-    }
 }
 
 /// Writes all before the CRC-32; answers where it ends.
