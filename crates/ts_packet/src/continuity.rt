@@ -59,7 +59,10 @@ impl Continuity {
             None => Link::First,
             Some(last) => link_behind(last, bytes, packet),
         };
-        self.last = Some(*bytes);
+        match &mut self.last {
+            None => self.last = Some(*bytes),
+            Some(last) => last.copy_from_slice(bytes),
+        }
         link
     }
 }
@@ -68,14 +71,17 @@ impl Continuity {
 const COUNTERS: u8 = 16;
 
 /// How `packet`, read from `bytes`, follows the packet `last`.
+///
+/// The bytes are compared only where the counters are equal: a duplicate has the same.
 #[tactic(auto, unfolding(ts_spec::specs::Packet::fields_of))]
 fn link_behind(last: &[u8; 188], bytes: &[u8; 188], packet: &Packet<'_>) -> Link
     requires { fields_in packet.now ≡ fields_of bytes.now }
     ensures { result ≡ link_of (Some last.now) bytes.now }
 {
-    if last == bytes {
+    let counter = last[3] & COUNTER;
+    if packet.counter == counter && last == bytes {
         Link::Repeat
-    } else if packet.counter == ((last[3] & COUNTER) + 1) % COUNTERS && !packet.broken {
+    } else if packet.counter == (counter + 1) % COUNTERS && !packet.broken {
         Link::Next
     } else {
         Link::Gap
