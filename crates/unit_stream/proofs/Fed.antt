@@ -1,5 +1,5 @@
 -- One packet more is fed.
-use Rattle.std.proofs.Common.{◌≡◌, inl, inr, ℕ, suc, Bool, true, false, cond, List, [], ◌∷◌, ◌++◌, flat_map, refl, ap, sym, ◌∙◌, subst, arith, Option, None, Some}
+use Rattle.std.proofs.Common.{◌≡◌, inl, inr, ℕ, suc, Bool, true, false, cond, List, [], ◌∷◌, ◌++◌, flat_map, refl, ap, sym, ◌∙◌, subst, arith, Option, None, Some, rules}
 use Rattle.std.specs.Prelude.{Contains}
 use Rattle.ts_spec.specs.Form.{UnitForm, IsLawful}
 use Rattle.ts_spec.specs.Packet.{PacketFields, continues, fields_of}
@@ -15,7 +15,7 @@ use Rattle.ts_packet.specs.declared.continuity.Link.{Link}
 use Rattle.ts_packet.specs.declared.continuity.Link.TheVariants.{First, Next, Repeat, Gap}
 use Rattle.ts_packet.specs.Links.{link_of}
 use Rattle.unit_stream.specs.Joining.{JoinerState, drained, Stands, IsGiving, IsLinked, packets_with}
-use Rattle.unit_stream.specs.Steps.{IsFed, AreProper}
+use Rattle.unit_stream.specs.Steps.{GoesOn, IsFed, AreProper}
 
 -- Links.
 
@@ -55,7 +55,7 @@ proper_units form [] each = tt
 proper_units form (unit ∷ units) each =
     (each unit (0, omega arith, refl), proper_units form units (λ u c. each u (suc c.0, omega (arith, c.1), c.2)))
 
-under_way_is : (a b : List Open) → drained a ≡ drained b → a ≡ b
+pub under_way_is : (a b : List Open) → drained a ≡ drained b → a ≡ b
 under_way_is a b e = cc
 
 -- where no packet came before, it does not matter whether the next one is continuous
@@ -113,3 +113,11 @@ feeds form lawful old new under_way link is_continuous packets next packet momen
           ∙ sym (under_way_more form lawful no_packet packets next)
           ∙ ap (open_units form) (sym (with_next link packets next apart));
     }
+
+-- a packet without the start indicator, by what it makes of the unit under way
+pub fed_on : (form : UnitForm) (unit : Open) (moment : ℕ) (packet : PacketFields) (state : JoinerState) → packet.starts ≡ false
+    → GoesOn form unit packet state → IsFed form true (unit ∷ []) moment packet state
+fed_on form unit moment packet state plain goes = record {
+  events = search rules;
+  open_units = search rules;
+}

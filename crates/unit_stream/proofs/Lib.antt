@@ -15,3 +15,4 @@ pub mod Coming
 pub mod Edges
 pub mod Laid
 pub mod Carried
+pub mod Heard

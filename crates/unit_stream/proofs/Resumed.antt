@@ -142,3 +142,13 @@ pub held_is : (old new piece payload : List ℕ) (size count longest told_longes
     → length old ≡ told_longest → longest ≡ told_longest → payload ≡ piece → take count new ≡ take longest (take size old ++ payload)
 held_is old new piece payload size count longest told_longest put room same payload_is =
     put ∙ ap (λ (t : ℕ). take t (take size old ++ piece)) (room ∙ sym same) ∙ ap (λ (t : List ℕ). take longest (take size old ++ t)) (sym payload_is)
+
+-- a length that is known stays, whatever is put after the bytes
+pub span_stays : (form : UnitForm) → IsLawful form → (old new piece : List ℕ) (size count n told_longest : ℕ) → take count new ≡ take (length old) (take size old ++ piece)
+    → length old ≡ told_longest → form.longest ≡ told_longest → form.span (take size old) ≡ whole n → whole n ≡ form.span (take count new)
+span_stays form lawful old new piece size count n told_longest put room same told =
+    sym (ap form.span (held_is old new piece piece size count form.longest told_longest put room same refl) ∙ span-take form lawful (take size old ++ piece) ∙ by_told (lawful.told (take size old) piece))
+  where
+    by_told : (form.span (take size old) ≡ more) ⊎ (form.span (take size old ++ piece) ≡ form.span (take size old)) → form.span (take size old ++ piece) ≡ whole n
+    by_told (inl e) = absurd (cc)
+    by_told (inr e) = e ∙ told

@@ -45,20 +45,28 @@ state_in (now.Drained under_way) buffer = drained (opens_in under_way buffer)
 state_in (now.Reading position) buffer = reading (place_of position)
 state_in (now.Ended way rest) buffer = ended_state way (rest_of rest) buffer
 
--- a buffer of this size holds the unit
-abbrev pub FitsUnderWay : Option UnderWay → ℕ → Type 0
-FitsUnderWay None size = Unit {0}
-FitsUnderWay (Some unit) size = unit.size ≤ size
+-- a length that is kept is the one that the bytes tell
+abbrev pub KeepsLength : UnitForm → Option ℕ → List ℕ → Type 0
+KeepsLength form None bytes = Unit {0}
+KeepsLength form (Some size) bytes = form.span bytes ≡ whole size
+
+-- the buffer holds the unit, and the length that is kept is the unit's
+abbrev pub HoldsUnit : UnitForm → UnderWay → List ℕ → Type 0
+HoldsUnit form unit buffer = (unit.size ≤ length buffer) × KeepsLength form unit.whole (take unit.size buffer)
+
+abbrev pub FitsUnderWay : UnitForm → Option UnderWay → List ℕ → Type 0
+FitsUnderWay form None buffer = Unit {0}
+FitsUnderWay form (Some unit) buffer = HoldsUnit form unit buffer
 
 abbrev pub FitsEnded : Ended → ℕ → Type 0
 FitsEnded (how.Unit unit) size = unit.size ≤ size
 FitsEnded how.Delimit size = Unit {0}
 FitsEnded how.BadLength size = Unit {0}
 
-abbrev pub FitsState : State → ℕ → Type 0
-FitsState (now.Drained under_way) size = FitsUnderWay under_way size
-FitsState (now.Reading position) size = Unit {0}
-FitsState (now.Ended way rest) size = FitsEnded way size
+abbrev pub FitsState : UnitForm → State → List ℕ → Type 0
+FitsState form (now.Drained under_way) buffer = FitsUnderWay form under_way buffer
+FitsState form (now.Reading position) buffer = Unit {0}
+FitsState form (now.Ended way rest) buffer = FitsEnded way (length buffer)
 
 -- where the first unit starts in a packet
 pub record IsFirstStart (front_at : ℕ) (packet : PacketFields) : Type 0 where
@@ -83,11 +91,12 @@ abbrev pub TellsLook : UnitForm → Look → List ℕ → Type 0
 TellsLook form look.Nothing bytes = (length bytes < form.start) ⊎ (form.span bytes ≡ stuffing)
 TellsLook form look.Bad bytes = (form.start ≤ length bytes) × (form.span bytes ≡ bad)
 TellsLook form (look.Within size) bytes = (form.start ≤ length bytes) × (form.span bytes ≡ whole size) × (size ≤ length bytes)
-TellsLook form look.Beyond bytes = (form.start ≤ length bytes) × (form.span bytes ≢ stuffing) × (is_told (form.span bytes) (length bytes) ≡ false)
+TellsLook form (look.Beyond kept) bytes =
+    (form.start ≤ length bytes) × (form.span bytes ≢ stuffing) × (is_told (form.span bytes) (length bytes) ≡ false) × KeepsLength form kept bytes
 
 -- a unit that goes on has room in a buffer of the longest unit
 abbrev pub HasRoom : Look → ℕ → ℕ → Type 0
 HasRoom look.Nothing size longest = Unit {0}
 HasRoom look.Bad size longest = Unit {0}
 HasRoom (look.Within whole_size) size longest = Unit {0}
-HasRoom look.Beyond size longest = size < longest
+HasRoom (look.Beyond kept) size longest = size < longest

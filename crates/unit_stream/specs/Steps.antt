@@ -16,6 +16,10 @@ abbrev pub AreProper : UnitForm → List Open → Type 0
 AreProper form [] = Unit {0}
 AreProper form (unit ∷ units) = IsUnderWay form unit.bytes × AreProper form units
 
+-- all events are given; a unit may be under way
+abbrev pub IsDrained : JoinerState → Type 0
+IsDrained state = (under_way : List Open) × (state ≡ drained under_way)
+
 -- a continuous packet without the start indicator
 pub record GoesOn (form : UnitForm) (unit : Open) (packet : PacketFields) (state : JoinerState) : Type 0 where
   pub events : left_events form packet state ≡ resumed form true packet unit

@@ -2,7 +2,8 @@
 ghost use Rattle.std.specs.Prelude.{◌≡◌};
 
 use crate::form::UnitForm;
-use crate::joining::{Ended, State, UnderWay, take_packet};
+use crate::joining::{Ended, State, UnderWay, run_on, take_packet};
+use crate::listening::{Listener, tell_events};
 use crate::reading::{JoinEvent, checked, read_start};
 use std::alloc::Allocator;
 use std::marker::{Model, PhantomData};
@@ -28,19 +29,22 @@ impl<F: UnitForm, A: Allocator> Model for Joiner<F, A> {
 
     ghost view = { λ joiner. state_in joiner.state joiner.buffer.items };
 
-    ghost invariant = { λ joiner. FitsState joiner.state (vec_len joiner.buffer) × (vec_len joiner.buffer ≡ F.LONGEST) };
+    ghost invariant = { λ joiner. FitsState F.form joiner.state joiner.buffer.items × (vec_len joiner.buffer ≡ F.LONGEST) };
 }
 
 impl<F: UnitForm, A: Allocator> Joiner<F, A> {
-    ghost use Rattle.std.specs.Prelude.{◌≡◌, List, [], vec_len, option_map};
+    ghost use Rattle.std.specs.Prelude.{◌≡◌, ℕ, List, [], true, false, vec_len, option_map};
     ghost use Rattle.std.specs.Borrow.{sem};
     ghost use Rattle.std.specs.Io.BufRead.{Rests};
     ghost use Rattle.ts_spec.specs.Received.{Arrival, packet_of};
     ghost use Rattle.ts_spec.specs.Events.{Event, events_of};
     ghost use Rattle.ts_packet.specs.Fields.{fields_in};
     ghost use Rattle.unit_stream.specs.contracts.joiner.Joiner.{the_row};
-    ghost use Rattle.unit_stream.specs.Joining.{Stands, IsGiving, IsLinked, packets_with, Answers};
+    ghost use Rattle.reassembly_law.specs.UnderWay.{Open};
+    ghost use Rattle.unit_stream.specs.Joining.{drained, Stands, IsGiving, IsLinked, packets_with, Answers};
     ghost use Rattle.unit_stream.specs.States.{event_in};
+    ghost use Rattle.unit_stream.specs.Steps.{AreProper, IsDrained, IsFed};
+    ghost use Rattle.unit_stream.specs.Telling.{HasHeard, HasTold};
 
     /// A joiner that was fed nothing, over a buffer of LONGEST bytes.
     pub fn over(buffer: Vec<u8, A>) -> Joiner<F, A>
@@ -73,6 +77,44 @@ impl<F: UnitForm, A: Allocator> Joiner<F, A> {
             _ => None,
         };
         self.state = take_packet::<F>(&mut self.buffer, under_way, is_continuous, packet, moment);
+    }
+
+    /// Takes the next packet of the PID as `feed` does, and tells the listener each of its events, in order.
+    pub fn take<L: Listener>(
+        &mut self,
+        link: Link,
+        packet: &Packet<'_>,
+        moment: u64,
+        listener: &mut L,
+    )
+        ensures told { (packets : List Arrival) (next : Arrival) → Stands F.form self.old packets
+            → IsLinked link packets next → packet_of next ≡ fields_in packet.now → next.moment ≡ moment
+            → HasTold F.form self.new (packets_with link packets next) (events_of F.form packets) L.Hears listener.old listener.new }
+        ensures heard { (events : List Event) × HasHeard L.Hears listener.old events listener.new }
+    {
+        if self.run_on(link, packet) {
+            return;
+        }
+        self.feed(link, packet, moment);
+        tell_events(self, packet, listener);
+    }
+
+    /// Goes on with the unit under way by a continuous packet in its middle, which gives no event. False: the packet is none
+    /// such, or the unit's length is not known yet; nothing changes then.
+    fn run_on(&mut self, link: Link, packet: &Packet<'_>) -> bool
+        ensures next { result ≡ true → link ≡ Link.Next }
+        ensures runs { (under_way : List Open) (moment : ℕ) → result ≡ true → self.old ≡ drained under_way → AreProper F.form under_way
+            → IsFed F.form true under_way moment (fields_in packet.now) self.new }
+        ensures drained { result ≡ true → IsDrained self.new }
+        ensures unchanged { result ≡ false → self.new ≡ self.old }
+    {
+        if link != Link::Next || packet.starts {
+            return false;
+        }
+        match &mut self.state {
+            State::Drained(Some(unit)) => run_on::<F>(&mut self.buffer, unit, packet.payload),
+            _ => false,
+        }
     }
 
     /// The next event of the packet fed last, which `packet` is, or None where all are given.

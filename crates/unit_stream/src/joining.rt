@@ -1,10 +1,11 @@
 //! What a joiner holds, and the steps of reassembly over its buffer.
-ghost use Rattle.std.specs.Prelude.{◌≡◌, ℕ, ◌+◌, ◌≤◌, ◌++◌, List, length, take, min, true, false, Option};
+ghost use Rattle.std.specs.Prelude.{◌≡◌, ℕ, ◌+◌, ◌≤◌, ◌++◌, List, [], ◌∷◌, length, take, min, true, false, Option};
 ghost use Rattle.ts_spec.specs.Packet.{PacketFields, pointer_fits};
 ghost use Rattle.ts_packet.specs.Fields.{fields_in};
 ghost use Rattle.reassembly_law.specs.UnderWay.{IsUnderWay};
-ghost use Rattle.unit_stream.specs.Joining.{Place};
-ghost use Rattle.unit_stream.specs.States.{TellsFront, IsFirstStart, FitsUnderWay, FitsEnded, FitsState, ended_state, state_in, open_in, opens_in};
+ghost use Rattle.unit_stream.specs.Form.{span_told};
+ghost use Rattle.unit_stream.specs.Joining.{Place, drained};
+ghost use Rattle.unit_stream.specs.States.{TellsFront, IsFirstStart, HoldsUnit, FitsUnderWay, FitsEnded, FitsState, ended_state, state_in, open_in, opens_in};
 ghost use Rattle.unit_stream.specs.Steps.{GoesOn, Closes, IsFed, AreProper, pointed};
 
 use crate::form::{Span, UnitForm};
@@ -16,6 +17,17 @@ pub(crate) struct UnderWay {
     /// The moment of the packet in which it began.
     pub(crate) moment: u64,
     /// How many of its bytes came.
+    pub(crate) size: usize,
+    /// How many it has, where they tell.
+    pub(crate) whole: Option<usize>,
+}
+
+/// A unit whose last byte came, at the front of the buffer.
+#[derive(Clone, Copy)]
+pub(crate) struct Complete {
+    /// The moment of the packet in which it began.
+    pub(crate) moment: u64,
+    /// How many bytes it has.
     pub(crate) size: usize,
 }
 
@@ -32,7 +44,7 @@ pub(crate) struct Position {
 #[derive(Clone, Copy)]
 pub(crate) enum Ended {
     /// Its last byte came.
-    Unit(UnderWay),
+    Unit(Complete),
     /// It was lost to a delimiting error.
     Delimit,
     /// Its length turned out to be none.
@@ -94,37 +106,86 @@ fn append(buffer: &mut [u8], size: usize, piece: &[u8]) -> usize
     end
 }
 
+/// Puts `piece` after the bytes of a unit under way, as far as there is room: how many there are then, and what they
+/// tell of its length. Once it is known it is not asked for again.
+fn extend<F: UnitForm>(buffer: &mut [u8], unit: UnderWay, piece: &[u8]) -> (usize, Span)
+    requires unit { HoldsUnit F.form unit buffer.old }
+    requires room { length buffer.old ≡ F.LONGEST }
+    ensures bytes { take result.0 buffer.new ≡ take (length buffer.old) (take unit.size buffer.old ++ piece.now) }
+    ensures size { result.0 ≡ min (length buffer.old) (unit.size + length piece.now) }
+    ensures told { span_told result.1 ≡ F.form.span (take result.0 buffer.new) }
+{
+    let size = append(buffer, unit.size, piece);
+    let span = match unit.whole {
+        Some(whole) => Span::Whole(whole),
+        None => F::span(&buffer[..size]),
+    };
+    (size, span)
+}
+
+/// Puts `piece` after the bytes of a unit under way, where its length is known and it goes on after them. False: it may
+/// end in them, and nothing changes.
+pub(crate) fn run_on<F: UnitForm>(buffer: &mut [u8], unit: &mut UnderWay, piece: &[u8]) -> bool
+    requires unit { HoldsUnit F.form unit.old buffer.old }
+    requires room { length buffer.old ≡ F.LONGEST }
+    ensures unit { HoldsUnit F.form unit.new buffer.new }
+    ensures goes { (packet : PacketFields) → result ≡ true → packet.starts ≡ false → packet.payload ≡ piece.now
+        → IsUnderWay F.form (take unit.old.size buffer.old)
+        → GoesOn F.form (open_in unit.old buffer.old) packet (drained (open_in unit.new buffer.new ∷ [])) }
+    ensures unchanged { result ≡ false → (unit.new ≡ unit.old) × (buffer.new ≡ buffer.old) }
+{
+    match unit.whole {
+        Some(whole) if unit.size + piece.len() < whole => {
+            unit.size = append(buffer, unit.size, piece);
+            true
+        }
+        _ => false,
+    }
+}
+
 /// Goes on with a unit under way by the payload of a continuous packet without the start indicator.
 fn go_on<F: UnitForm>(buffer: &mut [u8], unit: UnderWay, payload: &[u8]) -> State
-    requires size { unit.size ≤ length buffer.old }
+    requires unit { HoldsUnit F.form unit buffer.old }
     requires room { length buffer.old ≡ F.LONGEST }
-    ensures fits { FitsState result (length buffer.new) }
+    ensures fits { FitsState F.form result buffer.new }
     ensures goes { (packet : PacketFields) → packet.starts ≡ false → packet.payload ≡ payload.now
         → IsUnderWay F.form (take unit.size buffer.old)
         → GoesOn F.form (open_in unit buffer.old) packet (state_in result buffer.new) }
 {
-    let size = append(buffer, unit.size, payload);
+    let (size, span) = extend::<F>(buffer, unit, payload);
     let moment = unit.moment;
-    match F::span(&buffer[..size]) {
+    match span {
         Span::Whole(whole) => {
             if whole <= size {
-                let unit = UnderWay {
+                let unit = Complete {
                     moment,
                     size: whole,
                 };
                 State::Ended(Ended::Unit(unit), None)
             } else {
-                State::Drained(Some(UnderWay { moment, size }))
+                let whole = Some(whole);
+                State::Drained(Some(UnderWay {
+                    moment,
+                    size,
+                    whole,
+                }))
             }
         }
         Span::Bad => State::Ended(Ended::BadLength, None),
-        Span::More | Span::Stuffing => State::Drained(Some(UnderWay { moment, size })),
+        Span::More | Span::Stuffing => {
+            let whole = None;
+            State::Drained(Some(UnderWay {
+                moment,
+                size,
+                whole,
+            }))
+        }
     }
 }
 
 /// Ends a unit under way by the pointer's bytes of a continuous packet with the start indicator.
 fn close<F: UnitForm>(buffer: &mut [u8], unit: UnderWay, rest: &[u8]) -> Ended
-    requires size { unit.size ≤ length buffer.old }
+    requires unit { HoldsUnit F.form unit buffer.old }
     requires room { length buffer.old ≡ F.LONGEST }
     ensures fits { FitsEnded result (length buffer.new) }
     ensures closes { (packet : PacketFields) (place : Option Place) → packet.starts ≡ true
@@ -132,11 +193,11 @@ fn close<F: UnitForm>(buffer: &mut [u8], unit: UnderWay, rest: &[u8]) -> Ended
         → IsUnderWay F.form (take unit.size buffer.old)
         → Closes F.form (open_in unit buffer.old) packet place (ended_state result place buffer.new) }
 {
-    let size = append(buffer, unit.size, rest);
-    match F::span(&buffer[..size]) {
+    let (size, span) = extend::<F>(buffer, unit, rest);
+    match span {
         Span::Whole(whole) => {
             if whole == size && size - unit.size == rest.len() {
-                Ended::Unit(UnderWay {
+                Ended::Unit(Complete {
                     moment: unit.moment,
                     size: whole,
                 })
@@ -156,10 +217,10 @@ fn take_middle<F: UnitForm>(
     is_continuous: bool,
     packet: &Packet<'_>,
 ) -> State
-    requires size { FitsUnderWay under_way (length buffer.old) }
+    requires unit { FitsUnderWay F.form under_way buffer.old }
     requires room { length buffer.old ≡ F.LONGEST }
     requires plain { packet.now.starts ≡ false }
-    ensures fits { FitsState result (length buffer.new) }
+    ensures fits { FitsState F.form result buffer.new }
     ensures fed { (moment : ℕ) → AreProper F.form (opens_in under_way buffer.old)
         → IsFed F.form is_continuous (opens_in under_way buffer.old) moment (fields_in packet.now) (state_in result buffer.new) }
 {
@@ -183,10 +244,10 @@ fn take_start<F: UnitForm>(
     packet: &Packet<'_>,
     position: Position,
 ) -> State
-    requires size { FitsUnderWay under_way (length buffer.old) }
+    requires unit { FitsUnderWay F.form under_way buffer.old }
     requires room { length buffer.old ≡ F.LONGEST }
     requires front { IsFirstStart position.at (fields_in packet.now) }
-    ensures fits { FitsState result (length buffer.new) }
+    ensures fits { FitsState F.form result buffer.new }
     ensures fed { AreProper F.form (opens_in under_way buffer.old)
         → IsFed F.form is_continuous (opens_in under_way buffer.old) position.moment (fields_in packet.now) (state_in result buffer.new) }
 {
@@ -211,9 +272,9 @@ pub(crate) fn take_packet<F: UnitForm>(
     packet: &Packet<'_>,
     moment: u64,
 ) -> State
-    requires size { FitsUnderWay under_way (length buffer.old) }
+    requires unit { FitsUnderWay F.form under_way buffer.old }
     requires room { length buffer.old ≡ F.LONGEST }
-    ensures fits { FitsState result (length buffer.new) }
+    ensures fits { FitsState F.form result buffer.new }
     ensures fed { AreProper F.form (opens_in under_way buffer.old)
         → IsFed F.form is_continuous (opens_in under_way buffer.old) moment (fields_in packet.now) (state_in result buffer.new) }
 {

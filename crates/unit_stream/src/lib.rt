@@ -2,15 +2,14 @@
 //!
 //! Sending: ule_unit -> [unit_stream] -> ts_packet.
 //! Receiving: ts_packet -> [unit_stream] -> ule_unit.
-//! Begin with `Packer::next`, and with `Joiner::feed` and `Joiner::next`.
+//! Begin with `Packer::next`, and with `Joiner::take`.
 #![tactic(auto)]
 
-#[cfg(test)]
-mod caller;
 mod form;
 mod joiner;
 mod joining;
 mod laws;
+mod listening;
 mod packer;
 mod reading;
 #[cfg(test)]
@@ -21,5 +20,6 @@ mod tests;
 pub use form::{Span, UnitForm};
 pub use joiner::Joiner;
 pub use laws::packetized_units_are_carried;
+pub use listening::Listener;
 pub use packer::{Packer, count_packets};
 pub use reading::JoinEvent;

@@ -36,8 +36,8 @@ pub(crate) enum Look {
     Bad,
     /// A unit of so many bytes, which all lie there.
     Within(usize),
-    /// A unit that goes on in the next packet.
-    Beyond,
+    /// A unit that goes on in the next packet, and of how many bytes it is, where they tell.
+    Beyond(Option<usize>),
 }
 
 /// Looks at the bytes from a place of a payload on.
@@ -51,12 +51,12 @@ fn look_at<F: UnitForm>(bytes: &[u8]) -> Look
     match F::span(bytes) {
         Span::Stuffing => Look::Nothing,
         Span::Bad => Look::Bad,
-        Span::More => Look::Beyond,
+        Span::More => Look::Beyond(None),
         Span::Whole(size) => {
             if size <= bytes.len() {
                 Look::Within(size)
             } else {
-                Look::Beyond
+                Look::Beyond(Some(size))
             }
         }
     }
@@ -81,7 +81,7 @@ pub(crate) fn read_start<'u, F: UnitForm>(
     packet: &'u Packet<'_>,
 ) -> (Option<JoinEvent<'u>>, State)
     requires { length buffer.old ≡ F.LONGEST }
-    ensures fits { FitsState result.1 (length buffer.new) }
+    ensures fits { FitsState F.form result.1 buffer.new }
     ensures read { Reads F.form (fields_in packet.now) (place_of position) (option_map event_in result.0) (state_in result.1 buffer.new) }
 {
     let moment = position.moment;
@@ -103,10 +103,17 @@ pub(crate) fn read_start<'u, F: UnitForm>(
                 State::Reading(next),
             )
         }
-        Look::Beyond => {
+        Look::Beyond(whole) => {
             let size = bytes.len();
             buffer[..size].copy_from_slice(bytes);
-            (None, State::Drained(Some(UnderWay { moment, size })))
+            (
+                None,
+                State::Drained(Some(UnderWay {
+                    moment,
+                    size,
+                    whole,
+                })),
+            )
         }
     }
 }

@@ -1,31 +1,57 @@
 //! Packets by hand and the events that they give.
 use super::*;
 use crate::small::SmallForm;
-use std::alloc::Global;
-use std::fmt;
+use std::alloc::{AllocError, Global};
 use std::test::Fail;
 use ts_packet::{Link, Packet};
+
+/// Writes an event.
+fn write_event(text: &mut String, event: &JoinEvent<'_>) -> Result<(), AllocError> {
+    match event {
+        JoinEvent::Unit { moment, bytes } => write!(text, "unit {moment} {bytes:?};"),
+        JoinEvent::BadCheck => write!(text, "bad check;"),
+        JoinEvent::Delimit => write!(text, "delimit;"),
+        JoinEvent::BadLength => write!(text, "bad length;"),
+    }
+}
 
 /// Writes the next event, and answers whether there was one.
 fn write_next(
     joiner: &mut Joiner<SmallForm, Global>,
     packet: &Packet<'_>,
     text: &mut String,
-) -> Result<bool, fmt::Error> {
+) -> Result<bool, AllocError> {
     match joiner.next(packet) {
-        None => return Ok(false),
-        Some(JoinEvent::Unit { moment, bytes }) => write!(text, "unit {moment} {bytes:?};")?,
-        Some(JoinEvent::BadCheck) => write!(text, "bad check;")?,
-        Some(JoinEvent::Delimit) => write!(text, "delimit;")?,
-        Some(JoinEvent::BadLength) => write!(text, "bad length;")?,
+        None => Ok(false),
+        Some(event) => {
+            write_event(text, &event)?;
+            Ok(true)
+        }
     }
-    Ok(true)
 }
 
-/// The packets of one recording, each with its link, its start indicator, its payload and its events.
+/// Writes what it hears, up to the first event that fails.
+#[derive(Drop)]
+struct Writer {
+    text: String,
+    result: Result<(), AllocError>,
+}
+
+impl Listener for Writer {
+    ghost Hears = { λ _ _ _. Unit {0} };
+
+    fn hear(&mut self, event: &JoinEvent<'_>) {
+        if self.result.is_ok() {
+            self.result = write_event(&mut self.text, event);
+        }
+    }
+}
+
+/// The packets of one recording, each with its link, its start indicator, its payload and its events, which `next` gives and
+/// a listener hears.
 #[test]
 fn packets_give_their_events_in_order(rt: HostRuntime) -> Result<(), Fail> {
-    let steps: [(Link, bool, &[u8], &str); 17] = [
+    let steps: [(Link, bool, &[u8], &str); 20] = [
         (Link::First, true, &[0, 4, 7, 7], ""),
         (Link::Next, false, &[8, 99], "unit 0 [4, 7, 7, 8];"),
         (Link::Next, true, &[0, 4, 7, 7], ""),
@@ -53,9 +79,13 @@ fn packets_give_their_events_in_order(rt: HostRuntime) -> Result<(), Fail> {
         (Link::Next, true, &[0, 4, 7, 7], ""),
         (Link::Repeat, true, &[0, 4, 7, 7], ""),
         (Link::Next, false, &[8], "unit 14 [4, 7, 7, 8];"),
+        (Link::Next, true, &[0, 6, 7], ""),
+        (Link::Next, false, &[7, 7], ""),
+        (Link::Next, false, &[8, 8, 9], "unit 17 [6, 7, 7, 7, 8, 8];"),
     ];
     let alloc = rt.alloc();
     let mut joiner = Joiner::<SmallForm, Global>::over(vec![in alloc; 0u8; SmallForm::LONGEST]?);
+    let mut telling = Joiner::<SmallForm, Global>::over(vec![in alloc; 0u8; SmallForm::LONGEST]?);
     for (place, step) in steps.iter().enumerate() {
         let (link, starts, payload, want) = *step;
         let moment = place as u64;
@@ -74,6 +104,13 @@ fn packets_give_their_events_in_order(rt: HostRuntime) -> Result<(), Fail> {
             }
         }
         assert_eq!(rt; text.as_str(), want, "in packet {moment}");
+        let mut writer = Writer {
+            text: String::new(alloc),
+            result: Ok(()),
+        };
+        telling.take(link, &packet, moment, &mut writer);
+        writer.result?;
+        assert_eq!(rt; writer.text.as_str(), want, "heard in packet {moment}");
     }
     Ok(())
 }
