@@ -1,10 +1,8 @@
 -- Parts of a buffer, and where units end in it.
-use Rattle.std.proofs.Common.{◌≡◌, ℕ, zero, suc, ◌+◌, ◌-◌, ◌<◌, ◌≤◌, min, Bool, true, false, cond, List, [], ◌∷◌, ◌++◌, take, drop, length, get_or, ap, sym, ◌∙◌, arith, length-drop, add-one}
+use Rattle.std.proofs.Common.{◌≡◌, ℕ, zero, suc, ◌+◌, ◌-◌, ◌<◌, ◌≤◌, List, [], ◌∷◌, ◌++◌, take, drop, length, get_or, ap, sym, ◌∙◌, arith, length-drop, add-one}
 use Rattle.std.proofs.lemmas.List.{length-take-le, take-take, drop-take, drop-drop, drop_more, drop_all}
-use Rattle.std.proofs.Math.Seq.{take-add, take-length}
-use Rattle.unit_stream.specs.declared.packer.Part.{Part}
-use Rattle.unit_stream.specs.Parts.{IsPart}
-use Rattle.unit_stream.specs.Packers.{between, StandAt, units_from, AreRising, end_of}
+use Rattle.std.proofs.Math.Seq.{take-add}
+use Rattle.unit_stream.specs.Packers.{between, units_from, AreRising, end_of}
 
 pub length-between : (bytes : List ℕ) (from to : ℕ) → to ≤ length bytes → length (between bytes from to) ≡ to - from
 length-between bytes from to within = length-take-le (to - from) (drop from bytes) (omega (arith, length-drop from bytes))
@@ -31,24 +29,6 @@ drop-between bytes from to n within =
     ap (λ (m : ℕ). drop n (take m (drop from bytes))) size
     ∙ drop-take n (to - (from + n)) (drop from bytes)
     ∙ ap (take (to - (from + n))) (drop-drop n from bytes)
-
--- a part of what stands at a place
-pub between-window : (window bytes : List ℕ) (from at to : ℕ) → StandAt window from bytes → from ≤ at → at ≤ to → to ≤ from + length window
-    → between window (at - from) (to - from) ≡ between bytes at to
-between-window window bytes from at to stands before order behind =
-    let there : from + (at - from) ≡ at = omega arith in
-    let size : (to - from) - (at - from) ≡ to - at = omega arith in
-    let end : at + (to - at) ≡ to = omega arith in
-    ap (λ (n : ℕ). take n (drop (at - from) window)) size
-    ∙ ap (λ (t : List ℕ). take (to - at) (drop (at - from) t)) (sym stands)
-    ∙ ap (take (to - at)) (drop-between bytes from (from + length window) (at - from) (omega arith))
-    ∙ ap (λ (n : ℕ). take (to - at) (between bytes n (from + length window))) there
-    ∙ take-between bytes at (from + length window) (to - at) (omega arith)
-    ∙ ap (between bytes at) end
-
--- all bytes stand at the first place
-pub stands-first : (bytes : List ℕ) → StandAt bytes 0 bytes
-stands-first bytes = let size : 0 + length bytes - 0 ≡ length bytes = omega arith in ap (λ (n : ℕ). take n bytes) size ∙ take-length bytes
 
 -- Ends of units.
 
@@ -86,12 +66,3 @@ rising_to start from (end ∷ ends) (suc begun) rising le = rising_to start end 
 -- each unit ends before the last one does
 pub below_last : (start : ℕ) (ends : List ℕ) (begun : ℕ) → AreRising start 0 ends → begun ≤ length ends → end_of ends begun ≤ end_of ends (length ends)
 below_last start ends begun rising le = rising_to start 0 ends begun rising le
-
--- a part ends before the last unit does, and 184 bytes after those that are out at most
-pub part_within : (start : ℕ) (ends : List ℕ) (begun at : ℕ) (part : Part) → AreRising start 0 ends → IsPart ends begun at part
-    → part.at ≤ min (at + 184) (end_of ends (length ends))
-part_within start ends begun at part rising is = by_start part.starts is.room
-  where
-    by_start : (starts : Bool) → part.at ≤ at + cond starts 183 184 → part.at ≤ min (at + 184) (end_of ends (length ends))
-    by_start true room = omega (arith, room, is.to, below_last start ends part.begun rising is.count)
-    by_start false room = omega (arith, room, is.to, below_last start ends part.begun rising is.count)

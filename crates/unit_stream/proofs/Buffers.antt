@@ -1,10 +1,11 @@
 -- Bytes put after others in a buffer.
-use Rattle.std.proofs.Common.{◌≡◌, ℕ, ◌+◌, ◌-◌, ◌<◌, ◌≤◌, min, true, List, [], ◌∷◌, ◌++◌, length, take, drop, replicate, append_assoc, length-drop, ap, sym, ◌∙◌, arith}
+use Rattle.std.proofs.Common.{◌≡◌, ℕ, ◌+◌, ◌-◌, ◌≤◌, min, true, List, [], ◌∷◌, ◌++◌, length, take, drop, replicate, append_assoc, length-drop, ap, sym, ◌∙◌, arith}
 use Rattle.std.proofs.Math.ListN.{set}
-use Rattle.std.proofs.lemmas.List.{append-nil, length-set, length-take-le, take_min, take_at, take_more_set, drop_at, drop_all}
-use Rattle.std.proofs.lemmas.Slice.{take-put_mid}
+use Rattle.std.proofs.lemmas.List.{append-nil, length-set, length-take-le, take_min, take_at, take_more_set, drop_at, drop_all, take_all}
+use Rattle.std.proofs.lemmas.Slice.{take-put_mid, take-put_mid_below}
 use Rattle.std.proofs.Math.Seq.{take-append-add}
 use borrow.Rule.Slice.PartMut.{put_mid, mid_of}
+use Rattle.unit_stream.specs.Packers.{with_bytes}
 use Rattle.unit_stream.specs.Parts.{payload_with}
 
 -- the front of a buffer, with as much of a piece after it as there is room for
@@ -24,26 +25,29 @@ append_is buffer piece put size count k fits is put_is =
 pub copy_is : (put bytes behind : List ℕ) → put ≡ bytes → take (length bytes) (put ++ behind) ≡ bytes
 copy_is put bytes behind same = take_at put behind (length bytes) (ap length same) ∙ same
 
--- a number and bytes after it, written to the end of a buffer
-number_put : (at k : ℕ) (old put : List ℕ) (x : ℕ) → at < length old → length old ≤ at + 1 + k
-    → put_mid (at + 1) k (set old at x) put ≡ take at old ++ x ∷ put
-number_put at k old put x within room =
-    ap (λ (t : List ℕ). t ++ (put ++ drop k (drop (at + 1) (set old at x)))) (take_more_set old at x within)
-    ∙ ap (λ (t : List ℕ). (take at old ++ x ∷ []) ++ (put ++ t)) (drop_all k (drop (at + 1) (set old at x)) (omega (arith, length-drop (at + 1) (set old at x), length-set old at x)))
-    ∙ ap (λ (t : List ℕ). (take at old ++ x ∷ []) ++ t) (append-nil put)
-    ∙ append_assoc (take at old) (x ∷ []) put
+-- what stands in a packet before a place and after so many bytes there, where the rest is filled
+pub around : (packet put bytes : List ℕ) (from size k : ℕ) → from + size ≤ length packet → length packet ≤ from + size + k
+    → put ≡ replicate (length (mid_of (from + size) k packet)) 0xFF → length bytes ≡ size
+    → with_bytes from bytes (put_mid (from + size) k packet put) ≡ take from packet ++ (bytes ++ replicate (length packet - (from + size)) 0xFF)
+around packet put bytes from size k within whole put_is size_is =
+    let room : length (mid_of (from + size) k packet) ≡ length packet - (from + size) =
+    ap length (take_all k (drop (from + size) packet) (omega (arith, whole, length-drop (from + size) packet))) ∙ length-drop (from + size) packet in
+    let none : drop k (drop (from + size) packet) ≡ [] = drop_all k (drop (from + size) packet) (omega (arith, whole, length-drop (from + size) packet)) in
+    ap (λ (t : List ℕ). t ++ (bytes ++ drop (from + length bytes) (put_mid (from + size) k packet put)))
+    (take-put_mid_below (from + size) k packet put from (omega arith) within)
+    ∙ ap (λ (n : ℕ). take from packet ++ (bytes ++ drop (from + n) (put_mid (from + size) k packet put))) size_is
+    ∙ ap (λ (t : List ℕ). take from packet ++ (bytes ++ t))
+    (drop_at (take (from + size) packet) (put ++ drop k (drop (from + size) packet)) (from + size) (length-take-le (from + size) packet within)
+    ∙ ap (λ (t : List ℕ). put ++ t) none ∙ append-nil put ∙ put_is ∙ ap (λ (n : ℕ). replicate n 0xFF) room)
 
--- a payload that begins with a pointer, written to its place in a packet
-pub pointer_put : (packet bytes put : List ℕ) (pointer : ℕ) → length packet ≡ 188
-    → put ≡ bytes ++ replicate (length (mid_of 5 183 (set packet 4 pointer)) - length bytes) 0xFF
-    → put_mid 5 183 (set packet 4 pointer) put ≡ take 4 packet ++ payload_with true pointer bytes
-pointer_put packet bytes put pointer whole put_is =
-    let room : length (mid_of 5 183 (set packet 4 pointer)) ≡ 183 =
-    length-take-le 183 (drop 5 (set packet 4 pointer)) (omega (arith, length-drop 5 (set packet 4 pointer), length-set packet 4 pointer)) in
-    number_put 4 183 packet put pointer (omega arith) (omega arith)
-    ∙ ap (λ (t : List ℕ). take 4 packet ++ pointer ∷ t) (put_is ∙ ap (λ (n : ℕ). bytes ++ replicate (n - length bytes) 0xFF) room)
-
--- the payload of a packet to which it was written
-pub payload_behind : (packet new payload : List ℕ) → length packet ≡ 188 → new ≡ take 4 packet ++ payload → drop 4 new ≡ payload
-payload_behind packet new payload whole new_is =
-    ap (λ (t : List ℕ). drop 4 t) new_is ∙ drop_at (take 4 packet) payload 4 (length-take-le 4 packet (omega arith))
+-- the same after a pointer that was written before
+pub around_pointer : (packet put bytes : List ℕ) (pointer size k : ℕ) → length packet ≡ 188 → size ≤ 183 → 188 ≤ 5 + size + k
+    → put ≡ replicate (length (mid_of (5 + size) k (set packet 4 pointer))) 0xFF → length bytes ≡ size
+    → with_bytes 5 bytes (put_mid (5 + size) k (set packet 4 pointer) put) ≡ take 4 packet ++ payload_with true pointer bytes
+around_pointer packet put bytes pointer size k whole within end put_is size_is =
+    let same : length (set packet 4 pointer) ≡ 188 = length-set packet 4 pointer ∙ whole in
+    let left : length (set packet 4 pointer) - (5 + size) ≡ 183 - length bytes = omega (arith, same, size_is) in
+    around (set packet 4 pointer) put bytes 5 size k (omega (arith, same)) (omega (arith, same)) put_is size_is
+    ∙ ap (λ (n : ℕ). take 5 (set packet 4 pointer) ++ (bytes ++ replicate n 0xFF)) left
+    ∙ ap (λ (t : List ℕ). t ++ (bytes ++ replicate (183 - length bytes) 0xFF)) (take_more_set packet 4 pointer (omega (arith, whole)))
+    ∙ append_assoc (take 4 packet) (pointer ∷ []) (bytes ++ replicate (183 - length bytes) 0xFF)

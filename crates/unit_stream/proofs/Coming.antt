@@ -1,5 +1,5 @@
 -- Whether packets are still to come: where bytes of a unit are not out, or a unit has not begun, and only there.
-use Rattle.std.proofs.Common.{◌≡◌, ◌⊎◌, inl, inr, ℕ, zero, suc, ◌+◌, ◌-◌, ◌<◌, ◌≤◌, Bool, true, false, cond, ◌&&◌, ◌||◌, eqb, leb, ltb, List, [], ◌∷◌, drop, length, refl, ap, ap₂, sym, ◌∙◌, arith}
+use Rattle.std.proofs.Common.{◌≡◌, ℕ, zero, suc, ◌+◌, ◌-◌, ◌<◌, ◌≤◌, Bool, true, false, cond, ◌&&◌, ◌||◌, eqb, leb, ltb, List, [], ◌∷◌, drop, length, refl, ap, ap₂, sym, ◌∙◌, arith}
 use Rattle.ts_spec.specs.Form.{UnitForm}
 use Rattle.unit_stream.specs.Packing.{Piece, filled, may_begin, begin_piece, middle_piece, pieces, byte_count}
 use Rattle.unit_stream.specs.Packers.{AreRising, IsOnWay, PackerState, between, units_from, end_of, pieces_left, packets_left}

@@ -1,5 +1,5 @@
 -- What a packet that is written makes of a packer.
-use Rattle.std.proofs.Common.{◌≡◌, ℕ, suc, ◌+◌, ◌-◌, ◌%◌, Bool, true, false, List, [], ◌∷◌, length, zero-add, refl, ap, Some}
+use Rattle.std.proofs.Common.{◌≡◌, ℕ, suc, ◌+◌, ◌-◌, ◌%◌, Bool, true, false, List, [], ◌∷◌, ◌++◌, take, length, zero-add, refl, ap, Some}
 use Rattle.ts_spec.specs.Form.{UnitForm}
 use Rattle.ts_spec.specs.Packet.{packet_bytes}
 use Rattle.unit_stream.specs.Packing.{Piece, pieces, byte_count, numbered}
@@ -16,6 +16,11 @@ writes_part form old bytes ends into part next written = (
   ap (numbered old.pid old.counter) next,
   written,
 )
+
+-- a payload after the header of a packet that was written
+pub payload_put : (pid counter : ℕ) (starts : Bool) (packet payload behind : List ℕ) → packet ≡ packet_bytes pid starts counter behind
+    → take 4 packet ++ payload ≡ packet_bytes pid starts counter payload
+payload_put pid counter starts packet payload behind is = ap (λ (t : List ℕ). take 4 t ++ payload) is
 
 -- each piece is one packet
 pub length-numbered : (pid counter : ℕ) (pieces : List Piece) → length (numbered pid counter pieces) ≡ length pieces

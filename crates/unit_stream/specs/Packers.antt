@@ -1,7 +1,8 @@
 -- A packer over units that stand one after another in a buffer.
-use Rattle.std.specs.Prelude.{◌≡◌, ℕ, ◌+◌, ◌-◌, ◌≤◌, Bool, true, false, List, [], ◌∷◌, take, drop, length, min, slice_index}
+use Rattle.std.specs.Prelude.{◌≡◌, ℕ, ◌+◌, ◌-◌, ◌≤◌, Bool, true, false, List, [], ◌∷◌, ◌++◌, take, drop, length, slice_index, Option, Some, None}
 use Rattle.ts_spec.specs.Form.{UnitForm}
 use Rattle.ts_spec.specs.Packet.{PacketFields, packet_bytes}
+use Rattle.unit_stream.specs.declared.packer.Room.{Room}
 use Rattle.unit_stream.specs.Packing.{Piece, pieces, byte_count, numbered}
 
 -- the bytes from one place to another
@@ -43,15 +44,6 @@ pub record IsOnWay (state : PackerState) (ends : List ℕ) : Type 0 where
   pub begun : state.begun ≤ length ends
   pub at : state.at ≤ end_of ends state.begun
 
--- some of all bytes, so many from a place on: the next 184 that are not out, or all that are left, at least
-pub record HasNext (state : PackerState) (ends : List ℕ) (from size : ℕ) : Type 0 where
-  pub before : from ≤ state.at
-  pub reach : min (state.at + 184) (end_of ends (length ends)) ≤ from + size
-
--- these are the bytes from a place on
-abbrev pub StandAt : List ℕ → ℕ → List ℕ → Type 0
-StandAt window from bytes = between bytes from (from + length window) ≡ window
-
 -- the packets that are still to come of the units in a buffer
 abbrev pub pieces_left : ℕ → Bool → List ℕ → List ℕ → ℕ → ℕ → List Piece
 pieces_left start packing bytes ends begun at =
@@ -71,3 +63,12 @@ abbrev pub Writes : UnitForm → PackerState → PackerState → List ℕ → Li
 Writes form old new bytes ends into true =
     (packet : PacketFields) × (packets_left form old bytes ends ≡ packet ∷ packets_left form new bytes ends) × (into ≡ written packet)
 Writes form old new bytes ends into false = (packets_left form old bytes ends ≡ []) × (new ≡ old)
+
+-- a packet in which these bytes stand from a place on
+abbrev pub with_bytes : ℕ → List ℕ → List ℕ → List ℕ
+with_bytes from bytes packet = take from packet ++ (bytes ++ drop (from + length bytes) packet)
+
+-- what an answer means that leaves out the bytes of units: with them one packet more is written, or none is left
+abbrev pub WritesAround : UnitForm → PackerState → PackerState → List ℕ → List ℕ → List ℕ → Option Room → Type 0
+WritesAround form old new bytes ends into (Some room) = Writes form old new bytes ends (with_bytes room.from (between bytes old.at new.at) into) true
+WritesAround form old new bytes ends into None = Writes form old new bytes ends into false

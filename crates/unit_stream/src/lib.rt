@@ -21,5 +21,5 @@ pub use form::{Span, UnitForm};
 pub use joiner::Joiner;
 pub use laws::packetized_units_are_carried;
 pub use listening::Listener;
-pub use packer::{Packer, count_packets};
+pub use packer::{Packer, Room, count_packets};
 pub use reading::JoinEvent;

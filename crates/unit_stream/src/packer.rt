@@ -1,6 +1,6 @@
 //! Packetization: units that stand one after another come in, and the packets that carry them go out.
 ghost use Rattle.std.specs.Prelude.{◌≡◌, ◌≤◌, ◌<◌, ℕ, ◌+◌, ◌-◌, ◌==◌, ◌&&◌, ◌||◌, ◌++◌, List, length, take, replicate, nat_le, true, if◌then◌else◌, IfSome};
-ghost use Rattle.unit_stream.specs.Packers.{AreRising, end_of, units_of};
+ghost use Rattle.unit_stream.specs.Packers.{AreRising, end_of, units_of, with_bytes};
 ghost use Rattle.unit_stream.specs.Packing.{packetized};
 ghost use Rattle.unit_stream.specs.Parts.{NextPart, Fills, IsPart, payload_with};
 
@@ -108,32 +108,37 @@ fn next_part<F: UnitForm>(ends: &[usize], begun: usize, at: usize, packing: bool
     })
 }
 
-/// Writes to its place in a packet the payload that carries these bytes, after a pointer where a unit begins in it.
-fn write_payload(into: &mut [u8; 188], starts: bool, pointer: usize, bytes: &[u8])
+/// The room in a packet for the bytes of units that it carries: `size` bytes from its place `from` on.
+#[derive(Clone, Copy, Debug, PartialEq, Eq)]
+pub struct Room {
+    pub from: usize,
+    pub size: usize,
+}
+
+/// Fills what is left of a packet.
+fn stuff(into: &mut [u8])
+    ensures { into.new ≡ replicate (length into.old) 0xFF }
+{
+    into.fill(STUFFING);
+}
+
+/// Writes to a packet what its payload has around so many bytes of units: a pointer before them where a unit begins in it, and
+/// bytes FF after them. Answers their place.
+fn write_around(into: &mut [u8; 188], starts: bool, pointer: usize, size: usize) -> usize
     requires pointer { starts ≡ true → pointer ≤ 183 }
-    requires room { length bytes.now ≤ (if starts then 183 else 184) }
-    ensures { into.new ≡ take 4 into.old ++ payload_with starts pointer bytes.now }
+    requires size { size ≤ (if starts then 183 else 184) }
+    ensures within { result + size ≤ 188 }
+    ensures written { (bytes : List ℕ) → length bytes ≡ size
+        → with_bytes result bytes into.new ≡ take 4 into.old ++ payload_with starts pointer bytes }
 {
     if starts {
         into[HEADER] = pointer as u8;
-        write_stuffed(&mut into[HEADER + 1..], bytes);
+        stuff(&mut into[HEADER + 1 + size..]);
+        HEADER + 1
     } else {
-        write_stuffed(&mut into[HEADER..], bytes);
+        stuff(&mut into[HEADER + size..]);
+        HEADER
     }
-}
-
-/// Writes these bytes to the front of a buffer, and bytes FF to what is left of it.
-fn write_stuffed(into: &mut [u8], bytes: &[u8])
-    requires { length bytes.now ≤ length into.old }
-    ensures { into.new ≡ bytes.now ++ replicate (length into.old - length bytes.now) 0xFF }
-{
-    // Most packets are full: a copy whose length is known where the buffer's is.
-    if bytes.len() == into.len() {
-        into.copy_from_slice(bytes);
-        return;
-    }
-    into[..bytes.len()].copy_from_slice(bytes);
-    into[bytes.len()..].fill(STUFFING);
 }
 
 /// Packetization of units into the packets of one PID (ISO/IEC 13818-1 clause 2.4.4, RFC 4326 section 6).
@@ -169,9 +174,9 @@ impl<F: UnitForm> Model for Packer<F> {
 }
 
 impl<F: UnitForm> Packer<F> {
-    ghost use Rattle.std.specs.Prelude.{◌≡◌, ◌+◌, ◌≤◌, ◌%◌, ℕ, List, length, nat_lt, true, false};
+    ghost use Rattle.std.specs.Prelude.{◌≡◌, ◌+◌, ◌≤◌, ◌%◌, ℕ, List, length, nat_lt, true, false, None, IfSome};
     ghost use Rattle.unit_stream.specs.Packing.{packetized};
-    ghost use Rattle.unit_stream.specs.Packers.{AreRising, AreEnds, IsOnWay, HasNext, StandAt, Writes, end_of, packets_left, units_of};
+    ghost use Rattle.unit_stream.specs.Packers.{AreRising, AreEnds, IsOnWay, Writes, WritesAround, end_of, packets_left, units_of};
 
     /// A packer whose first packet has the counter 0; the PID is 0 to 8191.
     pub fn new(pid: u16, packing: bool) -> Packer<F>
@@ -219,41 +224,39 @@ impl<F: UnitForm> Packer<F> {
         ensures counter { result ≡ true → self.new.counter ≡ (self.old.counter + 1) % 16 }
         ensures unchanged { result ≡ false → into.new ≡ into.old }
     {
-        self.next_within(bytes, 0, ends, into)
-    }
-
-    /// Writes the next packet as `next` does, where only some of all bytes are at hand: those from the place `from` on.
-    ///
-    /// These are the next 184 bytes that are not out, or all that are left, at least.
-    pub fn next_within(
-        &mut self,
-        window: &[u8],
-        from: usize,
-        ends: &[usize],
-        into: &mut [u8; 188],
-    ) -> bool
-        requires rising { AreRising F.START 0 ends.now }
-        requires on_way { IsOnWay self.old ends.now }
-        requires window { HasNext self.old ends.now from (length window.now) }
-        ensures writes { (bytes : List ℕ) → end_of ends.now (length ends.now) ≤ length bytes → StandAt window.now from bytes
-            → Writes F.form self.old self.new bytes ends.now into.new result }
-        ensures within { (self.old.at ≤ self.new.at) × (self.new.at ≤ from + length window.now) }
-        ensures on_way { IsOnWay self.new ends.now }
-        ensures kept { (self.new.pid ≡ self.old.pid) × (self.new.packing ≡ self.old.packing) }
-        ensures counter { result ≡ true → self.new.counter ≡ (self.old.counter + 1) % 16 }
-        ensures unchanged { result ≡ false → into.new ≡ into.old }
-    {
-        let Some(part) = next_part::<F>(ends, self.begun, self.at, self.packing) else {
+        let at = self.at;
+        let Some(room) = self.next_around(ends, into) else {
             return false;
         };
+        into[room.from..room.from + room.size].copy_from_slice(&bytes[at..self.at]);
+        true
+    }
+
+    /// Writes the next packet as `next` does, but for the bytes of units that it carries, and answers where they stand in it;
+    /// None where all are out.
+    ///
+    /// They are the next ones that are not out. The caller writes them.
+    pub fn next_around(&mut self, ends: &[usize], into: &mut [u8; 188]) -> Option<Room>
+        requires rising { AreRising F.START 0 ends.now }
+        requires on_way { IsOnWay self.old ends.now }
+        ensures writes { (bytes : List ℕ) → end_of ends.now (length ends.now) ≤ length bytes
+            → WritesAround F.form self.old self.new bytes ends.now into.new result }
+        ensures room { IfSome result (λ c. (c.from + c.size ≤ 188) × (self.new.at ≡ self.old.at + c.size)) }
+        ensures within { self.new.at ≤ end_of ends.now (length ends.now) }
+        ensures on_way { IsOnWay self.new ends.now }
+        ensures kept { (self.new.pid ≡ self.old.pid) × (self.new.packing ≡ self.old.packing) }
+        ensures counter { IfSome result (λ _. self.new.counter ≡ (self.old.counter + 1) % 16) }
+        ensures unchanged { result ≡ None → into.new ≡ into.old }
+    {
+        let part = next_part::<F>(ends, self.begun, self.at, self.packing)?;
         let pointer = end_of_unit(ends, self.begun) - self.at;
-        let piece = &window[self.at - from..part.at - from];
-        write_payload(into, part.starts, pointer, piece);
+        let size = part.at - self.at;
         write_header(into, self.pid, part.starts, self.counter);
+        let from = write_around(into, part.starts, pointer, size);
         self.counter = (self.counter + 1) % COUNTERS;
         self.begun = part.begun;
         self.at = part.at;
-        true
+        Some(Room { from, size })
     }
 
     /// Begins a new list of units. The counter goes on.

@@ -115,7 +115,7 @@ fn packets_give_their_events_in_order(rt: HostRuntime) -> Result<(), Fail> {
     Ok(())
 }
 
-/// Units of 4, 3 and 200 bytes: with packing they fill two packets, without it four. Each is made of the bytes that are not out.
+/// Units of 4, 3 and 200 bytes: with packing they fill two packets, without it four. The first packet's room stands after its pointer.
 #[test]
 fn units_are_packetized(rt: HostRuntime) {
     let mut bytes = [7u8; 207];
@@ -123,9 +123,10 @@ fn units_are_packetized(rt: HostRuntime) {
     bytes[4] = 3;
     bytes[7] = 200;
     let ends = [4, 7, 207];
-    let heads: [(bool, &[[u8; 7]]); 2] = [
+    let heads: [(bool, usize, &[[u8; 7]]); 2] = [
         (
             true,
+            183,
             &[
                 [0x47, 0x41, 0, 0x10, 0, 4, 7],
                 [0x47, 0x01, 0, 0x11, 7, 7, 7],
@@ -133,6 +134,7 @@ fn units_are_packetized(rt: HostRuntime) {
         ),
         (
             false,
+            4,
             &[
                 [0x47, 0x41, 0, 0x10, 0, 4, 7],
                 [0x47, 0x41, 0, 0x11, 0, 3, 7],
@@ -141,12 +143,11 @@ fn units_are_packetized(rt: HostRuntime) {
             ],
         ),
     ];
-    for (packing, wants) in heads {
+    for (packing, size, wants) in heads {
         let mut packer = Packer::<SmallForm>::new(256, packing);
         let mut packet = [0; 188];
         for want in wants {
-            let from = packer.at().min(bytes.len());
-            assert!(rt; packer.next_within(&bytes[from..], from, &ends, &mut packet));
+            assert!(rt; packer.next(&bytes, &ends, &mut packet));
             assert!(rt; packet[..7] == want[..], "{packet:?}");
         }
         assert!(rt; !packer.next(&bytes, &ends, &mut packet));
@@ -155,7 +156,10 @@ fn units_are_packetized(rt: HostRuntime) {
             wants.len() as u64
         );
         packer.again();
-        assert!(rt; packer.next(&bytes, &ends, &mut packet));
+        assert_eq!(rt;
+            packer.next_around(&ends, &mut packet),
+            Some(Room { from: 5, size })
+        );
         assert_eq!(rt; usize::from(packet[3]), 0x10 + wants.len());
     }
 }

@@ -1,4 +1,4 @@
-use Rattle.std.proofs.Common.{◌≡◌, ℕ, ap, subst, sym}
+use Rattle.std.proofs.Common.{ℕ, ap, subst, sym}
 use Rattle.unit_stream.specs.Packers.{AreRising, PackerState}
 use Rattle.unit_stream.proofs.Coming.{unit_comes, rest_comes}
 use Rattle.unit_stream.proofs.packer.Packer.has_next.Goals as goal
