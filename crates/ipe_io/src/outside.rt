@@ -1,10 +1,13 @@
 //! The traits: what an object may tell of its content, how often it has failed, and what each call does to both.
 ghost use Rattle.std.specs.Prelude.{◌≡◌, ℕ, ◌+◌, ◌-◌, ◌*◌, ◌^◌, ◌<◌, ◌≤◌, Bool, List, [], ◌∷◌, ◌++◌, length, take, Option, None, Some, is_ok, IfOk, OnOk, OnErr, IfSome, IsErrOf, if◌then◌else◌, ◌==◌};
+ghost use Rattle.std.specs.Borrow.{sem};
 ghost use Rattle.std.specs.Io.{ReadsAtMost};
+ghost use Rattle.std.specs.Io.BufRead.{Rests};
 ghost use Rattle.std.specs.Io.KnownBytes.{ReadConsumes, WriteAppends, Keeps};
 ghost use Rattle.wire_spec.specs.Causes.{HasCause};
 ghost use Rattle.wire_spec.specs.Content.{File, Stays, AddsFile, ChangesFile, empty_file, grown, flushed_file};
 ghost use Rattle.ipe_io.specs.Told.{InputTold, OutputTold, ShelfTold, RackTold};
+ghost use Rattle.ipe_io.specs.Lending.{Lends};
 ghost use Rattle.ipe_io.specs.Counts.{HasAddCause, HasLoadCause, IsFlushed, taken_after, ended_after, longest_file};
 
 use crate::{AddFault, Failed, LoadFault};
@@ -23,6 +26,15 @@ pub trait Source {
         ensures taken { (told self.new).taken ≡ taken_after (told self.old).taken result }
         ensures ended { (told self.new).ended ≡ ended_after (told self.old).ended (length into.new) result }
         ensures cause { HasCause (told self.old).faults (told self.new).faults result };
+
+    /// Lends the next `size` bytes and takes them, where it has so many in hand. It reads nothing: after a None, which
+    /// takes nothing, go on with `read`.
+    fn lend(&mut self, size: usize) -> Option<&[u8]>
+        ensures size { IfSome result (λ piece. length piece.now ≡ size) }
+        ensures* after_borrow { sem 𝓛 (Rests Self.row self.entry (λ new. Lends (told self.old) (told new) result)) }
+    {
+        None
+    }
 
     /// The counter of the bytes taken is one of 64 bits.
     ghost taken_fits: { (source : Self) → (told source).taken ≤ 2 ^ 64 - 1 };
