@@ -49,9 +49,9 @@ moment_in-front stamped before stamp behind size = rw (microseconds-front stamp 
 moment_in-front m2ts before stamp behind size = rw (u32_at-front stamp behind 0 (omega arith)) refl
 
 -- the record of a stamp and a packet
-pub record_behind-cat : (form : RecordingForm) (before moment : Option ℕ) (stamp packet rest : List ℕ) → length stamp ≡ stamp_size form
-    → moment ≡ moment_in form before (stamp ++ rest) → record_behind form before (stamp ++ packet) ≡ record_with moment packet
-record_behind-cat form before moment stamp packet rest size is =
+pub record_behind-cat : (form : RecordingForm) (before moment : Option ℕ) (stamp packet : List ℕ) → length stamp ≡ stamp_size form
+    → moment ≡ moment_in form before stamp → record_behind form before (stamp ++ packet) ≡ record_with moment packet
+record_behind-cat form before moment stamp packet size is =
     ap₂ record_with
-    (moment_in-front form before stamp packet size ∙ sym (moment_in-front form before stamp rest size) ∙ sym is)
+    (moment_in-front form before stamp packet size ∙ sym is)
     (drop_at stamp packet (stamp_size form) size)

@@ -1,11 +1,13 @@
 -- A reader of records, and what one call of it reads.
-use Rattle.std.specs.Prelude.{◌≡◌, ℕ, ◌<◌, Bool, true, false, List, [], ◌∷◌, ◌++◌, length, All, Option, None}
+use Rattle.std.specs.Prelude.{◌≡◌, ℕ, ◌+◌, ◌<◌, Bool, true, false, List, [], ◌∷◌, ◌++◌, length, All, Option, Some, None}
 use Rattle.std.specs.Io.KnownBytes.{Consumes, IsAtEnd}
 use Rattle.wire_spec.specs.Causes.{raised}
 use Rattle.ts_spec.specs.Recording.{RecordingForm, plain, stamped, m2ts, record_size, Record, plain_record, stamped_record, m2ts_record, records_of}
+use Rattle.ipe_io.specs.Told.{InputTold}
 use Rattle.ipe_io.specs.declared.faults.Recording.{Recording}
 use Rattle.ipe_io.specs.declared.faults.Recording.TheVariants.{Plain, Stamped, M2ts}
 use Rattle.ts_record.specs.declared.reader.Record as code
+use Rattle.ts_record.specs.declared.lending.LentRecord as lent
 
 -- the form that the code names
 abbrev pub form_of : Recording → RecordingForm
@@ -16,6 +18,10 @@ form_of M2ts = m2ts
 -- a record of the code
 abbrev pub record_seen : code.Record → Record
 record_seen r = record { moment = r.moment; bytes = r.bytes }
+
+-- the same of one whose bytes are lent
+abbrev pub lent_seen : lent.LentRecord → Record
+lent_seen r = record { moment = r.moment; bytes = r.bytes.now }
 
 -- a reader: how many records were read, the moment of the last, the bytes left over at the end, whether it may be asked
 pub record ReaderState : Type 0 where
@@ -28,6 +34,10 @@ pub record ReaderState : Type 0 where
 -- the same reader after a fault
 abbrev pub closed : ReaderState → ReaderState
 closed reader = record { form = reader.form; count = reader.count; before = reader.before; tail = reader.tail; is_open = false }
+
+-- the same reader after one record more, of this moment
+abbrev pub stepped : ReaderState → Option ℕ → ReaderState
+stepped reader moment = record { form = reader.form; count = reader.count + 1; before = moment; tail = reader.tail; is_open = reader.is_open }
 
 -- the moment of the last record, where it has one
 abbrev pub last_moment : Option ℕ → List Record → Option ℕ
@@ -55,6 +65,14 @@ pub record ReadsRecord (reader now_reader : ReaderState) (left now_left : Option
   pub stands : ReaderOf now_reader (pieces ++ piece ∷ [])
   pub form : now_reader.form ≡ reader.form
   pub tail : now_reader.tail ≡ reader.tail
+
+-- the next record was lent: one piece more was taken, and it gives this record, and the source neither ended nor failed;
+-- where none was lent, all is as it was
+abbrev pub LendsRecord : ReaderState → ReaderState → InputTold → InputTold → List (List ℕ) → Option Record → Type 0
+LendsRecord reader now_reader told now_told pieces (Some r) =
+    ReadsRecord reader now_reader told.left now_told.left told.taken now_told.taken pieces r
+    × (now_told.ended ≡ told.ended) × (now_told.faults ≡ told.faults)
+LendsRecord reader now_reader told now_told pieces None = (now_reader ≡ reader) × (now_told ≡ told)
 
 -- the input has ended after fewer bytes than a record has
 pub record ReadsEnd (reader now_reader : ReaderState) (left now_left : Option (List ℕ)) (taken now_taken : ℕ) (pieces : List (List ℕ)) : Type 0 where

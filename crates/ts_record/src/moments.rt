@@ -1,5 +1,5 @@
 //! The moment of a record, from its stamp.
-ghost use Rattle.std.specs.Prelude.{◌≡◌, ℕ, ◌+◌, ◌^◌, ◌<◌, ◌≤◌, IfSome};
+ghost use Rattle.std.specs.Prelude.{◌≡◌, ℕ, ◌+◌, ◌^◌, ◌<◌, ◌≤◌, length, IfSome};
 ghost use Rattle.std.specs.Option.{ForSome};
 ghost use Rattle.ts_spec.specs.Recording.{stamp_size as size_of_stamp, moment_behind};
 ghost use Rattle.ts_record.specs.Reading.{form_of, moment_in};
@@ -31,8 +31,9 @@ pub(crate) fn stamp_size(recording: Recording) -> usize
 }
 
 /// The moment of the record with this stamp, after one with the moment `before`.
-pub(crate) fn moment_of(recording: Recording, before: Option<u64>, stamp: &[u8; 8]) -> Option<u64>
-    requires { ForSome before (λ m. m ≤ 2 ^ 63) }
+pub(crate) fn moment_of(recording: Recording, before: Option<u64>, stamp: &[u8]) -> Option<u64>
+    requires size { length stamp.now ≡ size_of_stamp (form_of recording) }
+    requires before { ForSome before (λ m. m ≤ 2 ^ 63) }
     ensures read { result ≡ moment_in (form_of recording) before stamp.now }
     ensures bound { (most : ℕ) → 2 ^ 62 ≤ most → ForSome before (λ m. m ≤ most)
         → IfSome result (λ m. m ≤ most + 2 ^ 30) }
@@ -40,11 +41,17 @@ pub(crate) fn moment_of(recording: Recording, before: Option<u64>, stamp: &[u8; 
     match recording {
         Recording::Plain => Some(0),
         Recording::Stamped => {
+            let Some(stamp) = stamp.as_array() else {
+                unreachable!();
+            };
             let stamp = u64::from_be_bytes(*stamp);
             if stamp < NO_MOMENT { Some(stamp) } else { None }
         }
         Recording::M2ts => {
-            let stamp = u32::from_be_bytes([stamp[0], stamp[1], stamp[2], stamp[3]]);
+            let Some(stamp) = stamp.as_array() else {
+                unreachable!();
+            };
+            let stamp = u32::from_be_bytes(*stamp);
             Some(m2ts_moment(before, u64::from(stamp) % ROUND))
         }
     }

@@ -1,8 +1,8 @@
 //! The reader of records: it takes one record's bytes at a time, and keeps the last moment.
-ghost use Rattle.std.specs.Prelude.{◌≡◌, ◌↔◌, ℕ, ◌^◌, ◌<◌, ◌≤◌, true, false, List, [], Ok, IfOk, IfSome, IfNone, OnOk, OnErr, IsErrOf, length};
+ghost use Rattle.std.specs.Prelude.{◌≡◌, ◌↔◌, ℕ, ◌^◌, ◌<◌, ◌≤◌, true, false, List, [], Ok, IfOk, IfSome, IfNone, OnOk, OnErr, IsErrOf, IsTrue, length};
 ghost use Rattle.wire_spec.specs.Causes.{Rose};
-ghost use Rattle.ts_spec.specs.Recording.{record_size};
-ghost use Rattle.ts_record.specs.Reading.{form_of, record_seen, ReaderOf, TakesBytes, ReadsRecord, ReadsEnd, closed};
+ghost use Rattle.ts_spec.specs.Recording.{record_size, stamp_size as size_of_stamp};
+ghost use Rattle.ts_record.specs.Reading.{form_of, record_seen, moment_in, stepped, ReaderOf, TakesBytes, ReadsRecord, ReadsEnd, closed};
 
 use crate::moments::{moment_of, stamp_size};
 use crate::pieces::fill_both;
@@ -18,6 +18,9 @@ pub struct Record {
     /// The bytes of the packet.
     pub bytes: [u8; 188],
 }
+
+/// The bytes of a transport packet.
+const PACKET: usize = 188;
 
 /// Profile: the most records of one recording.
 const MOST_RECORDS: u64 = 1 << 32;
@@ -133,25 +136,49 @@ impl RecordReader {
         ensures kept { ¬ IsErrOf result RecordFault.Failed → (S.told source.new).faults ≡ (S.told source.old).faults }
         ensures closed { OnErr result (self.new ≡ closed self.old) }
     {
-        if self.count == MOST_RECORDS {
+        if !self.has_room() {
             self.is_open = false;
             return Err(RecordFault::TooLong);
         }
-        let size = stamp_size(self.recording);
         let mut stamp = [0; 8];
-        let Ok(count) = fill_both(source, &mut stamp[..size], &mut into.bytes) else {
+        let stamp = &mut stamp[..stamp_size(self.recording)];
+        let Ok(count) = fill_both(source, stamp, &mut into.bytes) else {
             self.is_open = false;
             return Err(RecordFault::Failed);
         };
-        if count < size + into.bytes.len() {
+        if count < stamp.len() + PACKET {
             self.tail = count as u32;
             return Ok(false);
         }
-        let moment = moment_of(self.recording, self.before, &stamp);
+        into.moment = self.step(stamp);
+        Ok(true)
+    }
+
+    /// The bytes of one record.
+    pub(crate) fn record_size(&self) -> usize
+        ensures { result ≡ record_size self.now.form }
+    {
+        stamp_size(self.recording) + PACKET
+    }
+
+    /// Whether fewer than 2^32 records were read.
+    pub(crate) fn has_room(&self) -> bool
+        ensures { IsTrue result ↔ (self.now.count < 2 ^ 32) }
+    {
+        self.count < MOST_RECORDS
+    }
+
+    /// Counts one record more, and answers its moment.
+    pub(crate) fn step(&mut self, stamp: &[u8]) -> Option<u64>
+        requires size { length stamp.now ≡ size_of_stamp self.old.form }
+        requires few { self.old.count < 2 ^ 32 }
+        ensures moment { result ≡ moment_in self.old.form self.old.before stamp.now }
+        ensures stepped { self.new ≡ stepped self.old result }
+    {
+        let moment = moment_of(self.recording, self.before, stamp);
         self.count += 1;
         self.before = moment;
-        into.moment = moment;
-        Ok(true)
+        moment
     }
 
     /// How many bytes, fewer than a record has, stood before the end of the input: 0 until `next` answers None.

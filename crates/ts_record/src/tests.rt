@@ -1,6 +1,6 @@
 //! Recordings in memory, by hand.
-use crate::RecordReader;
-use ipe_io::{MemSource, RecordFault, Recording};
+use crate::{LentRecord, Record, RecordReader, lend_record};
+use ipe_io::{MemSource, RecordFault, Recording, StdSource};
 use std::alloc::{AllocError, Global};
 use std::test::Fail;
 
@@ -101,5 +101,48 @@ fn a_failed_read_closes_the_reader(rt: HostRuntime) -> Result<(), Fail> {
         assert!(rt; !reader.is_open());
         assert_eq!(rt; (reader.tail(), source.faults()), (0, 1));
     }
+    Ok(())
+}
+
+/// Three lengths of the buffer that a `StdSource` lends out of, so that records lie across its ends.
+#[test]
+fn records_lent_are_those_read(rt: HostRuntime) -> Result<(), Fail> {
+    let alloc = rt.alloc();
+    let stamps: [&[u8]; 1024] = [&[0, 1, 2, 3]; 1024];
+    let bytes = recorded(alloc, &stamps, 5)?;
+    let mut lent = StdSource::new(alloc, bytes.as_slice())?;
+    let mut read = MemSource::new(alloc, &bytes, 65_536, &[])?;
+    let mut lender = RecordReader::new(Recording::M2ts);
+    let mut reader = RecordReader::new(Recording::M2ts);
+    let mut place = Record {
+        moment: None,
+        bytes: [0; 188],
+    };
+    for at in 0..1024 {
+        assert!(rt; reader.is_open() && lender.is_open());
+        let Ok(Some(want)) = reader.next(&mut read) else {
+            assert!(rt; false, "{at}");
+            return Ok(());
+        };
+        match lend_record(&mut lent, &mut lender) {
+            Some(LentRecord { moment, bytes }) => {
+                assert!(rt; moment == want.moment && *bytes == want.bytes, "{at}");
+            }
+            None => {
+                assert!(rt;
+                    matches!(lender.next_into(&mut lent, &mut place), Ok(true)),
+                    "{at}"
+                );
+                assert!(rt;
+                    place.moment == want.moment && place.bytes == want.bytes,
+                    "{at}"
+                );
+            }
+        }
+    }
+    assert!(rt; lender.is_open());
+    assert!(rt; lend_record(&mut lent, &mut lender).is_none());
+    assert!(rt; matches!(lender.next_into(&mut lent, &mut place), Ok(false)));
+    assert_eq!(rt; lender.tail(), 5);
     Ok(())
 }
