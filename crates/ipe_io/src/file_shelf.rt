@@ -1,15 +1,18 @@
 //! A shelf over the files of the current folder.
-ghost use Rattle.std.specs.Prelude.{◌≡◌, ◌≤◌, ℕ, List, length, vec_len, IfOk};
+ghost use Rattle.std.specs.Prelude.{◌≡◌, ◌≤◌, ℕ, List, length, vec_len, IfOk, OnOk};
+ghost use Rattle.std.specs.Io.KnownBytes.{Consumes, IsAtEnd};
 ghost use Rattle.ipe_io.specs.Counts.{longest_file};
 
 use crate::outside::LONGEST_FILE;
-use crate::{Failed, LoadFault, Shelf, StdSource, fill};
-use byte_slices::zeros;
+use crate::{LoadFault, Shelf};
 use std::alloc::Global;
 use std::fs;
-use std::io::ErrorKind;
+use std::io::{ErrorKind, Read};
 use std::marker::Model;
 use std::rt::Files;
+
+// The bytes of a file that are read at once: most files are small.
+const PIECE: usize = 4096;
 
 /// The files of the current folder. It tells no bytes. Each refusal of the system is a fault, but running out of memory in
 /// opening a file. One count serves all names.
@@ -57,19 +60,27 @@ impl<R: Files + Drop> Shelf for FileShelf<R> {
 fn load_from<R: Files>(system: &R, alloc: Global, name: &str) -> Result<Vec<u8>, LoadFault>
     ensures short { IfOk result (λ bytes. length bytes.items ≤ longest_file) }
 {
-    let file = match fs::open(system, name) {
-        Ok(file) => file,
-        Err(e) if e.kind() == ErrorKind::OutOfMemory => return Err(LoadFault::OutOfMemory),
-        Err(_) => return Err(LoadFault::Failed),
-    };
-    let mut source = StdSource::new(alloc, file)?;
-    let mut bytes = zeros(alloc, LONGEST_FILE + 1)?;
-    match fill(&mut source, &mut bytes) {
-        Ok(count) if count > LONGEST_FILE => Err(LoadFault::TooLong),
-        Ok(count) => {
-            bytes.truncate(count);
-            Ok(bytes)
-        }
-        Err(Failed) => Err(LoadFault::Failed),
+    match fs::open(system, name) {
+        Ok(mut file) => read_whole(alloc, &mut file),
+        Err(e) if e.kind() == ErrorKind::OutOfMemory => Err(LoadFault::OutOfMemory),
+        Err(_) => Err(LoadFault::Failed),
     }
+}
+
+// All bytes of a reader.
+fn read_whole<R: Read>(alloc: Global, reader: &mut R) -> Result<Vec<u8>, LoadFault>
+    ensures short { IfOk result (λ bytes. length bytes.items ≤ longest_file) }
+    ensures read { IfOk result (λ bytes. Consumes (R.remaining reader.old) (R.remaining reader.new) bytes.items) }
+    ensures end { OnOk result (IsAtEnd (R.remaining reader.new)) }
+{
+    let mut bytes = Vec::new(alloc);
+    let mut piece = [0; PIECE];
+    while bytes.len() <= LONGEST_FILE {
+        match reader.read(&mut piece) {
+            Ok(0) => return Ok(bytes),
+            Ok(count) => bytes.extend_from_slice(&piece[..count])?,
+            Err(_) => return Err(LoadFault::Failed),
+        }
+    }
+    Err(LoadFault::TooLong)
 }
