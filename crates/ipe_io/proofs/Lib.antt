@@ -2,3 +2,4 @@ pub mod Told
 pub mod Buffers
 pub mod MemFiles
 pub mod MemShelves
+pub mod Lent
