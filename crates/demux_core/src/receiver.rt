@@ -94,8 +94,37 @@ impl<'a> Receiver<'a> {
         ensures services { T.services outlet.new ≡ T.services outlet.old }
         ensures cause { HasCause (T.faults outlet.old) (T.faults outlet.new) result }
     {
+        self.step_record(item.moment, &item.bytes, outlet)
+    }
+
+    /// Takes the next record, a packet and its moment, from where it lies; otherwise as `step`.
+    ///
+    /// Failed: the outlet refused one, and those after it are not offered; the record is counted as with Ok.
+    /// No memory is taken.
+    pub fn step_record<T: Outlet>(
+        &mut self,
+        moment: Option<u64>,
+        bytes: &[u8; 188],
+        outlet: &mut T,
+    ) -> Result<(), Failed>
+        requires is_open { self.old.is_open ≡ true }
+        requires few { self.old.stream.records < 2 ^ 32 }
+        requires served { length self.old.plan.services ≤ T.services outlet.old }
+        ensures received { (plan : PlanFields) (records : List ReadRecord) → HasReceived plan records self.old
+            → HasReceived plan (records ++ record { moment = moment; bytes = bytes.now } ∷ []) self.new }
+        ensures written { (plan : PlanFields) (records : List ReadRecord) → HasReceived plan records self.old
+            → OnOk result (Delivers (T.StandsFor outlet.old) (T.StandsFor outlet.new) (pairs_of_record plan (records ++ record { moment = moment; bytes = bytes.now } ∷ []) (length records))) }
+        ensures failed { (plan : PlanFields) (records : List ReadRecord) → HasReceived plan records self.old
+            → OnErr result (DeliversFront (T.StandsFor outlet.old) (T.StandsFor outlet.new) (T.Refused outlet.new) (pairs_of_record plan (records ++ record { moment = moment; bytes = bytes.now } ∷ []) (length records))) }
+        ensures goes_on { OnOk result (self.new.is_open ≡ true) }
+        ensures counted { self.new.stream.records ≡ self.old.stream.records + 1 }
+        ensures closed { OnErr result (self.new.is_open ≡ false) }
+        ensures plan { self.new.plan ≡ self.old.plan }
+        ensures services { T.services outlet.new ≡ T.services outlet.old }
+        ensures cause { HasCause (T.faults outlet.old) (T.faults outlet.new) result }
+    {
         self.stream.records += 1;
-        let (packet, moment) = match content_of(item) {
+        let (packet, moment) = match content_of(moment, bytes) {
             Content::Packet(packet, moment) => (packet, moment),
             Content::WithoutPayload => {
                 self.stream.without_payload = self.stream.without_payload.saturating_add(1);
@@ -111,7 +140,7 @@ impl<'a> Receiver<'a> {
             self.plan,
             &mut self.table,
             services,
-            &item.bytes,
+            bytes,
             &packet,
             moment,
             outlet,
