@@ -4,3 +4,4 @@ pub mod Pairs
 pub mod Whole
 pub mod Numbers
 pub mod Opened
+pub mod PlacesFrom

@@ -103,13 +103,13 @@ module _ (plan : PlanFields) (receivers : List ServiceReceiver) (table : Option 
         ∙ ap (λ (n : ℕ). pairs_of n (added_by it records r)) number
 
 -- one more packet is to be taken of the service
-pub is_receiving : (plan : PlanFields) (receivers : List ServiceReceiver) (table : Option TableReceiver) (records : List Record) (k pid : ℕ) (it : ServiceFields) (d : ServiceReceiver)
-    → (get_or receivers k d).pid ≡ pid → slice_get plan.services k ≡ Some it → length records < 2 ^ 32
-    → HaveAllReceived plan receivers table records → IsReceivingOne it.filter pid it (get_or receivers k d) records
-is_receiving plan receivers table records k pid it d at found few all = record {
-  has = have_at plan.services receivers records k it d found all.services;
+pub is_receiving : (plan : PlanFields) (receivers : List ServiceReceiver) (table : Option TableReceiver) (records : List Record) (k pid : ℕ) (it : ServiceFields) (receiver : ServiceReceiver)
+    → receiver ≡ get_or receivers k receiver → (get_or receivers k receiver).pid ≡ pid → slice_get plan.services k ≡ Some it → length records < 2 ^ 32
+    → HaveAllReceived plan receivers table records → IsReceivingOne it.filter pid it receiver records
+is_receiving plan receivers table records k pid it receiver own at found few all = record {
+  has = subst (λ (t : ServiceReceiver). HasReceivedOne it t records) (sym own) (have_at plan.services receivers records k it receiver found all.services);
   filter_is = refl;
-  of_pid = at;
+  of_pid = ap (λ (t : ServiceReceiver). t.pid) own ∙ at;
   few = few;
 }
 

@@ -1,5 +1,5 @@
 -- What a record holds, as the receiver sorts it.
-use Rattle.std.specs.Prelude.{◌≡◌, ℕ, true, List, Some}
+use Rattle.std.specs.Prelude.{◌≡◌, ◌≤◌, ℕ, true, List, Some}
 use Rattle.ts_spec.specs.Packet.{fields_of, is_packet}
 use Rattle.ts_spec.specs.Recording.{Record}
 use Rattle.reception_spec.specs.Packets.{is_unreadable, lacks_content}
@@ -17,3 +17,9 @@ abbrev pub Holds : Record → Content → Type 0
 Holds r content.Unreadable = is_unreadable r ≡ true
 Holds r content.WithoutPayload = lacks_content r ≡ true
 Holds r (content.Packet packet moment) = (r.moment ≡ Some moment) × IsRead packet r.bytes
+
+-- the packet's PID has 13 bits
+abbrev pub IsInRange : Content → Type 0
+IsInRange content.Unreadable = Unit {0}
+IsInRange content.WithoutPayload = Unit {0}
+IsInRange (content.Packet packet moment) = packet.pid ≤ 8191

@@ -2,4 +2,5 @@ pub mod Outlets
 pub mod Counts
 pub mod Contents
 pub mod Services
+pub mod Places
 pub mod Receiving

@@ -1,5 +1,5 @@
 //! What a record holds: a packet that can be read, one without payload, or nothing that can be read.
-ghost use Rattle.demux_core.specs.Contents.{Holds};
+ghost use Rattle.demux_core.specs.Contents.{Holds, IsInRange};
 
 use ts_packet::{Packet, PacketFault, parse};
 
@@ -17,7 +17,8 @@ pub(crate) enum Content<'a> {
 /// Reads the packet of a record (ISO/IEC 13818-1 clause 2.4.3.2).
 #[tactic(auto, unfolding(ts_spec::specs::Packet::is_packet))]
 pub(crate) fn content_of(moment: Option<u64>, bytes: &[u8; 188]) -> Content<'_>
-    ensures { Holds (record { moment = moment; bytes = bytes.now }) result }
+    ensures holds { Holds (record { moment = moment; bytes = bytes.now }) result }
+    ensures in_range { IsInRange result }
 {
     let moment = match moment {
         Some(moment) => moment,

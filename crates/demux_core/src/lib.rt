@@ -7,6 +7,7 @@
 mod content;
 mod kinds;
 mod packet;
+mod places;
 mod receiver;
 mod service;
 mod services;

@@ -7,11 +7,11 @@ ghost use Rattle.reception_spec.specs.Packets.{is_pid_of};
 ghost use Rattle.reception_spec.specs.Delivered.{pairs_of_record};
 ghost use Rattle.service_reception.specs.Reception.{packet_record};
 ghost use Rattle.demux_core.specs.Contents.{IsRead};
+ghost use Rattle.demux_core.specs.Places.{AreFound};
 ghost use Rattle.demux_core.specs.Outlets.{Delivers, DeliversFront};
 ghost use Rattle.demux_core.specs.Services.{FitsPlan, HaveAllReceived};
 
-use crate::service::ServiceReceiver;
-use crate::services::place_of;
+use crate::services::{Services, place_of};
 use crate::table::{TableReceiver, take_for_table};
 use ipe_io::{Failed, Outlet};
 use plan::Plan;
@@ -21,38 +21,41 @@ use ts_packet::Packet;
 pub(crate) fn receive_packet<T: Outlet>(
     plan: &Plan,
     table: &mut Option<TableReceiver<'_>>,
-    receivers: &mut [ServiceReceiver<'_>],
+    services: &mut Services<'_>,
     bytes: &[u8; 188],
     packet: &Packet<'_>,
     moment: u64,
     outlet: &mut T,
 ) -> Result<bool, Failed>
     requires read { IsRead packet.now bytes.now }
-    requires fits { FitsPlan (plan_fields plan.now) (length receivers.old) }
+    requires in_range { packet.now.pid ≤ 8191 }
+    requires fits { FitsPlan (plan_fields plan.now) (length services.old.receivers.items) }
     requires served { length plan.now.services ≤ T.services outlet.old }
-    ensures received { (records : List Record) → length records < 2 ^ 32 → HaveAllReceived (plan_fields plan.now) receivers.old table.old records
-        → HaveAllReceived (plan_fields plan.now) receivers.new table.new (records ++ packet_record moment bytes.now ∷ []) }
-    ensures known { (records : List Record) → HaveAllReceived (plan_fields plan.now) receivers.old table.old records
+    requires found { AreFound services.old }
+    ensures received { (records : List Record) → length records < 2 ^ 32 → HaveAllReceived (plan_fields plan.now) services.old.receivers.items table.old records
+        → HaveAllReceived (plan_fields plan.now) services.new.receivers.items table.new (records ++ packet_record moment bytes.now ∷ []) }
+    ensures known { (records : List Record) → HaveAllReceived (plan_fields plan.now) services.old.receivers.items table.old records
         → IfOk result (λ known. known ≡ is_pid_of (plan_fields plan.now) packet.now.pid) }
-    ensures of_plan { (records : List Record) → HaveAllReceived (plan_fields plan.now) receivers.old table.old records
+    ensures of_plan { (records : List Record) → HaveAllReceived (plan_fields plan.now) services.old.receivers.items table.old records
         → OnErr result (is_pid_of (plan_fields plan.now) packet.now.pid ≡ true) }
-    ensures written { (records : List Record) → length records < 2 ^ 32 → HaveAllReceived (plan_fields plan.now) receivers.old table.old records
+    ensures written { (records : List Record) → length records < 2 ^ 32 → HaveAllReceived (plan_fields plan.now) services.old.receivers.items table.old records
         → OnOk result (Delivers (T.StandsFor outlet.old) (T.StandsFor outlet.new) (pairs_of_record (plan_fields plan.now) (records ++ packet_record moment bytes.now ∷ []) (length records))) }
-    ensures failed { (records : List Record) → length records < 2 ^ 32 → HaveAllReceived (plan_fields plan.now) receivers.old table.old records
+    ensures failed { (records : List Record) → length records < 2 ^ 32 → HaveAllReceived (plan_fields plan.now) services.old.receivers.items table.old records
         → OnErr result (DeliversFront (T.StandsFor outlet.old) (T.StandsFor outlet.new) (T.Refused outlet.new) (pairs_of_record (plan_fields plan.now) (records ++ packet_record moment bytes.now ∷ []) (length records))) }
-    ensures count { length receivers.new ≡ length receivers.old }
+    ensures count { length services.new.receivers.items ≡ length services.old.receivers.items }
+    ensures found { AreFound services.new }
     ensures services { T.services outlet.new ≡ T.services outlet.old }
     ensures cause { HasCause (T.faults outlet.old) (T.faults outlet.new) result }
 {
     if take_for_table(table, bytes, packet, moment) {
         return Ok(true);
     }
-    let at = match place_of(receivers, packet.pid) {
+    let at = match place_of(services, packet.pid) {
         Some(at) => at,
         None => return Ok(false),
     };
     let filter = &plan.services.at(at).filter;
-    match receivers[at].take(bytes, packet, moment, filter, at as u32, outlet) {
+    match services.receivers[at].take(bytes, packet, moment, filter, at as u32, outlet) {
         Ok(()) => Ok(true),
         Err(Failed) => Err(Failed),
     }

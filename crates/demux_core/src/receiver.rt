@@ -15,8 +15,7 @@ ghost use Rattle.plan_spec.specs.Built.{are_received};
 
 use crate::content::{Content, content_of};
 use crate::packet::receive_packet;
-use crate::service::ServiceReceiver;
-use crate::services::open_services;
+use crate::services::{Services, open_services};
 use crate::table::{TableReceiver, open_table};
 use bumpalo::Bump;
 use ipe_io::{Failed, OutOfMemory, Outlet};
@@ -31,7 +30,7 @@ pub struct Receiver<'a> {
     plan: &'a Plan,
     is_open: bool,
     stream: StreamCounts,
-    services: Vec<ServiceReceiver<'a>, &'a Bump>,
+    services: Services<'a>,
     table: Option<TableReceiver<'a>>,
 }
 
@@ -39,7 +38,8 @@ impl<'a> Model for Receiver<'a> {
     ghost use Rattle.demux_core.specs.Receiving.{ReceiverState};
     ghost use Rattle.plan.specs.PlanView.{plan_fields};
     ghost use Rattle.demux_core.specs.Services.{FitsPlan};
-    ghost use Rattle.std.specs.Prelude.{vec_len};
+    ghost use Rattle.demux_core.specs.Places.{AreFound};
+    ghost use Rattle.std.specs.Prelude.{length};
 
     ghost Value = { ReceiverState };
 
@@ -47,11 +47,11 @@ impl<'a> Model for Receiver<'a> {
       plan = plan_fields receiver.plan.now;
       is_open = receiver.is_open;
       stream = receiver.stream;
-      services = receiver.services.items;
+      services = receiver.services.receivers.items;
       table = receiver.table;
     } };
 
-    ghost invariant = { λ receiver. FitsPlan (plan_fields receiver.plan.now) (vec_len receiver.services) };
+    ghost invariant = { λ receiver. FitsPlan (plan_fields receiver.plan.now) (length receiver.services.receivers.items) × AreFound receiver.services };
 }
 
 impl<'a> Receiver<'a> {
@@ -135,11 +135,10 @@ impl<'a> Receiver<'a> {
                 return Ok(());
             }
         };
-        let services = self.services.as_mut_slice();
         match receive_packet(
             self.plan,
             &mut self.table,
-            services,
+            &mut self.services,
             bytes,
             &packet,
             moment,
@@ -195,7 +194,7 @@ impl<'a> Receiver<'a> {
         ensures read { (plan : PlanFields) (records : List ReadRecord) → HasReceived plan records self.now
             → (fields : ServiceFields) → slice_get plan.services service ≡ Some fields → result ≡ counts_of_service fields records }
     {
-        let counts = self.services[service as usize].counts();
+        let counts = self.services.receivers[service as usize].counts();
         ServiceCounts {
             heard: counts.heard,
             repeats: counts.repeats,

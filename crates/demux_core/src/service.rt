@@ -92,6 +92,7 @@ impl<'a> ServiceReceiver<'a> {
             → OnOk result (Told (T.StandsFor outlet.old) (T.StandsFor outlet.new) service (added_by it records (packet_record moment bytes.now))) }
         ensures failed { (it : ServiceFields) (records : List Record) → IsReceivingOne filter.now packet.now.pid it self.old records
             → OnErr result (StopsWithin (T.StandsFor outlet.old) (T.StandsFor outlet.new) (T.Refused outlet.new service) service (added_by it records (packet_record moment bytes.now))) }
+        ensures pid { self.new.pid ≡ self.old.pid }
         ensures services { T.services outlet.new ≡ T.services outlet.old }
         ensures cause { HasCause (T.faults outlet.old) (T.faults outlet.new) result }
     {

@@ -1,18 +1,27 @@
-//! The receivers of all services of a plan, in its order.
-ghost use Rattle.std.specs.Prelude.{◌≡◌, ◌==◌, ℕ, ◌<◌, true, List, [], map, Some, IfOk, length};
+//! The receivers of all services of a plan, in its order, and the place of each by its PID.
+ghost use Rattle.std.specs.Prelude.{◌≡◌, ◌==◌, ℕ, ◌≤◌, true, List, [], map, IfOk, length};
 ghost use Rattle.std.specs.List.{list_all, position};
 ghost use Rattle.plan.specs.Parts.{kind_seen, service_seen};
 ghost use Rattle.plan.specs.declared.service.Service.{Service};
 ghost use Rattle.plan_spec.specs.Built.{is_received};
 ghost use Rattle.demux_core.specs.Services.{HaveReceived};
+ghost use Rattle.demux_core.specs.Places.{AreFound};
 
+use crate::places::{NO_SERVICE, open_places};
 use crate::service::ServiceReceiver;
 use bumpalo::Bump;
 use ipe_io::OutOfMemory;
 use plan::ServiceList;
 
+/// The receivers of all services in the plan's order, and for each PID the place of its service.
+#[derive(Drop)]
+pub(crate) struct Services<'a> {
+    pub(crate) receivers: Vec<ServiceReceiver<'a>, &'a Bump>,
+    pub(crate) places: Vec<u8, &'a Bump>,
+}
+
 /// The receivers of all services, that were given nothing.
-pub(crate) fn open_services<'a>(
+fn open_receivers<'a>(
     arena: &'a Bump,
     list: &ServiceList,
 ) -> Result<Vec<ServiceReceiver<'a>, &'a Bump>, OutOfMemory>
@@ -27,9 +36,30 @@ pub(crate) fn open_services<'a>(
     Ok(receivers)
 }
 
-/// The place of the service on a PID.
-pub(crate) fn place_of(receivers: &[ServiceReceiver<'_>], pid: u16) -> Option<usize>
-    ensures { result ≡ position (λ receiver. receiver.pid == pid) receivers.now }
+/// All services, that were given nothing, and each is found by its PID.
+pub(crate) fn open_services<'a>(
+    arena: &'a Bump,
+    list: &ServiceList,
+) -> Result<Services<'a>, OutOfMemory>
+    requires known { list_all (λ (it : Service). is_received (kind_seen it.kind)) list.now ≡ true }
+    requires few { length list.now ≤ 64 }
+    ensures received { IfOk result (λ services. HaveReceived (map service_seen list.now) services.receivers.items []) }
+    ensures found { IfOk result (λ services. AreFound services) }
 {
-    receivers.iter().position(|receiver| receiver.pid == pid)
+    let receivers = open_receivers(arena, list)?;
+    let places = open_places(arena, receivers.as_slice())?;
+    Ok(Services { receivers, places })
+}
+
+/// The place of the service on a PID.
+pub(crate) fn place_of(services: &Services<'_>, pid: u16) -> Option<usize>
+    requires found { AreFound services.now }
+    requires in_range { pid ≤ 8191 }
+    ensures { result ≡ position (λ receiver. receiver.pid == pid) services.now.receivers.items }
+{
+    let place = services.places[usize::from(pid)];
+    if place == NO_SERVICE {
+        return None;
+    }
+    Some(usize::from(place))
 }

@@ -1,15 +1,14 @@
-use Rattle.std.proofs.Common.{◌+◌, [], List, map, take, refl, sym, subst}
+use Rattle.std.proofs.Common.{ℕ, ◌≤◌, ◌∙◌, [], List, map, length, ap, sym, subst}
+use Rattle.std.proofs.lemmas.List.{length-map}
 use Rattle.plan.specs.Parts.{service_seen}
-use Rattle.demux_core.specs.Services.{HaveReceived}
 use Rattle.demux_core.specs.declared.service.ServiceReceiver.{ServiceReceiver}
-use Rattle.demux_core.proofs.Opened.{built_at, have_next}
+use Rattle.demux_core.proofs.Opened.{as_many}
 use Rattle.demux_core.proofs.services.open_services.Goals as goal
 
-pub open-requires : goal.open-requires
-open-requires c = built_at c.args.list.now c.loop-at.at c.at.result.now c.requires c.at.ensures.read
-
-pub loop-at-preserved : goal.loop-at-preserved
-loop-at-preserved c =
-    subst (λ (t : List ServiceReceiver). HaveReceived (map service_seen (take (c.loop-at.at + 1) c.args.list.now)) t []) (sym c.in_ok-push.ensures.items)
-    (have_next c.args.list.now c.loop-at.receivers.items c.loop-at.at c.at.result.now c.in_ok-receiver.receiver c.at.ensures.read c.loop-at.invariant
-    (c.in_ok-receiver.ensures.received (service_seen c.at.result.now) refl))
+pub open_places-requires : goal.open_places-requires
+open_places-requires c = record {
+  few = subst (λ (n : ℕ). n ≤ 64)
+      (sym (length-map c.args.list.now service_seen) ∙ sym (as_many (map service_seen c.args.list.now) c.in_ok-receivers.receivers.items [] c.in_ok-receivers.ensures.received)
+      ∙ ap (λ (xs : List ServiceReceiver). length xs) (sym c.as_slice.ensures.value))
+      c.requires.few;
+}

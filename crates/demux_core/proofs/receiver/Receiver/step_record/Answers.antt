@@ -1,6 +1,4 @@
 use Rattle.std.proofs.Common.{◌≡◌, ℕ, ◌^◌, ◌<◌, true, false, Option, refl, ap₂, List, [], ◌∷◌, ◌++◌, ap, sym, ◌∙◌, subst}
-use Rattle.std.proofs.lemmas.List.{with_items_is}
-use Rattle.std.specs.Vec.{with_items}
 use Rattle.ts_spec.specs.Packet.{PacketFields, fields_of}
 use Rattle.ts_spec.specs.Recording.{Record as ReadRecord}
 use Rattle.plan.specs.PlanView.{plan_fields}
@@ -20,15 +18,15 @@ returns-in-WithoutPayload-clause-received g c = λ plan records has.
     record {
       plan_is = seen.plan_is;
       stream = without_more plan records (packet_with c.args.moment c.args.bytes.now) c.self.inside.stream seen.stream (subst (λ (v : ReceiverState). v.stream.records < 2 ^ 32) (sym c.self.view_is) c.requires.few)
-          c.saturating_add-self-inside.result c.saturating_add-self-inside.ensures (without_is plan (packet_with c.args.moment c.args.bytes.now) c.in-WithoutPayload.ensures);
-      all = all_miss plan c.self.inside.services.items c.self.inside.table records (packet_with c.args.moment c.args.bytes.now) (without_on_none (packet_with c.args.moment c.args.bytes.now) c.in-WithoutPayload.ensures) seen.all;
+          c.saturating_add-self-inside.result c.saturating_add-self-inside.ensures (without_is plan (packet_with c.args.moment c.args.bytes.now) c.in-WithoutPayload.ensures.holds);
+      all = all_miss plan c.self.inside.services.receivers.items c.self.inside.table records (packet_with c.args.moment c.args.bytes.now) (without_on_none (packet_with c.args.moment c.args.bytes.now) c.in-WithoutPayload.ensures.holds) seen.all;
     }
 
 pub returns-in-WithoutPayload-clause-written : goal.returns-in-WithoutPayload-clause-written
 returns-in-WithoutPayload-clause-written g c = λ plan records has.
     let seen : HasReceived plan records _ = (subst (λ (v : ReceiverState). HasReceived plan records v) (sym c.self.view_is) has) in
     told_none (g.T.Outlet.StandsFor c.args.outlet.now) _
-    (none_given plan c.self.inside.services.items c.self.inside.table records (packet_with c.args.moment c.args.bytes.now) (without_on_none (packet_with c.args.moment c.args.bytes.now) c.in-WithoutPayload.ensures) seen.all)
+    (none_given plan c.self.inside.services.receivers.items c.self.inside.table records (packet_with c.args.moment c.args.bytes.now) (without_on_none (packet_with c.args.moment c.args.bytes.now) c.in-WithoutPayload.ensures.holds) seen.all)
 
 pub returns-in-Unreadable-clause-received : goal.returns-in-Unreadable-clause-received
 returns-in-Unreadable-clause-received g c = λ plan records has.
@@ -36,33 +34,33 @@ returns-in-Unreadable-clause-received g c = λ plan records has.
     record {
       plan_is = seen.plan_is;
       stream = unreadable_more plan records (packet_with c.args.moment c.args.bytes.now) c.self.inside.stream seen.stream (subst (λ (v : ReceiverState). v.stream.records < 2 ^ 32) (sym c.self.view_is) c.requires.few)
-          c.saturating_add-self-inside-in-Unreadable.result c.saturating_add-self-inside-in-Unreadable.ensures (unreadable_is plan (packet_with c.args.moment c.args.bytes.now) c.in-Unreadable.ensures);
-      all = all_miss plan c.self.inside.services.items c.self.inside.table records (packet_with c.args.moment c.args.bytes.now) (unreadable_on_none (packet_with c.args.moment c.args.bytes.now) c.in-Unreadable.ensures) seen.all;
+          c.saturating_add-self-inside-in-Unreadable.result c.saturating_add-self-inside-in-Unreadable.ensures (unreadable_is plan (packet_with c.args.moment c.args.bytes.now) c.in-Unreadable.ensures.holds);
+      all = all_miss plan c.self.inside.services.receivers.items c.self.inside.table records (packet_with c.args.moment c.args.bytes.now) (unreadable_on_none (packet_with c.args.moment c.args.bytes.now) c.in-Unreadable.ensures.holds) seen.all;
     }
 
 pub returns-in-Unreadable-clause-written : goal.returns-in-Unreadable-clause-written
 returns-in-Unreadable-clause-written g c = λ plan records has.
     let seen : HasReceived plan records _ = (subst (λ (v : ReceiverState). HasReceived plan records v) (sym c.self.view_is) has) in
     told_none (g.T.Outlet.StandsFor c.args.outlet.now) _
-    (none_given plan c.self.inside.services.items c.self.inside.table records (packet_with c.args.moment c.args.bytes.now) (unreadable_on_none (packet_with c.args.moment c.args.bytes.now) c.in-Unreadable.ensures) seen.all)
+    (none_given plan c.self.inside.services.receivers.items c.self.inside.table records (packet_with c.args.moment c.args.bytes.now) (unreadable_on_none (packet_with c.args.moment c.args.bytes.now) c.in-Unreadable.ensures.holds) seen.all)
 
 pub returns-in-Ok-true-clause-received : goal.returns-in-Ok-true-clause-received
 returns-in-Ok-true-clause-received g c = λ plan records has.
     let seen : HasReceived plan records _ = (subst (λ (v : ReceiverState). HasReceived plan records v) (sym c.self.view_is) has) in
     let r : ReadRecord = packet_with c.args.moment c.args.bytes.now in
-    let same : r ≡ packet_record c.in-Packet.moment c.args.bytes.now = ap (λ (m : Option ℕ). packet_with m c.args.bytes.now) c.in-Packet.ensures.0 in
+    let same : r ≡ packet_record c.in-Packet.moment c.args.bytes.now = ap (λ (m : Option ℕ). packet_with m c.args.bytes.now) c.in-Packet.ensures.holds.0 in
     let few : c.self.inside.stream.records < 2 ^ 32 = (subst (λ (v : ReceiverState). v.stream.records < 2 ^ 32) (sym c.self.view_is) c.requires.few) in
-    let before = all_along plan (plan_fields c.self.inside.plan.now) c.self.inside.services.items c.as_mut_slice-services.result.now c.self.inside.table records records
-    (sym seen.plan_is) (sym c.as_mut_slice-services.ensures.value) refl seen.all in
+    let before = all_along plan (plan_fields c.self.inside.plan.now) c.self.inside.services.receivers.items c.self.inside.services.receivers.items c.self.inside.table records records
+    (sym seen.plan_is) refl refl seen.all in
     let known : is_pid_of plan (fields_of c.args.bytes.now).pid ≡ true =
-    ap₂ is_pid_of (sym seen.plan_is) (sym (ap (λ (f : PacketFields). f.pid) c.in-Packet.ensures.1.fields_are)) ∙ sym (c.in-Ok-true.ensures.known records before) ∙ c.in-Ok-true.field-0-test in
+    ap₂ is_pid_of (sym seen.plan_is) (sym (ap (λ (f : PacketFields). f.pid) c.in-Packet.ensures.holds.1.fields_are)) ∙ sym (c.in-Ok-true.ensures.known records before) ∙ c.in-Ok-true.field-0-test in
     record {
       plan_is = seen.plan_is;
       stream = records_more plan records r c.self.inside.stream seen.stream few
-          (packet_is plan r c.in-Packet.moment true c.in-Packet.ensures.0 c.in-Packet.ensures.1.readable known);
-      all = all_along (plan_fields c.self.inside.plan.now) plan c.receive_packet.new.receivers (with_items c.self.inside.services c.receive_packet.new.receivers).items c.receive_packet.new.table
+          (packet_is plan r c.in-Packet.moment true c.in-Packet.ensures.holds.0 c.in-Packet.ensures.holds.1.readable known);
+      all = all_along (plan_fields c.self.inside.plan.now) plan c.receive_packet.new.services.receivers.items c.receive_packet.new.services.receivers.items c.receive_packet.new.table
           (records ++ packet_record c.in-Packet.moment c.args.bytes.now ∷ []) (records ++ r ∷ [])
-          seen.plan_is (sym (with_items_is c.self.inside.services c.receive_packet.new.receivers (c.receive_packet.ensures.count ∙ c.as_mut_slice-services.ensures.len)))
+          seen.plan_is refl
           (ap (λ (t : ReadRecord). records ++ t ∷ []) (sym same))
           (c.in-Ok-true.ensures.received records (few_records plan records r c.self.inside.stream seen.stream few) before);
     }
@@ -71,20 +69,20 @@ pub returns-in-Ok-false-clause-received : goal.returns-in-Ok-false-clause-receiv
 returns-in-Ok-false-clause-received g c = λ plan records has.
     let seen : HasReceived plan records _ = (subst (λ (v : ReceiverState). HasReceived plan records v) (sym c.self.view_is) has) in
     let r : ReadRecord = packet_with c.args.moment c.args.bytes.now in
-    let same : r ≡ packet_record c.in-Packet.moment c.args.bytes.now = ap (λ (m : Option ℕ). packet_with m c.args.bytes.now) c.in-Packet.ensures.0 in
+    let same : r ≡ packet_record c.in-Packet.moment c.args.bytes.now = ap (λ (m : Option ℕ). packet_with m c.args.bytes.now) c.in-Packet.ensures.holds.0 in
     let few : c.self.inside.stream.records < 2 ^ 32 = (subst (λ (v : ReceiverState). v.stream.records < 2 ^ 32) (sym c.self.view_is) c.requires.few) in
-    let before = all_along plan (plan_fields c.self.inside.plan.now) c.self.inside.services.items c.as_mut_slice-services.result.now c.self.inside.table records records
-    (sym seen.plan_is) (sym c.as_mut_slice-services.ensures.value) refl seen.all in
+    let before = all_along plan (plan_fields c.self.inside.plan.now) c.self.inside.services.receivers.items c.self.inside.services.receivers.items c.self.inside.table records records
+    (sym seen.plan_is) refl refl seen.all in
     let known : is_pid_of plan (fields_of c.args.bytes.now).pid ≡ false =
-    ap₂ is_pid_of (sym seen.plan_is) (sym (ap (λ (f : PacketFields). f.pid) c.in-Packet.ensures.1.fields_are)) ∙ sym (c.in-Ok-false.ensures.known records before) ∙ c.in-Ok-false.field-0-test in
+    ap₂ is_pid_of (sym seen.plan_is) (sym (ap (λ (f : PacketFields). f.pid) c.in-Packet.ensures.holds.1.fields_are)) ∙ sym (c.in-Ok-false.ensures.known records before) ∙ c.in-Ok-false.field-0-test in
     record {
       plan_is = seen.plan_is;
       stream = other_more plan records r c.self.inside.stream seen.stream few
           c.saturating_add-self-inside-in-Ok-false.result c.saturating_add-self-inside-in-Ok-false.ensures
-          (packet_is plan r c.in-Packet.moment false c.in-Packet.ensures.0 c.in-Packet.ensures.1.readable known);
-      all = all_along (plan_fields c.self.inside.plan.now) plan c.receive_packet.new.receivers (with_items c.self.inside.services c.receive_packet.new.receivers).items c.receive_packet.new.table
+          (packet_is plan r c.in-Packet.moment false c.in-Packet.ensures.holds.0 c.in-Packet.ensures.holds.1.readable known);
+      all = all_along (plan_fields c.self.inside.plan.now) plan c.receive_packet.new.services.receivers.items c.receive_packet.new.services.receivers.items c.receive_packet.new.table
           (records ++ packet_record c.in-Packet.moment c.args.bytes.now ∷ []) (records ++ r ∷ [])
-          seen.plan_is (sym (with_items_is c.self.inside.services c.receive_packet.new.receivers (c.receive_packet.ensures.count ∙ c.as_mut_slice-services.ensures.len)))
+          seen.plan_is refl
           (ap (λ (t : ReadRecord). records ++ t ∷ []) (sym same))
           (c.in-Ok-false.ensures.received records (few_records plan records r c.self.inside.stream seen.stream few) before);
     }
@@ -93,19 +91,19 @@ pub returns-in-Err-clause-received : goal.returns-in-Err-clause-received
 returns-in-Err-clause-received g c = λ plan records has.
     let seen : HasReceived plan records _ = (subst (λ (v : ReceiverState). HasReceived plan records v) (sym c.self.view_is) has) in
     let r : ReadRecord = packet_with c.args.moment c.args.bytes.now in
-    let same : r ≡ packet_record c.in-Packet.moment c.args.bytes.now = ap (λ (m : Option ℕ). packet_with m c.args.bytes.now) c.in-Packet.ensures.0 in
+    let same : r ≡ packet_record c.in-Packet.moment c.args.bytes.now = ap (λ (m : Option ℕ). packet_with m c.args.bytes.now) c.in-Packet.ensures.holds.0 in
     let few : c.self.inside.stream.records < 2 ^ 32 = (subst (λ (v : ReceiverState). v.stream.records < 2 ^ 32) (sym c.self.view_is) c.requires.few) in
-    let before = all_along plan (plan_fields c.self.inside.plan.now) c.self.inside.services.items c.as_mut_slice-services.result.now c.self.inside.table records records
-    (sym seen.plan_is) (sym c.as_mut_slice-services.ensures.value) refl seen.all in
+    let before = all_along plan (plan_fields c.self.inside.plan.now) c.self.inside.services.receivers.items c.self.inside.services.receivers.items c.self.inside.table records records
+    (sym seen.plan_is) refl refl seen.all in
     let known : is_pid_of plan (fields_of c.args.bytes.now).pid ≡ true =
-    ap₂ is_pid_of (sym seen.plan_is) (sym (ap (λ (f : PacketFields). f.pid) c.in-Packet.ensures.1.fields_are)) ∙ c.in-Err.ensures.of_plan records before in
+    ap₂ is_pid_of (sym seen.plan_is) (sym (ap (λ (f : PacketFields). f.pid) c.in-Packet.ensures.holds.1.fields_are)) ∙ c.in-Err.ensures.of_plan records before in
     record {
       plan_is = seen.plan_is;
       stream = records_more plan records r c.self.inside.stream seen.stream few
-          (packet_is plan r c.in-Packet.moment true c.in-Packet.ensures.0 c.in-Packet.ensures.1.readable known);
-      all = all_along (plan_fields c.self.inside.plan.now) plan c.receive_packet.new.receivers (with_items c.self.inside.services c.receive_packet.new.receivers).items c.receive_packet.new.table
+          (packet_is plan r c.in-Packet.moment true c.in-Packet.ensures.holds.0 c.in-Packet.ensures.holds.1.readable known);
+      all = all_along (plan_fields c.self.inside.plan.now) plan c.receive_packet.new.services.receivers.items c.receive_packet.new.services.receivers.items c.receive_packet.new.table
           (records ++ packet_record c.in-Packet.moment c.args.bytes.now ∷ []) (records ++ r ∷ [])
-          seen.plan_is (sym (with_items_is c.self.inside.services c.receive_packet.new.receivers (c.receive_packet.ensures.count ∙ c.as_mut_slice-services.ensures.len)))
+          seen.plan_is refl
           (ap (λ (t : ReadRecord). records ++ t ∷ []) (sym same))
           (c.in-Err.ensures.received records (few_records plan records r c.self.inside.stream seen.stream few) before);
     }
