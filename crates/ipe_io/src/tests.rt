@@ -192,12 +192,13 @@ fn a_file_is_read_as_it_was_written(rt: HostRuntime) -> Result<(), Fail> {
 }
 
 /// What a source lends and what it moves are together the file's bytes in order. A record that lies across the end of the
-/// buffer is moved, and those behind it are lent again: all but three of 744 here, and the last 128 bytes.
+/// buffer is moved, and those after it are lent again: all but three of 744 here, and the last 128 bytes.
 #[test]
 fn a_source_lends_what_it_holds(rt: HostRuntime) -> Result<(), Fail> {
-    let text = long_text(rt.alloc())?;
+    let mut text = long_text(rt.alloc())?;
+    let half = long_text(rt.alloc())?;
+    text.extend_from_slice(&half)?;
     let mut sink = StdSink::new(fs::create(&rt, "ipe_io_g")?);
-    put_all(&mut sink, &text)?;
     put_all(&mut sink, &text)?;
     let mut source = StdSource::new(rt.alloc(), fs::open(&rt, "ipe_io_g")?)?;
     let mut bytes = Vec::new(rt.alloc());
@@ -218,31 +219,8 @@ fn a_source_lends_what_it_holds(rt: HostRuntime) -> Result<(), Fail> {
         bytes.extend_from_slice(piece)?;
     }
     assert_eq!(rt; fill(&mut source, &mut record), Ok(0));
-    assert!(rt; bytes.len() == 140_000);
-    assert_eq!(rt; &bytes[..70_000], text.as_slice());
-    assert_eq!(rt; &bytes[70_000..], text.as_slice());
+    assert_eq!(rt; bytes.as_slice(), text.as_slice());
     fs::remove_file(&rt, "ipe_io_g")?;
-    Ok(())
-}
-
-/// A file of many small pieces, longer than what is held back, has all of them in order.
-#[test]
-fn a_rack_writes_many_small_pieces(rt: HostRuntime) -> Result<(), Fail> {
-    let text = long_text(rt.alloc())?;
-    let mut rack = FileRack::new(rt.alloc(), rt);
-    assert_eq!(rt; rack.add(rt.alloc(), "ipe_io_h"), Ok(0));
-    for _ in 0..2 {
-        for piece in text.chunks(97) {
-            put_file(&mut rack, 0, piece)?;
-        }
-    }
-    rack.flush(0)?;
-    let mut shelf = FileShelf::new(rt);
-    let written = shelf.load(rt.alloc(), "ipe_io_h")?;
-    assert!(rt; written.len() == 140_000);
-    assert_eq!(rt; &written[..70_000], text.as_slice());
-    assert_eq!(rt; &written[70_000..], text.as_slice());
-    fs::remove_file(&rt, "ipe_io_h")?;
     Ok(())
 }
 
