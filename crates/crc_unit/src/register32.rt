@@ -4,6 +4,7 @@
 //! Few bytes go through tables alone; many are first divided by a multiple of five terms.
 
 ghost use Rattle.std.specs.Prelude.{◌≡◌};
+ghost use Rattle.wire_spec.specs.Crc as crc;
 ghost use Rattle.wire_spec.specs.Crc.{crc32_remainder};
 
 use crate::five_terms::{self, LONGEST};
@@ -11,6 +12,9 @@ use crate::sixteens;
 
 /// The register before the first byte: each bit is 1 (ISO/IEC 13818-1 annex A).
 const START: u32 = 0xFFFF_FFFF;
+
+/// How many bytes a CRC-32 has.
+const SIZE: usize = 4;
 
 /// The fewest bytes for which the division by five terms is the faster way.
 const MANY: usize = 512;
@@ -39,4 +43,17 @@ pub fn crc32(bytes: &[u8]) -> u32
     ensures { result ≡ crc32_remainder 0xFFFF_FFFF bytes.now }
 {
     crc32_step(START, bytes)
+}
+
+/// Whether the last four bytes are the CRC-32 of all before them, as in a whole unit. Fewer than four have none.
+#[tactic(auto, using(crc_law::proofs::CheckSum::short_has_no_crc))]
+pub fn ends_with_crc(bytes: &[u8]) -> bool
+    ensures { result ≡ crc.ends_with_crc bytes.now }
+{
+    if bytes.len() < SIZE {
+        return false;
+    }
+    let end = bytes.len() - SIZE;
+    let told = u32::from_be_bytes([bytes[end], bytes[end + 1], bytes[end + 2], bytes[end + 3]]);
+    crc32(&bytes[..end]) == told
 }

@@ -3,11 +3,10 @@
 //! The front of some bytes comes in, and how long the section there is goes out.
 
 ghost use Rattle.std.specs.Prelude.{◌≡◌, ◌≤◌, length};
-ghost use Rattle.wire_spec.specs.Crc.{ends_with_crc};
 ghost use Rattle.section_spec.specs.Section.{section_length, section_span, section_check};
 ghost use Rattle.unit_stream.specs.Form.{span_told};
 
-use crc_unit::crc32;
+use crc_unit::ends_with_crc;
 use unit_stream::{Span, UnitForm};
 
 /// Bytes before the body: table_id, then section_length and the four bits before it (ISO/IEC 13818-1 clause 2.4.4).
@@ -66,19 +65,6 @@ pub(crate) fn span_of(prefix: &[u8]) -> Span
     }
 }
 
-/// Whether the last four bytes are the CRC_32 of all before them (ISO/IEC 13818-1 annex A).
-#[tactic(auto, using(crc_law::proofs::CheckSum::short_has_no_crc))]
-pub(crate) fn has_its_crc(unit: &[u8]) -> bool
-    ensures checked { result ≡ ends_with_crc unit.now }
-{
-    if unit.len() < CRC {
-        return false;
-    }
-    let end = unit.len() - CRC;
-    let told = u32::from_be_bytes([unit[end], unit[end + 1], unit[end + 2], unit[end + 3]]);
-    crc32(&unit[..end]) == told
-}
-
 /// Whether section_syntax_indicator is 1 and the CRC_32 is right.
 #[tactic(auto, using(crate::proofs::CheckSum::section_check_short))]
 pub(crate) fn is_checked(unit: &[u8]) -> bool
@@ -87,7 +73,7 @@ pub(crate) fn is_checked(unit: &[u8]) -> bool
     if unit.len() < HEAD || unit[LENGTH] < SYNTAX {
         return false;
     }
-    has_its_crc(unit)
+    ends_with_crc(unit)
 }
 
 /// Sections as units of a transport stream: the table_id alone stands in the first packet, and the longest has 4,096 bytes

@@ -8,9 +8,9 @@ ghost use Rattle.std.specs.Result.{result_err};
 ghost use Rattle.section_spec.specs.Section.{IsWritableSection, is_section, has_right_length, section_bytes, section_fields, section_front};
 ghost use Rattle.section_codec.specs.Views.{fields_in, refusal};
 
-use crate::form::{CRC, HEAD, LEAST, LENGTH, MOST, SYNTAX, TABLE_ID, has_its_crc, length_of};
+use crate::form::{CRC, HEAD, LEAST, LENGTH, MOST, SYNTAX, TABLE_ID, length_of};
 use byte_slices::put;
-use crc_unit::crc32;
+use crc_unit::{crc32, ends_with_crc};
 
 /// A section: its table_id, and what stands between section_length and the CRC_32.
 #[derive(Clone, Copy, Debug, PartialEq, Eq)]
@@ -59,7 +59,7 @@ pub fn parse(bytes: &[u8]) -> Result<SectionRef<'_>, SectionFault>
     if bytes[LENGTH] < SYNTAX {
         return Err(SectionFault::Syntax);
     }
-    if !has_its_crc(bytes) {
+    if !ends_with_crc(bytes) {
         return Err(SectionFault::Crc);
     }
     Ok(fields_of(bytes))

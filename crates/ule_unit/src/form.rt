@@ -3,11 +3,10 @@
 //! The front of some bytes comes in, and how long the SNDU there is goes out.
 
 ghost use Rattle.std.specs.Prelude.{◌≡◌};
-ghost use Rattle.wire_spec.specs.Crc.{ends_with_crc};
 ghost use Rattle.ts_spec.specs.Sndu.{sndu_span};
 ghost use Rattle.unit_stream.specs.Form.{span_told};
 
-use crc_unit::crc32;
+use crc_unit::ends_with_crc;
 use unit_stream::{Span, UnitForm};
 
 /// Bytes before the NPA address or the PDU: D and Length, then Type (RFC 4326 section 4).
@@ -57,19 +56,6 @@ pub(crate) fn span_of(prefix: &[u8]) -> Span
     }
 }
 
-/// Whether the last four bytes are the CRC-32 of all before them (RFC 4326 section 4.6).
-#[tactic(auto, using(crc_law::proofs::CheckSum::short_has_no_crc))]
-pub(crate) fn has_its_crc(unit: &[u8]) -> bool
-    ensures checked { result ≡ ends_with_crc unit.now }
-{
-    if unit.len() < CRC {
-        return false;
-    }
-    let end = unit.len() - CRC;
-    let told = u32::from_be_bytes([unit[end], unit[end + 1], unit[end + 2], unit[end + 3]]);
-    crc32(&unit[..end]) == told
-}
-
 /// SNDUs as units of a transport stream: D and Length, 2 bytes, stand in the first packet (RFC 4326 section 6), and the
 /// longest has 32,767 bytes after its Type (section 4.2).
 pub struct UleForm;
@@ -94,7 +80,7 @@ impl UnitForm for UleForm {
     }
 
     fn check(unit: &[u8]) -> bool {
-        has_its_crc(unit)
+        ends_with_crc(unit)
     }
 
     ghost lawful = { sndu_lawful };

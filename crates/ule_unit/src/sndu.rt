@@ -9,9 +9,9 @@ ghost use Rattle.ts_spec.specs.Sndu.{is_sndu, sndu_fields, has_right_length, snd
 ghost use Rattle.ule_unit.specs.Views.{fields_in, refusal};
 ghost use Rattle.ule_unit.specs.Writable.{IsAddress};
 
-use crate::form::{ADDRESS, CRC, D, HEAD, NO_ADDRESS, TYPE, has_its_crc, span_of};
+use crate::form::{ADDRESS, CRC, D, HEAD, NO_ADDRESS, TYPE, span_of};
 use byte_slices::put;
-use crc_unit::crc32;
+use crc_unit::{crc32, ends_with_crc};
 use unit_stream::Span;
 
 /// An SNDU: its NPA address, its Type, and what stands after these and before the CRC-32.
@@ -57,7 +57,7 @@ pub fn read(unit: &[u8]) -> Result<Sndu<'_>, UleFault>
     if !is_whole(unit) {
         return Err(UleFault::Length);
     }
-    if !has_its_crc(unit) {
+    if !ends_with_crc(unit) {
         return Err(UleFault::Crc);
     }
     Ok(fields_of(unit))
