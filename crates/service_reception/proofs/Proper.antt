@@ -9,7 +9,7 @@ use Rattle.ts_spec.specs.Events.{Event, unit_event, bad_check_event, delimit_eve
 use Rattle.service_reception.specs.Taking.{IsProper}
 
 module _ (form : UnitForm) (lawful : IsLawful form) where
-  abbrev AllProper : List Event → Type 0
+  abbrev pub AllProper : List Event → Type 0
   AllProper [] = Unit {0}
   AllProper (event ∷ events) = IsProper form event × AllProper events
 
@@ -79,6 +79,14 @@ module _ (form : UnitForm) (lawful : IsLawful form) where
       proper_append (misfit_events (packet_of arrival) ++ started) (events_of form behind)
       (proper_append (misfit_events (packet_of arrival)) started (proper_misfit _) (proper_starts arrival behind (unit_starts form (packet_of arrival))))
       (proper_events behind)
+
+  behind_proper : (given events : List Event) → AllProper (given ++ events) → AllProper events
+  behind_proper [] events all = all
+  behind_proper (one ∷ given) events all = behind_proper given events all.1
+
+  -- events after some of them
+  pub events_proper : (packets : List Arrival) (given events : List Event) → events_of form packets ≡ given ++ events → AllProper events
+  events_proper packets given events same = behind_proper given events (subst AllProper same (proper_events packets))
 
   last_proper : (given : List Event) (event : Event) (left : List Event) → AllProper ((given ++ event ∷ []) ++ left) → IsProper form event
   last_proper [] event left all = all.0

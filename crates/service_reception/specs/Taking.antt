@@ -1,15 +1,14 @@
--- The events of a packet, taken one after another.
-use Rattle.std.specs.Prelude.{◌≡◌, ℕ, ◌^◌, ◌<◌, List, [], ◌∷◌, ◌++◌, length, flat_map}
+-- The events of a packet, heard one after another.
+use Rattle.std.specs.Prelude.{◌≡◌, ℕ, ◌^◌, ◌<◌, List, [], ◌∷◌, ◌++◌, length, flat_map, Result, OnOk, OnErr}
+use Rattle.wire_spec.specs.Causes.{HasCause}
 use Rattle.ts_spec.specs.Form.{UnitForm, IsUnit}
-use Rattle.ts_spec.specs.Packet.{PacketFields}
-use Rattle.ts_spec.specs.Received.{Arrival}
-use Rattle.ts_spec.specs.Events.{Event, unit_event, bad_check_event, delimit_event, bad_length_event, events_of}
-use Rattle.plan_spec.specs.Plan.{ServiceFields}
+use Rattle.ts_spec.specs.Events.{Event, unit_event, bad_check_event, delimit_event, bad_length_event}
+use Rattle.plan_spec.specs.Plan.{KindFields, ServiceFields}
 use Rattle.reception_spec.specs.Units.{delivered_by_unit}
 use Rattle.reception_spec.specs.Numbers.{PidNumbers, unit_numbers}
-use Rattle.unit_stream.specs.Joining.{JoinerState, Stands, IsGiving}
 use Rattle.service_reception.specs.declared.counts.Counts.{Counts}
 use Rattle.service_reception.specs.Counting.{on_pid, of_units, units_in, with_events, counted_event, counted_units}
+use Rattle.service_reception.specs.Services.{IsServed}
 use Rattle.service_reception.specs.Telling.{Told, StopsWithin}
 
 -- the delivered datagrams of the units among events
@@ -28,42 +27,38 @@ pub record CountsEvent (service : ServiceFields) (event : Event) (old new : Coun
   pub on_pid_are : on_pid new ≡ counted_event (on_pid old) event
   pub of_units_are : of_units new ≡ counted_units (of_units old) (unit_numbers service (units_in (event ∷ [])))
 
--- these events of the packets that a joiner was fed are given, and they are counted
-pub record IsTaking (form : UnitForm) (service : ServiceFields) (joiner : JoinerState) (packet : PacketFields) (packets : List Arrival) (links : PidNumbers) (counts : Counts) (given : List Event) : Type 0 where
-  pub gives : IsGiving form joiner packet packets given
-  pub few : length (events_of form packets) < 2 ^ 64
-  pub on_pid_are : on_pid counts ≡ with_events links given
-  pub of_units_are : of_units counts ≡ unit_numbers service (units_in given)
+-- these events are counted, with the numbers of the packets themselves
+pub record HasCounted (service : ServiceFields) (links : PidNumbers) (counts : Counts) (events : List Event) : Type 0 where
+  pub on_pid_are : on_pid counts ≡ with_events links events
+  pub of_units_are : of_units counts ≡ unit_numbers service (units_in events)
 
--- all are given and counted
-pub record HasTakenPackets (form : UnitForm) (service : ServiceFields) (joiner : JoinerState) (packets : List Arrival) (links : PidNumbers) (counts : Counts) : Type 0 where
-  pub stands : Stands form joiner packets
-  pub on_pid_are : on_pid counts ≡ with_events links (events_of form packets)
-  pub of_units_are : of_units counts ≡ unit_numbers service (units_in (events_of form packets))
+-- what the listener of a service has: the counts, the service's filter and number, the outlet, and how its deliveries went
+pub record Hearing (T A E : Type 0) : Type 0 where
+  pub counts : Counts
+  pub filter : List (List ℕ)
+  pub number : ℕ
+  pub outlet : T
+  pub went : Result A E
 
--- some events more are given and counted, delivered or not
-pub record CountsMore (form : UnitForm) (service : ServiceFields) (joiner : JoinerState) (packet : PacketFields) (packets : List Arrival) (links : PidNumbers) (counts : Counts) (given : List Event) : Type 0 where
-  pub events : List Event
-  pub taking : IsTaking form service joiner packet packets links counts (given ++ events)
+-- The outlet's words stand before: what it stands for, what it refused, its services and its faults.
+module _ {T A E : Type 0} (StandsFor : T → List (ℕ × List ℕ) → Type 0) (Refused : T → ℕ → List ℕ → Type 0) where
+  -- some events were heard: they are counted, and their datagrams delivered up to the first that was refused
+  pub record HasHeardAll (it : ServiceFields) (events : List Event) (old new : Hearing T A E) : Type 0 where
+    pub counted : (links : PidNumbers) (given : List Event) → length (given ++ events) < 2 ^ 64 → HasCounted it links old.counts given → HasCounted it links new.counts (given ++ events)
+    pub told : OnOk old.went (OnOk new.went (Told (StandsFor old.outlet) (StandsFor new.outlet) old.number (delivered_of it events)))
+    pub failed : OnOk old.went (OnErr new.went (StopsWithin (StandsFor old.outlet) (StandsFor new.outlet) (Refused new.outlet old.number) old.number (delivered_of it events)))
+    pub stays : OnErr old.went ((new.went ≡ old.went) × (new.outlet ≡ old.outlet))
 
--- some events more are taken, and their datagrams delivered
-pub record TakesMore (form : UnitForm) (service : ServiceFields) (joiner : JoinerState) (packet : PacketFields) (packets : List Arrival) (links : PidNumbers) (counts : Counts) (given : List Event)
-    (old new : List (ℕ × List ℕ) → Type 0) (number : ℕ) : Type 0 where
-  pub events : List Event
-  pub taking : IsTaking form service joiner packet packets links counts (given ++ events)
-  pub told : Told old new number (delivered_of service events)
-
--- all the others are taken, and their datagrams delivered
-pub record TakesAll (form : UnitForm) (service : ServiceFields) (joiner : JoinerState) (packets : List Arrival) (links : PidNumbers) (counts : Counts) (given : List Event)
-    (old new : List (ℕ × List ℕ) → Type 0) (number : ℕ) : Type 0 where
-  pub events : List Event
-  pub events_are : events_of form packets ≡ given ++ events
-  pub taken : HasTakenPackets form service joiner packets links counts
-  pub told : Told old new number (delivered_of service events)
-
--- a datagram of the others was refused
-pub record TakesPart (form : UnitForm) (service : ServiceFields) (packets : List Arrival) (given : List Event)
-    (old new : List (ℕ × List ℕ) → Type 0) (Refused : List ℕ → Type 0) (number : ℕ) : Type 0 where
-  pub events : List Event
-  pub events_are : events_of form packets ≡ given ++ events
-  pub stops : StopsWithin old new Refused number (delivered_of service events)
+module _ {T A E : Type 0} (StandsFor : T → List (ℕ × List ℕ) → Type 0) (Refused : T → ℕ → List ℕ → Type 0) (services faults : T → ℕ) where
+  -- one event more is heard: it is counted, and its datagrams are delivered where none was refused before
+  pub record HearsEvent (form : UnitForm) (IsOfKind : KindFields → Type 0) (event : Event) (old new : Hearing T A E) : Type 0 where
+    pub filter_is : new.filter ≡ old.filter
+    pub number_is : new.number ≡ old.number
+    pub services_are : services new.outlet ≡ services old.outlet
+    pub counted : (it : ServiceFields) → IsServed IsOfKind old.filter it → IsProper form event → CountsEvent it event old.counts new.counts
+    pub told : (it : ServiceFields) → IsServed IsOfKind old.filter it → IsProper form event
+        → OnOk old.went (OnOk new.went (Told (StandsFor old.outlet) (StandsFor new.outlet) old.number (delivered_of it (event ∷ []))))
+    pub failed : (it : ServiceFields) → IsServed IsOfKind old.filter it → IsProper form event
+        → OnOk old.went (OnErr new.went (StopsWithin (StandsFor old.outlet) (StandsFor new.outlet) (Refused new.outlet old.number) old.number (delivered_of it (event ∷ []))))
+    pub cause : OnOk old.went (HasCause (faults old.outlet) (faults new.outlet) new.went)
+    pub stays : OnErr old.went ((new.went ≡ old.went) × (new.outlet ≡ old.outlet))

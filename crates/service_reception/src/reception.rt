@@ -3,11 +3,11 @@ ghost use Rattle.std.specs.Prelude.{◌≡◌};
 
 use crate::carried::UnitReader;
 use crate::counts::Counts;
-use crate::events::take_events;
+use crate::events::ServiceListener;
 use addr_rules::MacList;
 use ipe_io::{Failed, Outlet};
 use std::alloc::Allocator;
-use std::marker::Model;
+use std::marker::{Model, PhantomData};
 use ts_packet::{Continuity, Packet};
 use unit_stream::Joiner;
 
@@ -85,15 +85,16 @@ impl<K: UnitReader, A: Allocator> Reception<K, A> {
     {
         let link = self.continuity.see(bytes, packet);
         self.counts.count_link(link);
-        self.joiner.feed(link, packet, moment);
-        take_events(
-            &mut self.joiner,
-            &mut self.counts,
-            packet,
+        let mut listener: ServiceListener<'_, '_, '_, K, T> = ServiceListener {
+            counts: &mut self.counts,
             filter,
             service,
             outlet,
-        )
+            result: Ok(()),
+            kind: PhantomData,
+        };
+        self.joiner.take(link, packet, moment, &mut listener);
+        listener.result
     }
 
     /// The numbers of all that was taken.
