@@ -16,11 +16,14 @@ const DEGREE: usize = 300;
 /// How many of the last bytes are not divided: 300 are needed, and 304 are whole steps of sixteen.
 const REST: usize = 304;
 
-/// The most bytes that are divided at once.
-pub(crate) const LONGEST: usize = 2048;
+/// The most bytes that are divided at once: a datagram of 1,500 bytes in its unit.
+pub(crate) const LONGEST: usize = 1536;
 
-/// 300 bytes before the quotient, and a place for each byte of a message; those of the rest stay zeros.
-const WINDOW: usize = DEGREE + LONGEST;
+/// How many bytes before it the nearest term of the quotient stands that falls on a byte.
+const NEAREST: usize = 145;
+
+/// 300 bytes before the quotient, the quotient, and those zeros after it that are read when the rest is subtracted.
+const WINDOW: usize = LONGEST + DEGREE - NEAREST;
 
 /// What is left of a message's byte when the terms of the quotient are subtracted that fall on it.
 ///

@@ -66,7 +66,7 @@ fn sixteen_bytes_a_step_give_what_one_byte_a_step_gives(rt: HostRuntime) {
     }
 }
 
-/// From 512 bytes on pieces of 2,048 are divided by five terms, and of a last one of 304 at least too: the plain body
+/// From 512 bytes on pieces of 1,536 are divided by five terms, and of a last one of 304 at least too: the plain body
 /// gives the same below, at and above each of these borders.
 #[test]
 fn division_by_five_terms_gives_what_one_byte_a_step_gives(rt: HostRuntime) {
@@ -74,7 +74,7 @@ fn division_by_five_terms_gives_what_one_byte_a_step_gives(rt: HostRuntime) {
     for (place, byte) in bytes.iter_mut().enumerate() {
         *byte = (place % 251) as u8 ^ (place / 251) as u8;
     }
-    for length in [303, 304, 511, 512, 640, 2047, 2048, 2049, 2351, 2352, 5000] {
+    for length in [303, 304, 511, 512, 640, 1535, 1536, 1537, 1839, 1840, 5000] {
         let piece = &bytes[..length];
         assert_eq!(rt;
             crc32_step(0x1234_5678, piece),

@@ -9,7 +9,7 @@ use Rattle.crc_unit.proofs.Division.{rest_run}
 use Rattle.crc_unit.proofs.five_terms.crc32_step.Goals as goal
 
 pub divide-requires-clause-zeros : goal.divide-requires-clause-zeros
-divide-requires-clause-zeros c i = get_or-zeros 2348 i
+divide-requires-clause-zeros c i = get_or-zeros 1691 i
 
 pub returns : goal.returns
 returns c =

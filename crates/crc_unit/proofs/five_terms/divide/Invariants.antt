@@ -6,7 +6,7 @@ use Rattle.crc_unit.proofs.five_terms.divide.Given as goal
 
 abbrev pub invariant-loop-place : goal.invariant-loop-place
 invariant-loop-place l = record {
-  long : length l.window ≡ 2348;
+  long : length l.window ≡ 1691;
   bytes : AreBytes l.window;
   own : (i : ℕ) → i < 4 → get_or l.window i 0 ≡ get_or (to_be_bytes w32 l.fn.register) i 0;
   before : (i : ℕ) → 4 ≤ i → i < 300 → get_or l.window i 0 ≡ 0;

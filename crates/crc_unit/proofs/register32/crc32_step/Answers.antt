@@ -35,11 +35,11 @@ returns c =
     let rest : List ℕ = c.as_chunks.result.1.now in
     let small : start < 2 ^ 32 = omega arith in
     let all : AreBytes bytes = All-from_get_or (λ x. x < 2 ^ 8) bytes 0 (λ i within. omega (arith, c.type_inv.bytes i)) in
-    let k : ℕ = length bytes / 2048 in
-    let within : k * 2048 ≤ length bytes = omega arith in
+    let k : ℕ = length bytes / 1536 in
+    let within : k * 1536 ≤ length bytes = omega arith in
     let done : length pieces ≤ c.loop-piece.piece-index = omega arith in
     let whole : joined pieces ++ rest ≡ bytes =
-    ap₂ (λ (x : List (List ℕ)) (y : List ℕ). joined x ++ y) c.as_chunks.ensures.front c.as_chunks.ensures.back ∙ joined_chunks 2048 k bytes within in
+    ap₂ (λ (x : List (List ℕ)) (y : List ℕ). joined x ++ y) c.as_chunks.ensures.front c.as_chunks.ensures.back ∙ joined_chunks 1536 k bytes within in
     let after : running ≡ crc32_run start (joined pieces) =
     sym (ap (λ l. crc32_run running (joined l)) (drop_all c.loop-piece.piece-index pieces done)) ∙ c.loop-piece.invariant.ahead in
     c.crc32_step-2.ensures
