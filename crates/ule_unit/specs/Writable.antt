@@ -1,5 +1,7 @@
 -- What the bytes of an SNDU can be written of.
-use Rattle.std.specs.Prelude.{◌≡◌, ℕ, ◌<◌, ◌≤◌, ◌^◌, List, length, Option, Some, None}
+use Rattle.std.specs.Prelude.{◌≡◌, ℕ, ◌<◌, ◌≤◌, ◌^◌, List, ◌++◌, length, Option, Some, None}
+use Rattle.std.specs.Int.{w16, to_be_bytes}
+use Rattle.ts_spec.specs.Sndu.{address_bytes, head_number}
 
 -- an address of 6 bytes (RFC 4326 section 4.5), or none
 abbrev pub IsAddress : Option (List ℕ) → Type 0
@@ -11,3 +13,7 @@ pub record IsWritable (npa : Option (List ℕ)) (first_type : ℕ) (pdu : List �
   pub address : IsAddress npa
   pub sixteen_bits : first_type < 2 ^ 16
   pub size : length pdu ≤ 32757
+
+-- all before the PDU of an SNDU with this address and Type, where the PDU has so many bytes: D and Length, Type, and the address
+abbrev pub sndu_head : Option (List ℕ) → ℕ → ℕ → List ℕ
+sndu_head npa first_type size = to_be_bytes w16 (head_number npa size) ++ to_be_bytes w16 first_type ++ address_bytes npa

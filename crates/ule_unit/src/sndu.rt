@@ -3,15 +3,15 @@
 //! Reading: one whole unit comes in, and its fields go out, or why it is no SNDU.
 //! Writing: an address, a Type and a PDU come in, and the unit goes into the caller's bytes.
 
-ghost use Rattle.std.specs.Prelude.{◌≡◌, ◌<◌, ◌≤◌, ◌+◌, ◌++◌, ℕ, List, Option, length, drop, true, IfOk, IfSome, is_ok, is_some};
+ghost use Rattle.std.specs.Prelude.{◌≡◌, ◌<◌, ◌≤◌, ◌+◌, ◌++◌, ℕ, List, Option, length, take, drop, true, IfOk, IfSome, is_ok, is_some};
 ghost use Rattle.std.specs.Result.{result_err};
 ghost use Rattle.ts_spec.specs.Sndu.{is_sndu, sndu_fields, has_right_length, sndu_bytes, sndu_front, address_bytes, head_number};
 ghost use Rattle.ule_unit.specs.Views.{fields_in, refusal};
-ghost use Rattle.ule_unit.specs.Writable.{IsAddress};
+ghost use Rattle.ule_unit.specs.Writable.{IsAddress, sndu_head};
 
 use crate::form::{ADDRESS, CRC, D, HEAD, NO_ADDRESS, TYPE, span_of};
-use byte_slices::put;
-use crc_unit::{crc32, ends_with_crc};
+use byte_slices::{as_bytes, put};
+use crc_unit::{crc32, crc32_step, ends_with_crc};
 use unit_stream::Span;
 
 /// An SNDU: its NPA address, its Type, and what stands after these and before the CRC-32.
@@ -126,6 +126,28 @@ pub fn write(npa: Option<[u8; 6]>, ether_type: u16, datagram: &[u8], into: &mut 
     end + CRC
 }
 
+/// Writes the SNDU as `write` does, but without its datagram: what stands before it and, right after that, the CRC-32; answers
+/// how many bytes stand before it.
+///
+/// The SNDU's bytes are these, then those of the datagram, then the four of the CRC-32.
+pub fn write_around(
+    npa: Option<[u8; 6]>,
+    ether_type: u16,
+    datagram: &[u8],
+    into: &mut [u8],
+) -> usize
+    requires size { length datagram.now ≤ 32757 }
+    requires room { 14 ≤ length into.old }
+    ensures most { result ≤ 10 }
+    ensures written { sndu_bytes npa ether_type datagram.now ≡ take result into.new ++ (datagram.now ++ take 4 (drop result into.new)) }
+{
+    let start = write_head(npa, ether_type, datagram.len(), into);
+    let head = crc32(as_bytes(&into[..start]));
+    let sum = crc32_step(head, as_bytes(datagram));
+    put(into, start, &sum.to_be_bytes());
+    start
+}
+
 /// Bytes of the SNDU of so many bytes of a datagram, 32,757 at most: those that `write` writes.
 pub fn size(has_address: bool, datagram: usize) -> usize
     requires { datagram ≤ 32757 }
@@ -145,14 +167,25 @@ fn write_front(npa: Option<[u8; 6]>, ether_type: u16, datagram: &[u8], into: &mu
     ensures most { result ≤ length datagram.now + 10 }
     ensures written { into.new ≡ sndu_front npa ether_type datagram.now ++ drop result into.old }
 {
-    let head = first_number(&npa, datagram.len() as u16);
+    let start = write_head(npa, ether_type, datagram.len(), into);
+    put(into, start, datagram);
+    start + datagram.len()
+}
+
+/// Writes all before a datagram of so many bytes; answers where it ends.
+fn write_head(npa: Option<[u8; 6]>, ether_type: u16, datagram: usize, into: &mut [u8]) -> usize
+    requires size { datagram ≤ 32757 }
+    requires room { 10 ≤ length into.old }
+    ensures size { result ≡ length (sndu_head npa ether_type datagram) }
+    ensures most { result ≤ 10 }
+    ensures written { into.new ≡ sndu_head npa ether_type datagram ++ drop result into.old }
+{
+    let head = first_number(&npa, datagram as u16);
     put(into, 0, &head.to_be_bytes());
     put(into, TYPE, &ether_type.to_be_bytes());
     let address = bytes_of(&npa);
     put(into, HEAD, address);
-    let start = HEAD + address.len();
-    put(into, start, datagram);
-    start + datagram.len()
+    HEAD + address.len()
 }
 
 /// D and Length, as the number that the first two bytes are.

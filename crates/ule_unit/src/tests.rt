@@ -1,6 +1,6 @@
 //! SNDUs from outside: the example of RFC 4326 appendix B, and one whose CRC-32 an independent program gave.
 
-use crate::{Sndu, UleFault, UleForm, read, read_checked, write};
+use crate::{Sndu, UleFault, UleForm, read, read_checked, write, write_around};
 use unit_stream::{Span, UnitForm};
 
 /// RFC 4326 appendix B: an IPv6 datagram with an NPA address.
@@ -59,7 +59,7 @@ fn fields_are_read_and_each_fault_is_named(rt: HostRuntime) {
     assert_eq!(rt; read_checked(&long), None);
 }
 
-/// The same SNDUs are written of their fields, and no byte after them.
+/// The same SNDUs are written of their fields, and no byte after them; and what one has around its datagram.
 #[test]
 fn the_same_bytes_are_written(rt: HostRuntime) {
     let mut into = [0xEE; 80];
@@ -69,6 +69,11 @@ fn the_same_bytes_are_written(rt: HostRuntime) {
     assert_eq!(rt; &into[67..], [0xEE; 13].as_slice());
     let end = write(None, 0x0800, &WITHOUT_ADDRESS[4..24], &mut into);
     assert_eq!(rt; &into[..end], WITHOUT_ADDRESS.as_slice());
+    let mut around = [0; 14];
+    let head = write_around(Some(ADDRESS), 0x86DD, &WITH_ADDRESS[10..63], &mut around);
+    assert_eq!(rt; head, 10);
+    assert_eq!(rt; &around[..10], &WITH_ADDRESS[..10]);
+    assert_eq!(rt; &around[10..], &WITH_ADDRESS[63..]);
 }
 
 /// RFC 4326 sections 4.2 and 4.3: a length is told by two bytes, and End Indicators are no SNDU.
