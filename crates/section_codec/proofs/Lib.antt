@@ -1,3 +1,4 @@
 pub mod CheckSum
 pub mod Written
 pub mod Lengths
+pub mod Heads

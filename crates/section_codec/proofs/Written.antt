@@ -1,5 +1,5 @@
 -- The bytes that are written for a section: their length, their span, their check.
-use Rattle.std.proofs.Common.{◌≡◌, ℕ, ◌+◌, ◌-◌, ◌*◌, ◌/◌, ◌%◌, ◌^◌, ◌<◌, ◌≤◌, true, false, List, [], ◌++◌, length, refl, ap, sym, ◌∙◌, length-append, arith, eq-eqb}
+use Rattle.std.proofs.Common.{◌≡◌, ℕ, ◌+◌, ◌*◌, ◌/◌, ◌%◌, ◌^◌, ◌<◌, ◌≤◌, true, false, List, [], ◌++◌, length, refl, ap, sym, ◌∙◌, length-append, arith, eq-eqb}
 use Rattle.std.specs.Prelude.{slice_index, ◌==◌, nat_le}
 use Rattle.std.specs.Int.{w32, to_be_bytes}
 use Rattle.std.proofs.lemmas.Bool.{ne_eqb, le-ltb, le-leb}

@@ -1,2 +1,3 @@
 pub mod Views
 pub mod Spans
+pub mod Heads

@@ -12,7 +12,8 @@ mod section;
 pub use form::SectionForm;
 pub use laws::{a_written_section_reads_back, sections_are_lawful, sections_are_units};
 pub use section::{
-    SectionFault, SectionRef, parse, parse_checked, size, table_id, write, write_in_two,
+    SectionFault, SectionRef, parse, parse_checked, size, table_id, write, write_around,
+    write_in_two,
 };
 
 #[cfg(test)]

@@ -3,14 +3,15 @@
 //! Reading: one whole unit comes in, and its fields go out, or why it is no section.
 //! Writing: a table_id, the upper half of byte 1 and a body come in, and the section goes into the caller's bytes.
 
-ghost use Rattle.std.specs.Prelude.{◌≡◌, ◌≤◌, ◌+◌, ◌++◌, ℕ, List, true, length, drop, nat_lt, IfOk, IfSome, is_ok, is_some};
+ghost use Rattle.std.specs.Prelude.{◌≡◌, ◌≤◌, ◌+◌, ◌%◌, ◌++◌, ℕ, List, true, length, take, drop, nat_lt, IfOk, IfSome, is_ok, is_some};
 ghost use Rattle.std.specs.Result.{result_err};
 ghost use Rattle.section_spec.specs.Section.{IsWritableSection, is_section, has_right_length, section_bytes, section_fields, section_front};
+ghost use Rattle.section_codec.specs.Heads.{section_head};
 ghost use Rattle.section_codec.specs.Views.{fields_in, refusal};
 
 use crate::form::{CRC, HEAD, LEAST, LENGTH, MOST, SYNTAX, TABLE_ID, length_of};
-use byte_slices::put;
-use crc_unit::{crc32, ends_with_crc};
+use byte_slices::{as_bytes, put};
+use crc_unit::{crc32, crc32_step, ends_with_crc};
 
 /// A section: its table_id, and what stands between section_length and the CRC_32.
 #[derive(Clone, Copy, Debug, PartialEq, Eq)]
@@ -144,6 +145,23 @@ pub fn write_in_two(table_id: u8, top: u8, head: &[u8], rest: &[u8], into: &mut 
     end + CRC
 }
 
+/// Writes the section as `write_in_two` does, but without the second piece: what stands before it and, right after that, the
+/// CRC_32; answers how many bytes stand before it.
+///
+/// The section's bytes are these, then those of `rest`, then the four of the CRC_32.
+pub fn write_around(table_id: u8, top: u8, head: &[u8], rest: &[u8], into: &mut [u8]) -> usize
+    requires writable { IsWritableSection table_id top (head.now ++ rest.now) }
+    requires room { length head.now + 7 ≤ length into.old }
+    ensures size { result ≡ length head.now + 3 }
+    ensures written { section_bytes table_id top (head.now ++ rest.now) ≡ take result into.new ++ (rest.now ++ take 4 (drop result into.new)) }
+{
+    let start = write_head(table_id, top, head, rest.len(), into);
+    let before = crc32(as_bytes(&into[..start]));
+    let sum = crc32_step(before, as_bytes(rest));
+    put(into, start, &sum.to_be_bytes());
+    start
+}
+
 /// Writes all before the CRC_32; answers where it ends.
 fn write_front(table_id: u8, top: u8, head: &[u8], rest: &[u8], into: &mut [u8]) -> usize
     requires writable { IsWritableSection table_id top (head.now ++ rest.now) }
@@ -152,11 +170,23 @@ fn write_front(table_id: u8, top: u8, head: &[u8], rest: &[u8], into: &mut [u8])
     ensures most { result ≡ length head.now + length rest.now + 3 }
     ensures written { into.new ≡ section_front table_id top (head.now ++ rest.now) ++ drop result into.old }
 {
-    let length = head.len() + rest.len() + CRC;
+    let start = write_head(table_id, top, head, rest.len(), into);
+    put(into, start, rest);
+    start + rest.len()
+}
+
+/// Writes all before the second piece of a body, which has so many bytes; answers where it ends.
+fn write_head(table_id: u8, top: u8, head: &[u8], rest: usize, into: &mut [u8]) -> usize
+    requires most { length head.now + rest ≤ 4089 }
+    requires upper_half { top % 16 ≡ 0 }
+    requires room { length head.now + 3 ≤ length into.old }
+    ensures size { result ≡ length head.now + 3 }
+    ensures written { into.new ≡ section_head table_id top head.now rest ++ drop result into.old }
+{
+    let length = head.len() + rest + CRC;
     let number = u16::from(top) * 256 + length as u16;
     put(into, TABLE_ID, &[table_id]);
     put(into, LENGTH, &number.to_be_bytes());
     put(into, HEAD, head);
-    put(into, HEAD + head.len(), rest);
-    HEAD + head.len() + rest.len()
+    HEAD + head.len()
 }

@@ -1,6 +1,6 @@
 //! A section from outside: a program association section, whose CRC_32 an independent program gave.
 
-use crate::{SectionFault, SectionForm, SectionRef, parse, write};
+use crate::{SectionFault, SectionForm, SectionRef, parse, write, write_around};
 use unit_stream::{Span, UnitForm};
 
 /// ISO/IEC 13818-1 clause 2.4.4.3: program 1 on PID 0x1000.
@@ -43,7 +43,7 @@ fn fields_are_read_and_each_fault_is_named(rt: HostRuntime) {
     }
 }
 
-/// The same section is written of its fields, and no byte after it.
+/// The same section is written of its fields, and no byte after it; and what it has around a piece of its body.
 #[test]
 fn the_same_bytes_are_written(rt: HostRuntime) {
     let mut into = [0xEE; 20];
@@ -51,6 +51,11 @@ fn the_same_bytes_are_written(rt: HostRuntime) {
     assert_eq!(rt; end, 16);
     assert_eq!(rt; &into[..16], PAT.as_slice());
     assert_eq!(rt; &into[16..], [0xEE; 4].as_slice());
+    let mut around = [0; 12];
+    let head = write_around(0, 0xB0, &PAT[3..8], &PAT[8..12], &mut around);
+    assert_eq!(rt; head, 8);
+    assert_eq!(rt; &around[..8], &PAT[..8]);
+    assert_eq!(rt; &around[8..], &PAT[12..]);
 }
 
 /// ISO/IEC 13818-1 clause 2.4.4: three bytes tell a length, 4,093 at most, and FF is no table_id.

@@ -1,32 +1,15 @@
--- Each piece is put after those before it.
-use Rattle.std.proofs.Common.{◌≡◌, ℕ, ◌+◌, List, [], ◌∷◌, ◌++◌, length, drop, refl, ap, ◌∙◌, length-append, append_assoc, arith}
-use Rattle.std.specs.Int.{w16, to_be_bytes}
+-- The second piece of the body is put after the head.
+use Rattle.std.proofs.Common.{ℕ, ◌+◌, List, ◌++◌, drop, length, refl, ap, sym, ◌∙◌}
 use Rattle.byte_slices.proofs.Puts.{put_behind}
+use Rattle.section_codec.specs.Heads.{section_head}
+use Rattle.section_codec.proofs.Heads.{head_and_rest, length-section_head}
 use Rattle.section_codec.proofs.section.write_front.Goals as goal
-
--- the same pieces in a row
-same_row : (first number told head rest behind : List ℕ) → number ≡ told
-    → first ++ number ++ head ++ rest ++ behind ≡ first ++ told ++ (head ++ rest) ++ behind
-same_row first number told head rest behind e =
-    ap (λ (l : List ℕ). first ++ l ++ head ++ rest ++ behind) e ∙ ap (λ (l : List ℕ). l ++ behind) (append_assoc (first ++ told) head rest)
 
 pub returns-clause-written : goal.returns-clause-written
 returns-clause-written c =
-    let into : List ℕ = c.args.into.now in
-    let first : List ℕ = c.args.table_id ∷ [] in
-    let number : List ℕ = c.to_be_bytes.result in
-    let head : List ℕ = c.args.head.now in
-    let rest : List ℕ = c.args.rest.now in
-    let end : ℕ = 3 + length head + length rest in
-    let two : length number ≡ 2 = ap length c.to_be_bytes.ensures in
-    let three : length (first ++ number) ≡ 3 = length-append first number ∙ omega (arith, two) in
-    let more : length (first ++ number ++ head) ≡ 3 + length head = omega (arith, length-append (first ++ number) head, three) in
-    let one : c.put.new.into ≡ first ++ drop 1 into = put_behind [] first into into c.put.new.into 0 1 refl refl refl c.put.ensures.put in
-    let second : c.put-2.new.into ≡ first ++ number ++ drop 3 into =
-    put_behind first number into c.put.new.into c.put-2.new.into 1 3 refl (omega (arith, two)) one c.put-2.ensures.put in
-    let third : c.put-3.new.into ≡ first ++ number ++ head ++ drop (3 + length head) into =
-    put_behind (first ++ number) head into c.put-2.new.into c.put-3.new.into 3 (3 + length head) three refl second c.put-3.ensures.put in
-    let fourth : c.put-4.new.into ≡ first ++ number ++ head ++ rest ++ drop end into =
-    put_behind (first ++ number ++ head) rest into c.put-3.new.into c.put-4.new.into (3 + length head) end more refl third c.put-4.ensures.put in
-    let size : length (head ++ rest) ≡ length head + length rest = length-append head rest in
-    fourth ∙ same_row first number _ head rest (drop end into) (c.to_be_bytes.ensures ∙ ap (to_be_bytes w16) (omega (arith, size, c.from.ensures)))
+    let head : List ℕ = section_head c.args.table_id c.args.top c.args.head.now (length c.args.rest.now) in
+    let start : ℕ = c.write_head-start.result in
+    let end : ℕ = start + length c.args.rest.now in
+    put_behind head c.args.rest.now c.args.into.now c.write_head-start.new.into c.put.new.into start end
+    (length-section_head c.args.table_id c.args.top c.args.head.now (length c.args.rest.now) ∙ sym c.write_head-start.ensures.size) refl c.write_head-start.ensures.written c.put.ensures.put
+    ∙ ap (λ (l : List ℕ). l ++ drop end c.args.into.now) (head_and_rest c.args.table_id c.args.top c.args.head.now c.args.rest.now)
