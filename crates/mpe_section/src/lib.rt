@@ -16,7 +16,7 @@ pub use laws::{
     a_written_datagram_section_reads_back, a_written_fec_section_reads_back,
     an_address_and_parameters_are_two_readings, an_address_or_parameters_can_be_written,
 };
-pub use mpe::{Mpe, MpeFault, mpe_size, read_mpe, write_mpe};
+pub use mpe::{Mpe, MpeFault, mpe_size, read_mpe, write_mpe, write_mpe_around};
 pub use real_time::RealTime;
 
 #[cfg(test)]

@@ -3,10 +3,10 @@
 //! Reading: a section comes in, and its fields go out, or why it carries no datagram.
 //! Writing: an address, parameters and a datagram come in, and the section goes into the caller's bytes.
 
-ghost use Rattle.std.specs.Prelude.{◌≡◌, ◌≤◌, ◌+◌, ◌++◌, ℕ, List, Option, Some, None, length, drop, IfOk, IfSome, OnErr};
+ghost use Rattle.std.specs.Prelude.{◌≡◌, ◌≤◌, ◌+◌, ◌++◌, ℕ, List, Option, Some, None, length, take, drop, IfOk, IfSome, OnErr};
 ghost use Rattle.std.specs.Result.{result_err};
 ghost use Rattle.section_codec.specs.Views.{fields_in};
-ghost use Rattle.section_spec.specs.Mpe.{IsRealTime, RealTimeFields, mac_in, mac_with, mpe_bytes, mpe_of, mpe_to_write};
+ghost use Rattle.section_spec.specs.Mpe.{IsRealTime, RealTimeFields, mac_in, mac_with, mpe_body, mpe_bytes, mpe_of, mpe_to_write};
 ghost use Rattle.mpe_section.specs.Views.{real_time_in, given, mpe_in};
 ghost use Rattle.mpe_section.specs.Refusals.{mpe_refusal};
 
@@ -15,7 +15,7 @@ use crate::body::{
 };
 use crate::real_time::{RealTime, number_of, parameters_of};
 use ip_datagram::{IpFault, front};
-use section_codec::{SectionRef, size, write_in_two};
+use section_codec::{SectionRef, size, write_around, write_in_two};
 
 /// A datagram_section.
 #[derive(Clone, Copy, Debug, PartialEq, Eq)]
@@ -133,6 +133,17 @@ pub fn write_mpe(
     }
 }
 
+/// Writes the datagram_section to an address as `write_mpe` does, but without its datagram: the 12 bytes before it and, right after
+/// these, the four of the CRC_32; answers how many bytes stand before the datagram.
+pub fn write_mpe_around(mac: [u8; 6], datagram: &[u8], into: &mut [u8]) -> usize
+    requires size { length datagram.now ≤ 4080 }
+    requires room { 16 ≤ length into.old }
+    ensures size { result ≡ 12 }
+    ensures written { mpe_bytes (mpe_to_write mac None datagram.now) ≡ take result into.new ++ (datagram.now ++ take 4 (drop result into.new)) }
+{
+    write_around(TABLE_ID, TOP, &head_with(mac), datagram, into)
+}
+
 /// Bytes of the datagram_section of so many bytes of a datagram, 4,080 at most: those that `write_mpe` writes.
 pub fn mpe_size(datagram: usize) -> usize
     requires { datagram ≤ 4080 }
@@ -159,7 +170,14 @@ fn write_to(mac: [u8; 6], datagram: &[u8], into: &mut [u8]) -> usize
     ensures size { result ≡ length (mpe_bytes (mpe_to_write mac None datagram.now)) }
     ensures written { into.new ≡ mpe_bytes (mpe_to_write mac None datagram.now) ++ drop result into.old }
 {
-    let head = [
+    write_in_two(TABLE_ID, TOP, &head_with(mac), datagram, into)
+}
+
+/// The bytes of a body before its datagram.
+fn head_with(mac: [u8; 6]) -> [u8; 9]
+    ensures written { (datagram : List ℕ) → mpe_body (mpe_to_write mac None datagram) ≡ result ++ datagram }
+{
+    [
         mac[5],
         mac[4],
         WRITTEN_FLAGS,
@@ -169,6 +187,5 @@ fn write_to(mac: [u8; 6], datagram: &[u8], into: &mut [u8]) -> usize
         mac[2],
         mac[1],
         mac[0],
-    ];
-    write_in_two(TABLE_ID, TOP, &head, datagram, into)
+    ]
 }

@@ -1,6 +1,9 @@
 //! Sections by the syntax of EN 301 192, written by hand; an independent program gave their CRC_32.
 
-use crate::{Fec, FecFault, Mpe, MpeFault, RealTime, read_fec, read_mpe, write_fec, write_mpe};
+use crate::{
+    Fec, FecFault, Mpe, MpeFault, RealTime, read_fec, read_mpe, write_fec, write_mpe,
+    write_mpe_around,
+};
 use ip_datagram::IpFault;
 use section_codec::SectionRef;
 
@@ -94,6 +97,11 @@ fn datagrams_are_written(rt: HostRuntime) {
     assert_eq!(rt; end, 36);
     assert_eq!(rt; &into[..36], SECTION.as_slice());
     assert_eq!(rt; &into[36..], [0xEE; 4].as_slice());
+    let mut around = [0; 16];
+    let head = write_mpe_around(MAC, &DATAGRAM, &mut around);
+    assert_eq!(rt; head, 12);
+    assert_eq!(rt; &around[..12], &SECTION[..12]);
+    assert_eq!(rt; &around[12..], &SECTION[32..]);
     let end = write_mpe(MAC, Some(TIME), &DATAGRAM, &mut into);
     assert_eq!(rt; end, 36);
     assert_eq!(rt;
