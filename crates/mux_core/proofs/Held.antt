@@ -41,7 +41,7 @@ ends_more from (first ∷ units) unit =
     sums a b c e = omega (arith, e)
 
 -- the units of one datagram more
-pub bytes_next : (unit : List ℕ → List ℕ) (datagrams : List (List ℕ)) (i : ℕ) (datagram : List ℕ) → slice_get datagrams i ≡ Some datagram
+bytes_next : (unit : List ℕ → List ℕ) (datagrams : List (List ℕ)) (i : ℕ) (datagram : List ℕ) → slice_get datagrams i ≡ Some datagram
     → joined (map unit (take (i + 1) datagrams)) ≡ joined (map unit (take i datagrams)) ++ unit datagram
 bytes_next unit datagrams i datagram found =
     ap joined (units_next unit datagrams i datagram found) ∙ joined_more (map unit (take i datagrams)) (unit datagram)
@@ -60,28 +60,6 @@ end_next unit datagrams i datagram end size ends found ends_are end_is size_is =
   where
     sums : (a b c d : ℕ) → a ≡ b → c ≡ d → a + c ≡ 0 + b + d
     sums a b c d e e2 = omega (arith, e, e2)
-
--- the buffer after it
-pub put_back : (items new unit : List ℕ) (len end size : ℕ) → len ≡ length items → end + size ≤ length items → size ≡ length unit
-    → new ≡ take end items ++ (unit ++ drop size (drop end items))
-    → (take len (new ++ drop (length new) items) ≡ take end items ++ (unit ++ drop size (drop end items))) × (length (take len (new ++ drop (length new) items)) ≡ length items)
-put_back items new unit len end size len_is within size_is new_is =
-    let long : length new ≡ length items = long_as in
-    let whole : take len (new ++ drop (length new) items) ≡ new = take_at new (drop (length new) items) len (long ∙ sym len_is) in
-    (whole ∙ new_is, ap length whole ∙ long)
-  where
-    long_as : length new ≡ length items
-    long_as = omega (
-      arith,
-      ap length new_is,
-      length-append (take end items) (unit ++ drop size (drop end items)),
-      length-append unit (drop size (drop end items)),
-      length-take-le end items (omega (arith, within)),
-      length-drop size (drop end items),
-      length-drop end items,
-      within,
-      size_is,
-    )
 
 -- What stands in a buffer are the units.
 

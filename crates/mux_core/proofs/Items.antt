@@ -8,10 +8,7 @@ use Rattle.std.proofs.lemmas.List.Elements.{All-push}
 use Rattle.std.proofs.lemmas.List.Sums.{sum_by-cons}
 use Rattle.int_table.proofs.Parts.{take_one_more, drop_from}
 
--- a fact that holds of all holds of the one at a place
-pub all_at : {X : Type 0} (P : X → Type 0) (xs : List X) (i : ℕ) (x : X) → slice_get xs i ≡ Some x → All P xs → P x
-all_at P xs i x found all = subst P (get_or_from_slice_get xs i x x found) (all i x (slice_get_within xs i x found))
-
+-- a test that all pass is passed by the one at a place
 pub list_all_at : {X : Type 0} (p : X → Bool) (xs : List X) (i : ℕ) (x : X) → slice_get xs i ≡ Some x → list_all p xs ≡ true → p x ≡ true
 list_all_at p [] i x found all = absurd (cc)
 list_all_at p (y ∷ ys) zero x found all = let same : y ≡ x = cc in ap p (sym same) ∙ first (p y) (list_all p ys) all

@@ -1,6 +1,6 @@
 pub mod Items
 pub mod Held
-pub mod Windows
+pub mod Reading
 pub mod Turned
 pub mod Serviced
 pub mod Signalled

@@ -1,6 +1,6 @@
 pub mod Sending
 pub mod Units
-pub mod Windows
+pub mod Reading
 pub mod Services
 pub mod SectionPackets
 pub mod IntPackets

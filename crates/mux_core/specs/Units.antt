@@ -1,5 +1,5 @@
 -- The units of a service, one after another in a buffer.
-use Rattle.std.specs.Prelude.{ℕ, ◌+◌, ◌≤◌, List, [], ◌∷◌, length, map, All}
+use Rattle.std.specs.Prelude.{ℕ, ◌+◌, ◌≤◌, List, [], ◌∷◌, ◌++◌, length, take, drop, map, All}
 use Rattle.wire_spec.specs.Datagram.{IsDatagram}
 use Rattle.wire_spec.specs.Lists.{joined}
 use Rattle.plan_spec.specs.Plan.{KindFields, ule, mpe, fec, gse}
@@ -9,6 +9,10 @@ use Rattle.stream_spec.specs.Units.{unit_of}
 -- the units of these datagrams, one after another
 abbrev pub unit_bytes : KindFields → List ℕ → List (List ℕ) → List ℕ
 unit_bytes kind unicast datagrams = joined (map (unit_of kind unicast) datagrams)
+
+-- a datagram with so many bytes before it and four after it, which stand one after the other
+abbrev pub unit_with : ℕ → List ℕ → List ℕ → List ℕ
+unit_with head around datagram = take head around ++ (datagram ++ take 4 (drop head around))
 
 -- a datagram that a service of this kind takes
 pub record IsFor (kind : KindFields) (datagram : List ℕ) : Type 0 where

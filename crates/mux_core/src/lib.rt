@@ -13,7 +13,7 @@ mod service_packets;
 mod services;
 mod slots;
 mod stamps;
-mod unit_window;
+mod unit_bytes;
 mod units;
 
 pub use datagram_routing::{Lists, Offered};

@@ -8,7 +8,7 @@ ghost use Rattle.plan.specs.Parts.{kind_seen};
 ghost use Rattle.mux_core.specs.Units.{AreFor, HasPid};
 ghost use Rattle.mux_core.specs.Services.{packets_in};
 
-use crate::unit_window::UnitWindow;
+use crate::unit_bytes::UnitBytes;
 use crate::units::ends_of;
 use ip_datagram::DatagramList;
 use plan::{Kind, Service};
@@ -25,8 +25,8 @@ pub(crate) struct DatagramPackets<'a, F: UnitForm> {
     datagrams: &'a DatagramList,
     /// Where the unit of each datagram ends among the bytes of all units.
     ends: Vec<usize>,
-    /// The units that are due.
-    window: UnitWindow,
+    /// The bytes of the units that are not out.
+    units: UnitBytes,
     packer: Packer<F>,
 }
 
@@ -36,13 +36,13 @@ impl<'a, F: UnitForm> Model for DatagramPackets<'a, F> {
     ghost use Rattle.plan.specs.Parts.{kind_seen};
     ghost use Rattle.unit_stream.specs.Packers.{packets_left};
     ghost use Rattle.mux_core.specs.Units.{unit_bytes};
-    ghost use Rattle.mux_core.specs.Windows.{IsSending};
+    ghost use Rattle.mux_core.specs.Reading.{IsSending};
 
     ghost Value = { List PacketFields };
 
     ghost view = { λ p. packets_left F.form p.packer (unit_bytes (kind_seen p.service.now.kind) p.service.now.unicast p.datagrams.now) p.ends.items };
 
-    ghost invariant = { λ p. IsSending F.START (kind_seen p.service.now.kind) p.service.now.unicast p.datagrams.now p.ends.items p.window p.packer };
+    ghost invariant = { λ p. IsSending F.START (kind_seen p.service.now.kind) p.service.now.unicast p.datagrams.now p.ends.items p.units p.packer };
 }
 
 impl<'a, F: UnitForm> DatagramPackets<'a, F> {
@@ -72,12 +72,11 @@ impl<'a, F: UnitForm> DatagramPackets<'a, F> {
         ensures most { IfOk result (λ packets. length packets ≤ 2 ^ 48) }
     {
         let ends = ends_of(alloc, service, datagrams)?;
-        let window = UnitWindow::new(alloc)?;
         Ok(DatagramPackets {
             service,
             datagrams,
             ends,
-            window,
+            units: UnitBytes::new(),
             packer: Packer::new(pid, packing),
         })
     }
@@ -94,15 +93,11 @@ impl<'a, F: UnitForm> DatagramPackets<'a, F> {
         requires { 0 < length self.old }
         ensures next { (packet : PacketFields) × (self.old ≡ packet ∷ self.new) × (into.new ≡ written packet) }
     {
-        self.window
-            .reach(self.service, self.datagrams, self.packer.at());
-        let from = self.window.from;
-        if !self
-            .packer
-            .next_within(self.window.bytes(), from, &self.ends, into)
-        {
+        let Some(room) = self.packer.next_around(&self.ends, into) else {
             unreachable!();
-        }
+        };
+        let place = &mut into[room.from..room.from + room.size];
+        self.units.read(self.service, self.datagrams, place);
     }
 }
 

@@ -1,47 +1,38 @@
 //! A datagram of a service -> its unit.
-ghost use Rattle.std.specs.Prelude.{◌≡◌, ◌+◌, ◌*◌, ◌<◌, ◌≤◌, ◌^◌, ◌++◌, true, length, take, drop, map, IfOk};
+ghost use Rattle.std.specs.Prelude.{◌≡◌, ◌+◌, ◌*◌, ◌<◌, ◌≤◌, ◌^◌, true, length, map, IfOk};
 ghost use Rattle.plan_spec.specs.Built.{is_sent};
 ghost use Rattle.plan.specs.Parts.{kind_seen};
-ghost use Rattle.mux_core.specs.Units.{unit_bytes, ends_from, IsFor, AreFor};
+ghost use Rattle.mux_core.specs.Units.{unit_bytes, unit_with, ends_from, IsFor, AreFor};
 ghost use Rattle.stream_spec.specs.Units.{unit_of};
 
 use addr_rules::mac_of;
 use byte_slices::array_bytes;
 use ip_datagram::{DatagramList, destination, ether_type};
-use mpe_section::{mpe_size, write_mpe};
+use mpe_section::{mpe_size, write_mpe_around};
 use plan::{Kind, Service};
 use std::alloc::{AllocError as OutOfMemory, Global};
 
-/// Writes the unit of a datagram to the front of `into`; answers its length.
-fn write_unit(service: &Service, datagram: &[u8], into: &mut [u8]) -> usize
+/// Most bytes that a unit has beside its datagram: those of a datagram_section, 12 before it and the CRC_32 (EN 301 192 clause 7.1).
+pub(crate) const MOST_AROUND: usize = 16;
+
+/// Writes the unit of a datagram without this to the front of `into`: what stands before it and, right after that, the CRC-32;
+/// answers how many bytes stand before it.
+pub(crate) fn write_around(service: &Service, datagram: &[u8], into: &mut [u8]) -> usize
     requires built { is_sent (kind_seen service.now.kind) ≡ true }
     requires datagram { IsFor (kind_seen service.now.kind) datagram.now }
-    requires room { length datagram.now + 16 ≤ length into.old }
-    ensures size { result ≡ length (unit_of (kind_seen service.now.kind) service.now.unicast datagram.now) }
-    ensures written { into.new ≡ unit_of (kind_seen service.now.kind) service.now.unicast datagram.now ++ drop result into.old }
-    ensures most { result ≤ length datagram.now + 16 }
+    requires room { 16 ≤ length into.old }
+    ensures most { result ≤ 12 }
+    ensures written { unit_of (kind_seen service.now.kind) service.now.unicast datagram.now ≡ unit_with result into.new datagram.now }
 {
     let mac = mac_of(&destination(datagram), service.unicast);
     match service.kind {
         Kind::Ule { address, .. } => {
             let npa = if address { Some(mac) } else { None };
-            ule_unit::write(npa, ether_type(datagram), datagram, into)
+            ule_unit::write_around(npa, ether_type(datagram), datagram, into)
         }
-        Kind::Mpe { .. } => write_mpe(mac, None, datagram, into),
+        Kind::Mpe { .. } => write_mpe_around(mac, datagram, into),
         Kind::Fec { .. } | Kind::Gse { .. } => unreachable!(),
     }
-}
-
-/// Writes the unit of a datagram to a place of `into`; answers its length.
-pub(crate) fn put_unit(service: &Service, datagram: &[u8], at: usize, into: &mut [u8]) -> usize
-    requires built { is_sent (kind_seen service.now.kind) ≡ true }
-    requires datagram { IsFor (kind_seen service.now.kind) datagram.now }
-    requires room { at + (length datagram.now + 16) ≤ length into.old }
-    ensures size { result ≡ length (unit_of (kind_seen service.now.kind) service.now.unicast datagram.now) }
-    ensures written { into.new ≡ take at into.old ++ (unit_of (kind_seen service.now.kind) service.now.unicast datagram.now ++ drop result (drop at into.old)) }
-    ensures most { result ≤ length datagram.now + 16 }
-{
-    write_unit(service, datagram, &mut into[at..])
 }
 
 /// Bytes of the unit of a datagram.

@@ -3,7 +3,7 @@ use Rattle.plan.specs.Parts.{kind_seen}
 use Rattle.plan.specs.declared.service.Kind.{Kind}
 use Rattle.wire_spec.specs.Datagram.{ether_type_of}
 use Rattle.stream_spec.specs.Units.{mac_for, unit_of}
-use Rattle.mux_core.proofs.Windows.{npa_is}
+use Rattle.mux_core.proofs.Reading.{npa_is}
 use Rattle.mux_core.proofs.units.unit_size.Goals as goal
 
 pub returns-in-Ule-clause-size : goal.returns-in-Ule-clause-size

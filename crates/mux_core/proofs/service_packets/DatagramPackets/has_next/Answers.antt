@@ -3,7 +3,7 @@ use Rattle.ts_spec.specs.Packet.{PacketFields}
 use Rattle.unit_stream.specs.Packers.{packets_left}
 use Rattle.plan.specs.Parts.{kind_seen}
 use Rattle.mux_core.specs.Units.{unit_bytes}
-use Rattle.mux_core.proofs.Windows.{last_end}
+use Rattle.mux_core.proofs.Reading.{last_end}
 use Rattle.mux_core.proofs.service_packets.DatagramPackets.has_next.Goals as goal
 
 pub returns : goal.returns

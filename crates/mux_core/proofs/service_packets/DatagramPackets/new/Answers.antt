@@ -5,7 +5,7 @@ use Rattle.plan_spec.specs.Plan.{KindFields}
 use Rattle.plan.specs.Parts.{kind_seen}
 use Rattle.stream_spec.specs.Units.{unit_of}
 use Rattle.mux_core.proofs.Held.{rising_held}
-use Rattle.mux_core.proofs.Windows.{window_first, sending_first, packets_first, few_first}
+use Rattle.mux_core.proofs.Reading.{sending_first, packets_first, few_first}
 use Rattle.mux_core.proofs.service_packets.DatagramPackets.new.Goals as goal
 
 pub invariant_of-result : goal.invariant_of-result
@@ -14,10 +14,8 @@ invariant_of-result g c =
     let unicast : List ℕ = c.args.service.now.unicast in
     let datagrams : List (List ℕ) = c.args.datagrams.now in
     let ends : List ℕ = c.in_ok-ends.ends.items in
-    sending_first g.F.UnitForm.START kind unicast datagrams ends c.in_ok-window.window c.new-2.result
-    (window_first kind unicast datagrams c.in_ok-window.window c.requires.built c.requires.datagrams c.requires.few
-    c.in_ok-window.ensures.empty.0 c.in_ok-window.ensures.empty.1 c.in_ok-window.ensures.empty.2 c.in_ok-window.ensures.size)
-    c.in_ok-window.ensures.empty.0 c.in_ok-ends.ensures.written
+    sending_first g.F.UnitForm.START kind unicast datagrams ends c.new.result c.new-2.result c.requires.built c.requires.datagrams c.requires.few c.new.ensures.first.0 c.new.ensures.first.1
+    c.in_ok-ends.ensures.written
     (subst (AreRising g.F.UnitForm.START 0) (sym c.in_ok-ends.ensures.written) (rising_held g.F.UnitForm.START 0 (map (unit_of kind unicast) datagrams) c.requires.least))
     c.new-2.ensures.on_way
 

@@ -1,55 +1,89 @@
-use Rattle.std.proofs.Common.{◌≡◌, ℕ, ◌<◌, List, [], length, true, false, sym, ap, subst, arith, ◌∙◌}
+use Rattle.std.proofs.Common.{◌≡◌, ◌≤◌, ◌<◌, ◌+◌, ◌-◌, ℕ, List, [], ◌++◌, length, drop, true, false, refl, sym, ap, subst, arith, append_assoc, length-drop, ◌∙◌}
+use Rattle.std.proofs.lemmas.List.{length-append, length-take-le}
+use borrow.Rule.Slice.PartMut.{mid_of}
 use Rattle.ts_spec.specs.Packet.{PacketFields}
-use Rattle.unit_stream.specs.Packers.{PackerState, IsOnWay, Writes, packets_left}
-use Rattle.plan_spec.specs.Plan.{KindFields}
+use Rattle.unit_stream.specs.Packers.{PackerState, IsOnWay, Writes, WritesAround, between, end_of, packets_left, with_bytes}
 use Rattle.plan.specs.Parts.{kind_seen}
 use Rattle.mux_core.specs.Units.{unit_bytes}
-use Rattle.mux_core.specs.declared.unit_window.UnitWindow.{UnitWindow}
-use Rattle.mux_core.proofs.Windows.{handed_size, has_next, writes_all}
+use Rattle.mux_core.specs.Reading.{bytes_left}
+use Rattle.mux_core.proofs.Reading.{carried_are, has_left, last_end, put_is}
 use Rattle.mux_core.proofs.service_packets.DatagramPackets.next.Goals as goal
-
-pub next_within-requires-clause-window : goal.next_within-requires-clause-window
-next_within-requires-clause-window g c =
-    has_next (kind_seen c.self.inside.service.now.kind) c.self.inside.service.now.unicast c.self.inside.datagrams.now c.reach.new.self c.reach.ensures.window c.deref.result.now c.bytes.result.now
-    (c.deref.ensures.value ∙ c.self.invariant.ends_are) c.bytes.ensures.read c.self.inside.packer c.at.result c.at.ensures.read c.reach.ensures.before c.reach.ensures.reach
-
-pub invariant_of-self : goal.invariant_of-self
-invariant_of-self g c =
-    let kind : KindFields = kind_seen c.self.inside.service.now.kind in
-    let unicast : List ℕ = c.self.inside.service.now.unicast in
-    let datagrams : List (List ℕ) = c.self.inside.datagrams.now in
-    let window : UnitWindow = c.reach.new.self in
-    let new : PackerState = c.next_within.new.self in
-    let size : length c.bytes.result.now ≡ window.fill
-    = handed_size kind unicast datagrams window c.reach.ensures.window c.deref.result.now c.bytes.result.now (c.deref.ensures.value ∙ c.self.invariant.ends_are) c.bytes.ensures.read in
-    record {
-      window_is = c.reach.ensures.window;
-      ends_are = c.self.invariant.ends_are;
-      rising = c.self.invariant.rising;
-      way = subst (IsOnWay new) c.deref.ensures.value c.next_within.ensures.on_way;
-      from = omega (arith, c.reach.ensures.before, c.at.ensures.read, c.next_within.ensures.within.0);
-      to = omega (arith, c.next_within.ensures.within.1, size);
-    }
 
 none_left : (packets old : List PacketFields) → packets ≡ old → 0 < length old → packets ≡ [] → ⊥
 none_left packets old same some none = omega (arith, ap (λ (ps : List PacketFields). length ps) same, some, ap (λ (ps : List PacketFields). length ps) none)
 
+-- a packet has so many bytes from a place on
+length-room : (packet : List ℕ) (from size : ℕ) → from + size ≤ length packet → length (mid_of from (from + size - from) packet) ≡ size
+length-room packet from size within = let k : from + size - from ≡ size = omega arith in length-take-le (from + size - from) (drop from packet) (omega (arith, length-drop from packet, within)) ∙ k
+
 pub unreachable-requires : goal.unreachable-requires
 unreachable-requires g c =
-    let kind : KindFields = kind_seen c.self.inside.service.now.kind in
-    let unicast : List ℕ = c.self.inside.service.now.unicast in
-    let datagrams : List (List ℕ) = c.self.inside.datagrams.now in
-    let none : Writes g.F.UnitForm.form c.self.inside.packer c.next_within.new.self (unit_bytes kind unicast datagrams) c.self.inside.ends.items c.next_within.new.into false
-    = writes_all kind unicast datagrams c.reach.new.self c.reach.ensures.window c.deref.result.now c.bytes.result.now (c.deref.ensures.value ∙ c.self.invariant.ends_are) c.bytes.ensures.read
-    g.F.UnitForm.form c.self.inside.packer c.next_within.new.self c.self.inside.ends.items c.next_within.new.into c.next_within.result false c.deref.ensures.value c.if-not-next_within.true c.next_within.ensures.writes in
-    none_left (packets_left g.F.UnitForm.form c.self.inside.packer (unit_bytes kind unicast datagrams) c.self.inside.ends.items) c.args.self.now c.self.view_is c.requires none.0
+    let bytes : List ℕ = unit_bytes (kind_seen c.self.inside.service.now.kind) c.self.inside.service.now.unicast c.self.inside.datagrams.now in
+    let reach : end_of c.deref.result.now (length c.deref.result.now) ≤ length bytes
+    = omega (arith, last_end (kind_seen c.self.inside.service.now.kind) c.self.inside.service.now.unicast c.self.inside.datagrams.now c.deref.result.now (c.deref.ensures.value ∙ c.self.invariant.ends_are)) in
+    let none : Writes g.F.UnitForm.form c.self.inside.packer c.next_around.new.self bytes c.deref.result.now c.next_around.new.into false
+    = subst (WritesAround g.F.UnitForm.form c.self.inside.packer c.next_around.new.self bytes c.deref.result.now c.next_around.new.into) c.in_default.is (c.next_around.ensures.writes bytes reach) in
+    none_left (packets_left g.F.UnitForm.form c.self.inside.packer bytes c.self.inside.ends.items) c.args.self.now c.self.view_is c.requires
+    (subst (λ (ends : List ℕ). packets_left g.F.UnitForm.form c.self.inside.packer bytes ends ≡ []) c.deref.ensures.value none.0)
+
+pub read-requires-clause-enough : goal.read-requires-clause-enough
+read-requires-clause-enough g c =
+    let room : length (mid_of c.in-Some.room.from (c.in-Some.room.from + c.in-Some.room.size - c.in-Some.room.from) c.next_around.new.into) ≡ c.in-Some.room.size
+    = length-room c.next_around.new.into c.in-Some.room.from c.in-Some.room.size (omega (arith, c.in-Some.ensures.room.0, c.next_around.array_long)) in
+    omega (
+      arith,
+      room,
+      has_left g.F.UnitForm.START (kind_seen c.self.inside.service.now.kind) c.self.inside.service.now.unicast c.self.inside.datagrams.now c.self.inside.ends.items c.self.inside.units c.self.inside.packer
+          c.self.invariant c.in-Some.room.size
+          (omega (
+            arith,
+            c.in-Some.ensures.room.1,
+            c.next_around.ensures.within,
+            last_end (kind_seen c.self.inside.service.now.kind) c.self.inside.service.now.unicast c.self.inside.datagrams.now c.deref.result.now (c.deref.ensures.value ∙ c.self.invariant.ends_are),
+          )),
+    )
+
+pub invariant_of-self : goal.invariant_of-self
+invariant_of-self g c =
+    let left : List ℕ = bytes_left (kind_seen c.self.inside.service.now.kind) c.self.inside.service.now.unicast c.self.inside.datagrams.now c.read.new.self in
+    let new : PackerState = c.next_around.new.self in
+    let size : length c.read.new.into ≡ c.in-Some.room.size
+    = c.read.auto.into ∙ length-room c.next_around.new.into c.in-Some.room.from c.in-Some.room.size (omega (arith, c.in-Some.ensures.room.0, c.next_around.array_long)) in
+    record {
+      reading = c.read.ensures.reading;
+      ends_are = c.self.invariant.ends_are;
+      rising = c.self.invariant.rising;
+      way = subst (IsOnWay new) c.deref.ensures.value c.next_around.ensures.on_way;
+      before = c.self.invariant.before ++ c.read.new.into;
+      before_is = omega (arith, length-append c.self.invariant.before c.read.new.into, c.self.invariant.before_is, size, c.in-Some.ensures.room.1);
+      bytes_are =
+          c.self.invariant.bytes_are
+          ∙ ap (λ (t : List ℕ). c.self.invariant.before ++ t) c.read.ensures.read
+          ∙ sym (append_assoc c.self.invariant.before c.read.new.into left);
+    }
 
 pub returns : goal.returns
 returns g c =
-    let kind : KindFields = kind_seen c.self.inside.service.now.kind in
-    let unicast : List ℕ = c.self.inside.service.now.unicast in
-    let datagrams : List (List ℕ) = c.self.inside.datagrams.now in
-    let wrote : Writes g.F.UnitForm.form c.self.inside.packer c.next_within.new.self (unit_bytes kind unicast datagrams) c.self.inside.ends.items c.next_within.new.into true
-    = writes_all kind unicast datagrams c.reach.new.self c.reach.ensures.window c.deref.result.now c.bytes.result.now (c.deref.ensures.value ∙ c.self.invariant.ends_are) c.bytes.ensures.read
-    g.F.UnitForm.form c.self.inside.packer c.next_within.new.self c.self.inside.ends.items c.next_within.new.into c.next_within.result true c.deref.ensures.value c.if-not-next_within.false c.next_within.ensures.writes in
-    record { next = (wrote.0, sym c.self.view_is ∙ wrote.1, wrote.2) }
+    let bytes : List ℕ = unit_bytes (kind_seen c.self.inside.service.now.kind) c.self.inside.service.now.unicast c.self.inside.datagrams.now in
+    let left : List ℕ = bytes_left (kind_seen c.self.inside.service.now.kind) c.self.inside.service.now.unicast c.self.inside.datagrams.now c.read.new.self in
+    let old : PackerState = c.self.inside.packer in
+    let new : PackerState = c.next_around.new.self in
+    let packet : List ℕ = c.next_around.new.into in
+    let piece : List ℕ = c.read.new.into in
+    let from : ℕ = c.in-Some.room.from in
+    let reach : end_of c.deref.result.now (length c.deref.result.now) ≤ length bytes
+    = omega (arith, last_end (kind_seen c.self.inside.service.now.kind) c.self.inside.service.now.unicast c.self.inside.datagrams.now c.deref.result.now (c.deref.ensures.value ∙ c.self.invariant.ends_are)) in
+    let wrote : Writes g.F.UnitForm.form old new bytes c.self.inside.ends.items (with_bytes from (between bytes old.at new.at) packet) true
+    = subst (λ (ends : List ℕ). Writes g.F.UnitForm.form old new bytes ends (with_bytes from (between bytes old.at new.at) packet) true) c.deref.ensures.value (c.in-Some.ensures.writes bytes reach) in
+    let size : length piece ≡ c.in-Some.room.size
+    = c.read.auto.into ∙ length-room packet from c.in-Some.room.size (omega (arith, c.in-Some.ensures.room.0, c.next_around.array_long)) in
+    let carried : between bytes old.at new.at ≡ piece
+    = carried_are bytes c.self.invariant.before piece left old.at new.at c.self.invariant.before_is (omega (arith, size, c.in-Some.ensures.room.1))
+    (c.self.invariant.bytes_are ∙ ap (λ (t : List ℕ). c.self.invariant.before ++ t) c.read.ensures.read) in
+    record {
+      next = (
+        wrote.0,
+        sym c.self.view_is ∙ wrote.1,
+        put_is packet piece from (from + c.in-Some.room.size) c.in-Some.room.size refl size ∙ ap (λ (t : List ℕ). with_bytes from t packet) (sym carried) ∙ wrote.2,
+      );
+    }
