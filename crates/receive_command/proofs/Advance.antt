@@ -74,11 +74,6 @@ pub received_none : (plan : PlanFields) (receiver : ReceiverState) → HasReceiv
 received_none plan receiver received = subst (λ (records : List Record). HasReceived plan records receiver) (sym (records_none plan.recording)) received
 
 -- what the receiver's conditions need
-pub few_received : (plan : PlanFields) (receiver : ReceiverState) (pieces : List (List ℕ)) (count : ℕ) → HasReceived plan (records_in plan pieces) receiver
-    → count ≡ length pieces → count < 2 ^ 32 → receiver.stream.records < 2 ^ 32
-few_received plan receiver pieces count received size few =
-    omega (arith, ap (λ n. n.records) received.stream, records_length plan.recording pieces, size, few)
-
 pub services_received : (plan : PlanFields) (receiver : ReceiverState) (records : List Record) (services : ℕ) → HasReceived plan records receiver
     → services ≡ length plan.services → length receiver.plan.services ≤ services
 services_received plan receiver records services received size = omega (arith, ap (λ (p : PlanFields). length p.services) received.plan_is, size)

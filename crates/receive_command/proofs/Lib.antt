@@ -7,6 +7,7 @@ pub mod Adding
 pub mod Flushed
 pub mod Pairs
 pub mod Advance
+pub mod Next
 pub mod Assembly
 pub mod Ends
 pub mod Parted

@@ -1,9 +1,12 @@
 -- What was read of a recording, and what files of a rack have of it.
-use Rattle.std.specs.Prelude.{◌≡◌, ℕ, ◌^◌, ◌<◌, List, [], ◌∷◌, ◌++◌, length, take, All, Option}
+use Rattle.std.specs.Prelude.{◌≡◌, ℕ, ◌*◌, ◌^◌, ◌<◌, ◌≤◌, true, false, List, [], ◌∷◌, ◌++◌, length, take, All, Option}
 use Rattle.std.specs.Io.KnownBytes.{Consumes, IsAtEnd}
+use Rattle.wire_spec.specs.Causes.{raised, Rose}
 use Rattle.wire_spec.specs.Lists.{joined}
 use Rattle.wire_spec.specs.Content.{File}
 use Rattle.ts_spec.specs.Recording.{RecordingForm, record_size, Record, records_of}
+use Rattle.ipe_io.specs.Told.{InputTold, RackTold}
+use Rattle.ts_record.specs.Reading.{ReaderState, ReaderOf}
 use Rattle.plan_spec.specs.Plan.{PlanFields}
 use Rattle.reception_spec.specs.Delivered.{delivered_pairs, pairs_of_record}
 use Rattle.pcap_file.specs.Capture.{capture_record}
@@ -68,3 +71,51 @@ pub record ReadsToStop (plan : PlanFields) (left now : Option (List ℕ)) (old n
   pub count : ℕ
   pub less : count < length (capture_record datagram)
   pub files : Grow old new (records_and first service (take count (capture_record datagram)) (delivered_pairs plan (records_in plan pieces) ++ front))
+
+-- Record by record: an input and a rack as they were before the first, and as they are now.
+
+-- these pieces were read, and the receiver was given their records; the files grew by what they give, and nothing failed
+pub record HasGiven (plan : PlanFields) (first : ℕ) (input now : InputTold) (rack now_rack : RackTold) (reader : ReaderState) (receiver : ReceiverState) (pieces : List (List ℕ)) : Type 0 where
+  pub form : reader.form ≡ plan.recording
+  pub stands : ReaderOf reader pieces
+  pub consumed : Consumes input.left now.left (joined pieces)
+  pub taken : now.taken ≡ raised input.taken (record_size plan.recording * length pieces)
+  pub going : input.ended ≡ false → now.ended ≡ false
+  pub input_faults : now.faults ≡ input.faults
+  pub files : Grow rack.files now_rack.files (text_at plan first pieces)
+  pub count : now_rack.count ≡ rack.count
+  pub rack_faults : now_rack.faults ≡ rack.faults
+  pub received : HasReceived plan (records_in plan pieces) receiver
+  pub is_open : receiver.is_open ≡ true
+
+-- the input has ended, and all was given
+pub record GivesAll (plan : PlanFields) (first : ℕ) (input now : InputTold) (rack now_rack : RackTold) (reader : ReaderState) (receiver : ReceiverState) : Type 0 where
+  pub reads : ReadsWhole plan receiver input.left now.left rack.files now_rack.files first reader.tail
+  pub ended : now.ended ≡ true
+  pub fewer : (n : ℕ) × (n < record_size plan.recording * most_records) × (now.taken ≡ raised input.taken n)
+  pub input_faults : now.faults ≡ input.faults
+  pub count : now_rack.count ≡ rack.count
+  pub rack_faults : now_rack.faults ≡ rack.faults
+  pub is_open : receiver.is_open ≡ true
+
+-- the input failed
+pub record FailsInInput (plan : PlanFields) (first : ℕ) (input now : InputTold) (rack now_rack : RackTold) : Type 0 where
+  pub reads : ReadsFront plan input.left now.left rack.files now_rack.files first
+  pub fewer : (n : ℕ) × (n < record_size plan.recording * most_records) × (now.taken ≡ raised input.taken n)
+  pub going : input.ended ≡ false → now.ended ≡ false
+  pub rose : Rose input.faults now.faults
+  pub rack_faults : now_rack.faults ≡ rack.faults
+
+-- the most records were given
+pub record StopsAtLimit (plan : PlanFields) (first : ℕ) (input now : InputTold) (rack now_rack : RackTold) : Type 0 where
+  pub reads : ReadsToLimit plan input.left now.left rack.files now_rack.files first
+  pub taken : now.taken ≡ raised input.taken (record_size plan.recording * most_records)
+  pub input_faults : now.faults ≡ input.faults
+  pub rack_faults : now_rack.faults ≡ rack.faults
+
+-- a file failed
+pub record FailsInFiles (plan : PlanFields) (first : ℕ) (input now : InputTold) (rack now_rack : RackTold) : Type 0 where
+  pub reads : ReadsToStop plan input.left now.left rack.files now_rack.files first
+  pub most : (n : ℕ) × (n ≤ record_size plan.recording * most_records) × (now.taken ≡ raised input.taken n)
+  pub rose : Rose rack.faults now_rack.faults
+  pub input_faults : now.faults ≡ input.faults

@@ -1,17 +1,19 @@
 //! A recording -> the datagrams of all services, record by record, written to their files.
-ghost use Rattle.std.specs.Prelude.{◌≡◌, ℕ, ◌+◌, ◌*◌, ◌^◌, ◌<◌, ◌≤◌, true, false, [], length, IfOk, OnOk, IsErrOf};
+ghost use Rattle.std.specs.Prelude.{◌≡◌, ℕ, ◌+◌, ◌*◌, ◌^◌, ◌<◌, ◌≤◌, true, false, List, [], ◌∷◌, ◌++◌, length, Ok, IfOk, OnOk, IsErrOf};
 ghost use Rattle.wire_spec.specs.Causes.{Rose, raised};
 ghost use Rattle.ts_spec.specs.Recording.{record_size};
+ghost use Rattle.ipe_io.specs.Told.{InputTold, RackTold};
+ghost use Rattle.plan_spec.specs.Plan.{PlanFields};
 ghost use Rattle.plan.specs.PlanView.{plan_fields};
 ghost use Rattle.demux_core.specs.Receiving.{HasReceived};
-ghost use Rattle.receive_command.specs.Reading.{ReadsWhole, ReadsFront, ReadsToLimit, ReadsToStop, most_records};
+ghost use Rattle.receive_command.specs.Reading.{ReadsWhole, ReadsFront, ReadsToLimit, ReadsToStop, most_records, HasGiven, GivesAll, FailsInInput, StopsAtLimit, FailsInFiles};
 
 use crate::faults::ReceiveFault;
 use crate::steps::take_record;
 use demux_core::Receiver;
 use ipe_io::{Failed, Rack, Source};
 use plan::Plan;
-use ts_record::{Record, RecordReader};
+use ts_record::{LentRecord, Record, RecordReader, lend_record};
 
 /// Writes the datagrams that a recording delivers to the files of the services, the first of them at a place.
 ///
@@ -48,15 +50,70 @@ pub(crate) fn read_records<I: Source, R: Rack>(
 {
     let mut reader = RecordReader::new(plan.recording);
     let services = plan.services.len() as u32;
-    let mut item = Record {
+    let mut place = Record {
         moment: None,
         bytes: [0; 188],
     };
-    'records: while reader.next_into(input, &mut item)? {
-        match take_record(&item, receiver, rack, first, services) {
-            Ok(()) => {}
-            Err(Failed) => return Err(ReceiveFault::Rack),
-        }
-    }
+    'records: while take_next(
+        &mut reader,
+        &mut place,
+        receiver,
+        input,
+        rack,
+        first,
+        services,
+    )? {}
     Ok(reader.tail())
+}
+
+/// Gives the next record to the receiver: lent out of the input where that has it in hand, otherwise read into a place.
+///
+/// False: the input has ended. The clauses say how any reading goes on that has come so far (`HasGiven`), from an input
+/// and a rack as they were before it.
+fn take_next<I: Source, R: Rack>(
+    reader: &mut RecordReader,
+    place: &mut Record,
+    receiver: &mut Receiver<'_>,
+    input: &mut I,
+    rack: &mut R,
+    first: u32,
+    services: u32,
+) -> Result<bool, ReceiveFault>
+    requires asked { reader.old.is_open ≡ true }
+    requires is_open { receiver.old.is_open ≡ true }
+    requires counted { receiver.old.stream.records ≡ reader.old.count }
+    requires served { length receiver.old.plan.services ≤ services }
+    requires there { first + services ≤ (R.told rack.old).count }
+    requires places { first + services ≤ 2 ^ 32 }
+    ensures few { OnOk result (reader.old.count < 2 ^ 32) }
+    ensures given { (plan : PlanFields) (before : InputTold) (files : RackTold) (pieces : List (List ℕ))
+        → HasGiven plan first before (I.told input.old) files (R.told rack.old) reader.old receiver.old pieces
+        → result ≡ Ok true → (piece : List ℕ) × HasGiven plan first before (I.told input.new) files (R.told rack.new) reader.new receiver.new (pieces ++ piece ∷ []) }
+    ensures all { (plan : PlanFields) (before : InputTold) (files : RackTold) (pieces : List (List ℕ))
+        → HasGiven plan first before (I.told input.old) files (R.told rack.old) reader.old receiver.old pieces
+        → result ≡ Ok false → GivesAll plan first before (I.told input.new) files (R.told rack.new) reader.new receiver.new }
+    ensures source { (plan : PlanFields) (before : InputTold) (files : RackTold) (pieces : List (List ℕ))
+        → HasGiven plan first before (I.told input.old) files (R.told rack.old) reader.old receiver.old pieces
+        → IsErrOf result ReceiveFault.Source → FailsInInput plan first before (I.told input.new) files (R.told rack.new) }
+    ensures limit { (plan : PlanFields) (before : InputTold) (files : RackTold) (pieces : List (List ℕ))
+        → HasGiven plan first before (I.told input.old) files (R.told rack.old) reader.old receiver.old pieces
+        → IsErrOf result ReceiveFault.TooLong → StopsAtLimit plan first before (I.told input.new) files (R.told rack.new) }
+    ensures file { (plan : PlanFields) (before : InputTold) (files : RackTold) (pieces : List (List ℕ))
+        → HasGiven plan first before (I.told input.old) files (R.told rack.old) reader.old receiver.old pieces
+        → IsErrOf result ReceiveFault.Rack → FailsInFiles plan first before (I.told input.new) files (R.told rack.new) }
+    ensures others { ¬ IsErrOf result ReceiveFault.Sink × ¬ IsErrOf result ReceiveFault.OutOfMemory }
+{
+    if let Some(LentRecord { moment, bytes }) = lend_record(input, reader) {
+        return match take_record(moment, bytes, receiver, rack, first, services) {
+            Ok(()) => Ok(true),
+            Err(Failed) => Err(ReceiveFault::Rack),
+        };
+    }
+    if !reader.next_into(input, place)? {
+        return Ok(false);
+    }
+    match take_record(place.moment, &place.bytes, receiver, rack, first, services) {
+        Ok(()) => Ok(true),
+        Err(Failed) => Err(ReceiveFault::Rack),
+    }
 }

@@ -3,7 +3,6 @@ ghost use Rattle.std.specs.Prelude.{◌≡◌, ℕ, ◌+◌, ◌^◌, ◌<◌, �
 ghost use Rattle.wire_spec.specs.Causes.{HasCause};
 ghost use Rattle.ts_spec.specs.Recording.{Record as ReadRecord};
 ghost use Rattle.plan_spec.specs.Plan.{PlanFields};
-ghost use Rattle.ts_record.specs.Reading.{record_seen};
 ghost use Rattle.reception_spec.specs.Delivered.{pairs_of_record};
 ghost use Rattle.demux_core.specs.Receiving.{HasReceived};
 ghost use Rattle.receive_command.specs.Growth.{Grow, GrowTo, records_at};
@@ -12,11 +11,11 @@ use crate::outlet::{Began, Progress, RackOutlet};
 use demux_core::Receiver;
 use ipe_io::{Failed, Rack};
 use std::marker::{Brand, PhantomData};
-use ts_record::Record;
 
-/// Gives a record to the receiver. The files, one for each service and the first of them at a place, grow by what it delivers.
+/// Gives a record, its moment and its packet, to the receiver. The files, one for each service and the first of them at a place, grow by what it delivers.
 pub(crate) fn take_record<R: Rack>(
-    item: &Record,
+    moment: Option<u64>,
+    bytes: &[u8; 188],
     receiver: &mut Receiver<'_>,
     rack: &mut R,
     first: u32,
@@ -28,11 +27,11 @@ pub(crate) fn take_record<R: Rack>(
     requires there { first + services ≤ (R.told rack.old).count }
     requires places { first + services ≤ 2 ^ 32 }
     ensures received { (plan : PlanFields) (records : List ReadRecord) → HasReceived plan records receiver.old
-        → OnOk result (HasReceived plan (records ++ record_seen item.now ∷ []) receiver.new) }
+        → OnOk result (HasReceived plan (records ++ record { moment = moment; bytes = bytes.now } ∷ []) receiver.new) }
     ensures written { (plan : PlanFields) (records : List ReadRecord) → HasReceived plan records receiver.old
-        → OnOk result (Grow (R.told rack.old).files (R.told rack.new).files (records_at first (pairs_of_record plan (records ++ record_seen item.now ∷ []) (length records)))) }
+        → OnOk result (Grow (R.told rack.old).files (R.told rack.new).files (records_at first (pairs_of_record plan (records ++ record { moment = moment; bytes = bytes.now } ∷ []) (length records)))) }
     ensures failed { (plan : PlanFields) (records : List ReadRecord) → HasReceived plan records receiver.old
-        → OnErr result (GrowTo first (R.told rack.old).files (R.told rack.new).files (pairs_of_record plan (records ++ record_seen item.now ∷ []) (length records))) }
+        → OnErr result (GrowTo first (R.told rack.old).files (R.told rack.new).files (pairs_of_record plan (records ++ record { moment = moment; bytes = bytes.now } ∷ []) (length records))) }
     ensures goes_on { OnOk result (receiver.new.is_open ≡ true) }
     ensures plan { receiver.new.plan ≡ receiver.old.plan }
     ensures kept { (plan : PlanFields) (records : List ReadRecord) → HasReceived plan records receiver.old
@@ -40,7 +39,7 @@ pub(crate) fn take_record<R: Rack>(
     ensures cause { (plan : PlanFields) (records : List ReadRecord) → HasReceived plan records receiver.old
         → HasCause (R.told rack.old).faults (R.told rack.new).faults result }
 {
-    take_from::<R, Brand>(item, receiver, rack, first, services)
+    take_from::<R, Brand>(moment, bytes, receiver, rack, first, services)
 }
 
 /// Ends the reception. So far no kind of service has anything left to deliver then.
@@ -70,7 +69,8 @@ pub(crate) fn end_reception<R: Rack>(
 
 /// The same as `take_record`, where the outlet begins with what `B` has.
 fn take_from<R: Rack, B: Began>(
-    item: &Record,
+    moment: Option<u64>,
+    bytes: &[u8; 188],
     receiver: &mut Receiver<'_>,
     rack: &mut R,
     first: u32,
@@ -84,11 +84,11 @@ fn take_from<R: Rack, B: Began>(
     requires began_place { B.first ≡ first }
     requires began_rack { (B.count ≡ (R.told rack.old).count) × (B.faults ≡ (R.told rack.old).faults) × (B.files ≡ (R.told rack.old).files) }
     ensures received { (plan : PlanFields) (records : List ReadRecord) → HasReceived plan records receiver.old
-        → OnOk result (HasReceived plan (records ++ record_seen item.now ∷ []) receiver.new) }
+        → OnOk result (HasReceived plan (records ++ record { moment = moment; bytes = bytes.now } ∷ []) receiver.new) }
     ensures written { (plan : PlanFields) (records : List ReadRecord) → HasReceived plan records receiver.old
-        → OnOk result (Grow (R.told rack.old).files (R.told rack.new).files (records_at first (pairs_of_record plan (records ++ record_seen item.now ∷ []) (length records)))) }
+        → OnOk result (Grow (R.told rack.old).files (R.told rack.new).files (records_at first (pairs_of_record plan (records ++ record { moment = moment; bytes = bytes.now } ∷ []) (length records)))) }
     ensures failed { (plan : PlanFields) (records : List ReadRecord) → HasReceived plan records receiver.old
-        → OnErr result (GrowTo first (R.told rack.old).files (R.told rack.new).files (pairs_of_record plan (records ++ record_seen item.now ∷ []) (length records))) }
+        → OnErr result (GrowTo first (R.told rack.old).files (R.told rack.new).files (pairs_of_record plan (records ++ record { moment = moment; bytes = bytes.now } ∷ []) (length records))) }
     ensures goes_on { OnOk result (receiver.new.is_open ≡ true) }
     ensures plan { receiver.new.plan ≡ receiver.old.plan }
     ensures kept { (plan : PlanFields) (records : List ReadRecord) → HasReceived plan records receiver.old
@@ -103,7 +103,7 @@ fn take_from<R: Rack, B: Began>(
         progress: Progress::Whole,
         began: PhantomData,
     };
-    match receiver.step(item, &mut outlet) {
+    match receiver.step_record(moment, bytes, &mut outlet) {
         Ok(()) => Ok(()),
         Err(Failed) => Err(Failed),
     }
