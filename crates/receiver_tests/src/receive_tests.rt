@@ -4,6 +4,7 @@ ghost use Rattle.plan.specs.PlanView.{plan_fields};
 ghost use Rattle.plan_spec.specs.Built.{are_received};
 
 use demux_core::can_receive;
+use ipe_io::StdSource;
 use receive_command::{ReceiveFault, receive, ule};
 use service_plan::{Plan, read_plan, ule_plan};
 use std::alloc::Global;
@@ -426,5 +427,29 @@ fn one_pid_is_received_alone(rt: HostRuntime) -> Result<(), Fail> {
         assert_eq!(rt; end, case.end);
         assert_eq!(rt; outside.difference(&left), "");
     }
+    Ok(())
+}
+
+/// Records that are lent out of the input's buffer are received as those that are read.
+#[test]
+fn a_recording_is_received_from_a_source_that_lends(rt: HostRuntime) -> Result<(), Fail> {
+    let recording = recording_of_two(rt.alloc(), &INT_OF_TWO, 100)?;
+    let capture = small_capture(rt.alloc(), 1)?;
+    let mut input = StdSource::new(rt.alloc(), recording.as_slice())?;
+    let mut outside = Outside::new(rt.alloc(), &faultless(&[], &[], &[]))?;
+    let end = ule(rt.alloc(), 256, &mut input, &mut outside.rack);
+    let files = [FileLeft {
+        name: "ule.pcap",
+        bytes: &capture,
+        flushed: capture.len(),
+    }];
+    let left = Left {
+        output: &[],
+        flushed: 0,
+        line: "",
+        files: &files,
+    };
+    assert_eq!(rt; end, Ok(()));
+    assert_eq!(rt; outside.difference(&left), "");
     Ok(())
 }
