@@ -1,6 +1,6 @@
 //! What no clause says of `check SETTINGS`: that a run over objects in memory ends so, with ample memory.
-use crate::runs::expect;
 use ipencap_engine::Status;
+use scenario_runs::expect;
 use std::test::Fail;
 use test_recordings::settings::{FILES, INT, STAMPED, settings_of};
 use test_recordings::{Failing, Given, Left, faultless, filled};
@@ -237,7 +237,7 @@ fn settings_are_listed_or_have_the_line_of_their_fault(rt: HostRuntime) -> Resul
             line: case.line,
             files: &[],
         };
-        expect(&rt, rt.alloc(), case.name, &given, case.status, &left)?;
+        expect(rt.alloc(), case.name, &given, case.status, &left)?;
     }
     Ok(())
 }
@@ -253,7 +253,6 @@ fn a_file_is_a_text_of_1048576_bytes_at_most(rt: HostRuntime) -> Result<(), Fail
         let settings = filled(rt.alloc(), byte, count)?;
         let given = faultless(&["check", "a.toml"], &settings, &[]);
         expect(
-            &rt,
             rt.alloc(),
             line,
             &given,

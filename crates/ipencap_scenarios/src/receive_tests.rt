@@ -1,6 +1,6 @@
 //! What no clause says of `receive SETTINGS`: that a run over objects in memory ends so, with ample memory.
-use crate::runs::expect;
 use ipencap_engine::Status;
+use scenario_runs::expect;
 use std::test::Fail;
 use test_recordings::settings::FRAMES;
 use test_recordings::{
@@ -193,7 +193,7 @@ fn a_recording_gives_its_capture_and_the_report(rt: HostRuntime) -> Result<(), F
             fails: case.fails,
             ..faultless(&["receive", "a.toml"], case.settings.as_bytes(), input)
         };
-        expect(&rt, rt.alloc(), case.name, &given, case.status, &left)?;
+        expect(rt.alloc(), case.name, &given, case.status, &left)?;
     }
     Ok(())
 }

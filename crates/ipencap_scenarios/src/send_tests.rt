@@ -1,7 +1,7 @@
 //! What no clause says of `send SETTINGS`: that a run over objects in memory ends so, with ample memory.
 //! Packets by hand from RFC 4326 and ISO/IEC 13818-1.
-use crate::runs::expect;
 use ipencap_engine::Status;
+use scenario_runs::expect;
 use std::test::Fail;
 use test_recordings::settings::{FILES, FRAMES};
 use test_recordings::{Failing, Given, Left, capture_of_files, faultless, packet_of_files};
@@ -176,7 +176,7 @@ fn a_capture_is_sent_up_to_a_fault(rt: HostRuntime) -> Result<(), Fail> {
             line: case.line,
             files: &[],
         };
-        expect(&rt, rt.alloc(), case.name, &given, case.status, &left)?;
+        expect(rt.alloc(), case.name, &given, case.status, &left)?;
     }
     Ok(())
 }

@@ -1,7 +1,7 @@
 //! What no clause says of `ule PID`, and of words that form no command: that a run over objects in memory ends so, with ample
 //! memory, and what small recordings give.
-use crate::runs::expect;
 use ipencap_engine::Status;
+use scenario_runs::expect;
 use std::test::Fail;
 use test_recordings::{
     Failing, FileLeft, Given, Left, SmallPacket, faultless, small_capture, small_recording,
@@ -34,7 +34,6 @@ fn words_that_form_no_command_add_no_file(rt: HostRuntime) -> Result<(), Fail> {
     for words in REFUSED {
         let given = faultless(words, &[], &input);
         expect(
-            &rt,
             rt.alloc(),
             "refused",
             &given,
@@ -217,7 +216,7 @@ fn recordings_give_their_datagrams_and_a_fault_leaves_a_front(rt: HostRuntime) -
             fails: case.fails,
             ..faultless(&["ule", "256"], &[], &input)
         };
-        expect(&rt, rt.alloc(), case.name, &given, case.status, &left)?;
+        expect(rt.alloc(), case.name, &given, case.status, &left)?;
     }
     Ok(())
 }

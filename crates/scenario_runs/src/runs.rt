@@ -1,9 +1,6 @@
-//! What a run is given -> [ipencap_engine] -> what it leaves.
-//!
-//! The one call of `run` stands here, since its contract is long: the tests are tables over `expect`.
+//! The one call of `run`, whose contract is long: it is proved once, and the tests are tables over `expect`.
 use ipencap_engine::{Status, run};
 use std::alloc::Global;
-use std::process::Abort;
 use std::test::Fail;
 use test_recordings::{Given, Left, Outside, words_of};
 
@@ -30,9 +27,8 @@ pub fn ran(alloc: Global, given: &Given<'_>) -> Result<Ended, Fail> {
     Ok(Ended { status, outside })
 }
 
-/// Runs the program, and compares all that it leaves.
+/// Runs the program, and compares all that it leaves. A difference fails as a text: the case, and what differs.
 pub fn expect(
-    rt: &impl Abort,
     alloc: Global,
     case: &str,
     given: &Given<'_>,
@@ -40,7 +36,16 @@ pub fn expect(
     left: &Left<'_>,
 ) -> Result<(), Fail> {
     let ended = ran(alloc, given)?;
-    assert_eq!(rt; ended.status, status, "{case}");
-    assert_eq!(rt; ended.outside.difference(left), "", "{case}");
-    Ok(())
+    let difference = if ended.status == status {
+        ended.outside.difference(left)
+    } else {
+        "the status"
+    };
+    if difference.is_empty() {
+        return Ok(());
+    }
+    let mut text = String::from_str(alloc, case)?;
+    text.push_str(": ")?;
+    text.push_str(difference)?;
+    Err(Fail::new(text))
 }

@@ -2,10 +2,9 @@
 use crate::damage_cases::HURT;
 use crate::gap_cases::{OTHERS_BETWEEN, POINTERS, SIXTEEN_LOST};
 use crate::header_cases::HEADED;
-use crate::runs::expect;
 use ipencap_engine::Status;
+use scenario_runs::expect;
 use std::alloc::Global;
-use std::process::Abort;
 use std::test::Fail;
 use test_recordings::{
     Datagram, FileLeft, Left, PacketOf, Sndu, capture_of_sndus, faultless, recording_of, stream_of,
@@ -68,7 +67,7 @@ pub const OTHER: Sndu = Sndu {
 };
 
 /// The file that `ule 256` writes is the one that it must be, flushed.
-fn comes(rt: &impl Abort, alloc: Global, case: &Case<'_>) -> Result<(), Fail> {
+fn comes(alloc: Global, case: &Case<'_>) -> Result<(), Fail> {
     let stream = stream_of(alloc, case.stream)?;
     let recording = recording_of(alloc, &stream, case.packets)?;
     let capture = capture_of_sndus(alloc, case.want)?;
@@ -84,7 +83,7 @@ fn comes(rt: &impl Abort, alloc: Global, case: &Case<'_>) -> Result<(), Fail> {
         files: &files,
     };
     let given = faultless(&["ule", "256"], &[], &recording);
-    expect(rt, alloc, case.name, &given, Status::Done, &left)
+    expect(alloc, case.name, &given, Status::Done, &left)
 }
 
 #[test]
@@ -92,7 +91,7 @@ fn packets_by_hand_give_their_datagrams(rt: HostRuntime) -> Result<(), Fail> {
     let tables: [&[Case]; 4] = [&SIXTEEN_LOST, &POINTERS, &OTHERS_BETWEEN, &HURT];
     for table in tables {
         for case in table {
-            comes(&rt, rt.alloc(), case)?;
+            comes(rt.alloc(), case)?;
         }
     }
     Ok(())
@@ -124,7 +123,7 @@ fn extension_headers_lead_to_a_datagram(rt: HostRuntime) -> Result<(), Fail> {
                 &[LAST]
             },
         };
-        comes(&rt, rt.alloc(), &case)?;
+        comes(rt.alloc(), &case)?;
     }
     Ok(())
 }

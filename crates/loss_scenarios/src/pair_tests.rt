@@ -1,10 +1,9 @@
 //! The pair end to end: what is sent is received as the loss law promises, whatever happens on the way.
 use crate::losses::{Delivered, LOSSES, Loss, NO_LOSS, WHOLE_FILES, WHOLE_LECTURE};
 use crate::pair::{FILE_SIZES, LECTURE_SIZES, sent, settings_of_pair};
-use crate::runs::expect;
 use ipencap_engine::Status;
+use scenario_runs::expect;
 use std::alloc::Global;
-use std::process::Abort;
 use std::test::Fail;
 use test_recordings::{
     FileLeft, Left, Numbers, Report, ServiceReport, TableReport, damaged, faultless,
@@ -72,12 +71,7 @@ const NO_LINES: Lines = Lines {
 };
 
 /// Sends all datagrams, lets the loss happen, receives, and compares the captures and the report.
-fn comes_as_told(
-    rt: &impl Abort,
-    alloc: Global,
-    loss: &Loss<'_>,
-    lines: &Lines<'_>,
-) -> Result<(), Fail> {
+fn comes_as_told(alloc: Global, loss: &Loss<'_>, lines: &Lines<'_>) -> Result<(), Fail> {
     let stream = sent(
         alloc,
         &settings_of_pair(alloc, loss.form.line, "", lines.sent)?,
@@ -106,14 +100,14 @@ fn comes_as_told(
         files: &captures,
     };
     let given = faultless(&["receive", "a.toml"], settings.as_bytes(), &recording);
-    expect(rt, alloc, loss.name, &given, Status::Done, &left)
+    expect(alloc, loss.name, &given, Status::Done, &left)
 }
 
 /// The loss law: each service's datagrams come unchanged, in order, each at most once, and each whose unit arrived whole.
 #[test]
 fn what_arrives_whole_is_delivered(rt: HostRuntime) -> Result<(), Fail> {
     for loss in &LOSSES {
-        comes_as_told(&rt, rt.alloc(), loss, &NO_LINES)?;
+        comes_as_told(rt.alloc(), loss, &NO_LINES)?;
     }
     Ok(())
 }
@@ -210,7 +204,7 @@ fn a_filter_wants_its_addresses_and_what_is_for_all(rt: HostRuntime) -> Result<(
             files: case.files,
             ..NO_LOSS
         };
-        comes_as_told(&rt, rt.alloc(), &loss, &case.lines)?;
+        comes_as_told(rt.alloc(), &loss, &case.lines)?;
     }
     Ok(())
 }

@@ -1,7 +1,7 @@
 //! Each call of each object fails in turn while a recording is received.
 use crate::pair::{sent, settings_of_pair};
-use crate::runs::ran;
 use ipencap_engine::Status;
+use scenario_runs::ran;
 use std::test::Fail;
 use test_recordings::{Failing, Given, faultless};
 

@@ -1,6 +1,6 @@
 //! What is sent, damaged on its way, and received: settings and datagrams.
-use crate::runs::ran;
 use ipencap_engine::Status;
+use scenario_runs::ran;
 use std::alloc::Global;
 use std::test::Fail;
 use test_recordings::settings::{FILES, INT, LECTURE, settings_of};
