@@ -1,26 +1,29 @@
 -- Sections of the INT's PID, one after another.
-use Rattle.std.proofs.Common.{◌≡◌, ℕ, ◌^◌, ◌<◌, ◌≤◌, true, List, [], ◌∷◌, ◌++◌, length, find, refl, ap, sym, ◌∙◌, subst, arith, length-append, Option, None, Some}
+use Rattle.std.proofs.Common.{◌≡◌, ℕ, ◌^◌, ◌<◌, ◌≤◌, true, List, [], ◌∷◌, ◌++◌, length, find, refl, ap, sym, ◌∙◌, subst, arith, append_assoc, length-append, Option, None, Some}
 use Rattle.std.specs.Option.{option_or}
+use Rattle.std.proofs.lemmas.List.{append-nil}
 use Rattle.std.proofs.lemmas.List.Folds.{find-append}
 use Rattle.wire_spec.specs.Causes.{raised}
 use Rattle.ts_spec.specs.Form.{IsUnit}
-use Rattle.ts_spec.specs.Packet.{PacketFields}
 use Rattle.ts_spec.specs.Recording.{Record}
-use Rattle.ts_spec.specs.Received.{Arrival, is_of, received_packets}
-use Rattle.ts_spec.specs.Events.{Event, unit_event, events_of}
+use Rattle.ts_spec.specs.Received.{is_of, received_packets}
+use Rattle.ts_spec.specs.Events.{Event, unit_event, bad_check_event, delimit_event, bad_length_event, events_of}
 use Rattle.section_spec.specs.Section.{section_form}
 use Rattle.section_codec.specs.Spans.{section_lawful}
 use Rattle.reception_spec.specs.Table.{is_int_section}
 use Rattle.ts_packet.specs.declared.continuity.Link.{Link}
 use Rattle.ts_packet.specs.Links.{link_of}
-use Rattle.unit_stream.specs.Joining.{JoinerState, Stands, IsGiving, Answers, left_events, packets_with}
+use Rattle.unit_stream.specs.Joining.{JoinerState, packets_with}
+use Rattle.unit_stream.specs.Telling.{HasHeard, HasTold}
 use Rattle.service_reception.specs.Counting.{units_in}
 use Rattle.service_reception.specs.Reception.{packet_record}
-use Rattle.service_reception.specs.Table.{KeptSections, TableState, kept_of, first_with, IsKeeping, HasReceivedTable}
+use Rattle.service_reception.specs.Table.{KeptSections, kept_of, first_with, KeepsEvent, HasReceivedTable}
+use Rattle.service_reception.specs.Taking.{IsProper}
 use Rattle.service_reception.proofs.Counted.{units_in-append, few_units}
-use Rattle.service_reception.proofs.Proper.{event_proper}
+use Rattle.service_reception.proofs.Proper.{AllProper, events_proper}
 use Rattle.service_reception.proofs.Few.{few_in_all}
-use Rattle.service_reception.proofs.Records.{packet_at, received_with, last_with}
+use Rattle.service_reception.proofs.Records.{packet_at, last_with}
+use Rattle.service_reception.proofs.Taken.{told_with}
 use Rattle.service_reception.proofs.Units.{units_accepted}
 
 -- the first section of an INT
@@ -48,48 +51,53 @@ section_kept sections section before after few same units first =
 pub section_short : (section : List ℕ) → IsUnit section_form section → length section ≤ 4096
 section_short section unit = section_lawful.whole_most section (length section) unit.size
 
--- the next event is a section, and it is kept
-pub keeps_section : (old new : JoinerState) (packet : PacketFields) (packets : List Arrival) (before after : KeptSections) (given : List Event) (moment : ℕ) (section : List ℕ)
-    → Answers section_form old new packet (Some (unit_event moment section)) → IsKeeping old packet packets before given
-    → after.units ≡ raised before.units 1 → (length section ≤ 4096 → after.first ≡ first_with before.first section)
-    → (more : List Event) × IsKeeping new packet packets after more
-keeps_section old new packet packets before after given moment section answers keeping units first =
-    let event : Event = unit_event moment section in
-    let gives : IsGiving section_form new packet packets (given ++ event ∷ []) = answers.gives packets given keeping.gives in
-    let proper : IsUnit section_form section = event_proper section_form section_lawful packets given event (left_events section_form packet new) gives.events in
-    let few : length (given ++ event ∷ []) < 2 ^ 64 =
-    omega (arith, keeping.few, ap (λ (t : List Event). length t) gives.events, length-append (given ++ event ∷ []) (left_events section_form packet new)) in (
-      given ++ event ∷ [],
-      record {
-        gives = gives;
-        few = keeping.few;
-        kept_are = section_kept (units_in given) section before after
-            (omega (arith, few_units (given ++ event ∷ []), ap (λ (t : List (List ℕ)). length t) (units_in-append given (event ∷ [])), few))
-            keeping.kept_are units (first (section_short section proper))
-            ∙ ap kept_of (sym (units_in-append given (event ∷ [])));
-      },
-    )
+-- the events are heard, and their sections are kept
+pub kept_heard : {L : Type 0} (Hears : L → Event → L → Type 0) (view : L → KeptSections) → ((old new : L) (event : Event) → Hears old event new → KeepsEvent event (view old) (view new))
+    → (events given : List Event) (old new : L) → HasHeard Hears old events new → AllProper section_form section_lawful events → length (given ++ events) < 2 ^ 64
+    → view old ≡ kept_of (units_in given) → view new ≡ kept_of (units_in (given ++ events))
+kept_heard Hears view each [] given old new heard proper few kept = ap view heard ∙ kept ∙ ap (λ (t : List Event). kept_of (units_in t)) (sym (append-nil given))
+kept_heard Hears view each (event ∷ events) given old new (mid, (one, rest)) proper few kept =
+    let same : (given ++ event ∷ []) ++ events ≡ given ++ event ∷ events = append_assoc given (event ∷ []) events in
+    let fewer : length (given ++ event ∷ []) < 2 ^ 64 = omega (arith, few, ap (λ (t : List Event). length t) same, length-append (given ++ event ∷ []) events) in
+    kept_heard Hears view each events (given ++ event ∷ []) mid new rest proper.1 (subst (λ (t : List Event). length t < 2 ^ 64) (sym same) few)
+    (one_kept event given (view old) (view mid) (each old mid event one) proper.0 fewer kept)
+    ∙ ap (λ (t : List Event). kept_of (units_in t)) same
+  where
+    no_section : (event : Event) (given : List Event) (before after : KeptSections) → units_in (event ∷ []) ≡ [] → after ≡ before → before ≡ kept_of (units_in given)
+        → after ≡ kept_of (units_in (given ++ event ∷ []))
+    no_section event given before after none same kept =
+        same ∙ kept ∙ ap kept_of (sym (units_in-append given (event ∷ []) ∙ ap (λ (t : List (List ℕ)). units_in given ++ t) none ∙ append-nil (units_in given)))
 
--- the packet is fed, and its sections are to be kept
-pub keeping_begins : (pid : ℕ) (records : List Record) (moment : ℕ) (bytes : List ℕ) (state : TableState) (fed : JoinerState) (packet : PacketFields) (link : Link)
-    → HasReceivedTable pid state records → is_of pid bytes ≡ true → link ≡ link_of state.last bytes → length records < 2 ^ 32
-    → IsGiving section_form fed packet (packets_with link (received_packets pid records) (packet_at records moment bytes)) (events_of section_form (received_packets pid records))
-    → IsKeeping fed packet (received_packets pid (records ++ packet_record moment bytes ∷ [])) state.kept (events_of section_form (received_packets pid records))
-keeping_begins pid records moment bytes state fed packet link received of_pid linked few gives = record {
-  gives = subst (λ (t : List Arrival). IsGiving section_form fed packet t (events_of section_form (received_packets pid records)))
-      (received_with pid records moment bytes state.last link received.last_is of_pid linked) gives;
-  few = few_in_all section_form pid (records ++ packet_record moment bytes ∷ []) (omega (arith, length-append records (packet_record moment bytes ∷ []), few));
-  kept_are = received.kept_are ∙ ap kept_of (sym (units_accepted section_form pid records));
-}
+    one_kept : (event : Event) (given : List Event) (before after : KeptSections) → KeepsEvent event before after → IsProper section_form event → length (given ++ event ∷ []) < 2 ^ 64
+        → before ≡ kept_of (units_in given) → after ≡ kept_of (units_in (given ++ event ∷ []))
+    one_kept (unit_event moment section) given before after keeps proper few kept =
+        section_kept (units_in given) section before after
+        (omega (arith, few_units (given ++ unit_event moment section ∷ []), ap (λ (t : List (List ℕ)). length t) (units_in-append given (unit_event moment section ∷ [])), few))
+        kept keeps.0 (keeps.1 (section_short section proper))
+        ∙ ap kept_of (sym (units_in-append given (unit_event moment section ∷ [])))
+    one_kept bad_check_event given before after keeps proper few kept = no_section bad_check_event given before after refl keeps kept
+    one_kept delimit_event given before after keeps proper few kept = no_section delimit_event given before after refl keeps kept
+    one_kept bad_length_event given before after keeps proper few kept = no_section bad_length_event given before after refl keeps kept
 
--- they are kept
-pub table_received : (pid : ℕ) (records : List Record) (moment : ℕ) (bytes : List ℕ) (state now : TableState)
-    → HasReceivedTable pid state records → is_of pid bytes ≡ true → now.last ≡ Some bytes
-    → Stands section_form now.joiner (received_packets pid (records ++ packet_record moment bytes ∷ []))
-    → now.kept ≡ kept_of (units_in (events_of section_form (received_packets pid (records ++ packet_record moment bytes ∷ []))))
-    → HasReceivedTable pid now (records ++ packet_record moment bytes ∷ [])
-table_received pid records moment bytes state now received of_pid seen stands kept = record {
-  last_is = seen ∙ last_with pid records moment bytes state.last received.last_is of_pid;
-  stands = stands;
-  kept_are = kept ∙ ap kept_of (units_accepted section_form pid (records ++ packet_record moment bytes ∷ []));
-}
+-- the packet is taken, and its sections are kept
+pub table_heard : {L : Type 0} (Hears : L → Event → L → Type 0) (view : L → KeptSections) → ((old new : L) (event : Event) → Hears old event new → KeepsEvent event (view old) (view new))
+    → (pid : ℕ) (records : List Record) (moment : ℕ) (bytes : List ℕ) (last now_last : Option (List ℕ)) (joiner now : JoinerState) (link : Link) (a b : L)
+    → HasReceivedTable pid (record { last = last; joiner = joiner; kept = view a }) records → is_of pid bytes ≡ true → link ≡ link_of last bytes → length records < 2 ^ 32 → now_last ≡ Some bytes
+    → HasTold section_form now (packets_with link (received_packets pid records) (packet_at records moment bytes)) (events_of section_form (received_packets pid records)) Hears a b
+    → HasReceivedTable pid (record { last = now_last; joiner = now; kept = view b }) (records ++ packet_record moment bytes ∷ [])
+table_heard Hears view each pid records moment bytes last now_last joiner now link a b received of_pid linked few seen fed =
+    let given : List Event = events_of section_form (received_packets pid records) in
+    let all : List Event = events_of section_form (received_packets pid (records ++ packet_record moment bytes ∷ [])) in
+    let told = told_with Hears section_form pid records moment bytes last link now a b received.last_is of_pid linked fed in
+    let few_events : length (given ++ told.events) < 2 ^ 64 =
+    subst (λ (t : List Event). length t < 2 ^ 64) told.events_are
+    (few_in_all section_form pid (records ++ packet_record moment bytes ∷ []) (omega (arith, length-append records (packet_record moment bytes ∷ []), few))) in
+    let kept : view b ≡ kept_of (units_in (given ++ told.events)) =
+    kept_heard Hears view each told.events given a b told.heard
+    (events_proper section_form section_lawful (received_packets pid (records ++ packet_record moment bytes ∷ [])) given told.events told.events_are)
+    few_events (received.kept_are ∙ ap kept_of (sym (units_accepted section_form pid records))) in
+    record {
+      last_is = seen ∙ last_with pid records moment bytes last received.last_is of_pid;
+      stands = told.stands;
+      kept_are = kept ∙ ap (λ (t : List Event). kept_of (units_in t)) (sym told.events_are) ∙ ap kept_of (units_accepted section_form pid (records ++ packet_record moment bytes ∷ []));
+    }

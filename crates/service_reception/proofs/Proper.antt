@@ -87,11 +87,3 @@ module _ (form : UnitForm) (lawful : IsLawful form) where
   -- events after some of them
   pub events_proper : (packets : List Arrival) (given events : List Event) → events_of form packets ≡ given ++ events → AllProper events
   events_proper packets given events same = behind_proper given events (subst AllProper same (proper_events packets))
-
-  last_proper : (given : List Event) (event : Event) (left : List Event) → AllProper ((given ++ event ∷ []) ++ left) → IsProper form event
-  last_proper [] event left all = all.0
-  last_proper (one ∷ given) event left all = last_proper given event left all.1
-
-  -- an event that is given, whatever follows
-  pub event_proper : (packets : List Arrival) (given : List Event) (event : Event) (left : List Event) → (given ++ event ∷ []) ++ left ≡ events_of form packets → IsProper form event
-  event_proper packets given event left same = last_proper given event left (subst AllProper (sym same) (proper_events packets))

@@ -1,15 +1,14 @@
 -- What a reception of the INT's PID stands for.
-use Rattle.std.specs.Prelude.{◌≡◌, ℕ, ◌^◌, ◌<◌, List, length, find, if◌then◌else◌, Option, Some, None}
+use Rattle.std.specs.Prelude.{◌≡◌, ℕ, ◌≤◌, List, length, find, if◌then◌else◌, Option, Some, None}
 use Rattle.ts_spec.specs.Recording.{Record}
-use Rattle.ts_spec.specs.Packet.{PacketFields}
-use Rattle.ts_spec.specs.Received.{Arrival, received_packets}
-use Rattle.ts_spec.specs.Events.{Event, events_of}
+use Rattle.wire_spec.specs.Causes.{raised}
+use Rattle.ts_spec.specs.Received.{received_packets}
+use Rattle.ts_spec.specs.Events.{Event, unit_event, bad_check_event, delimit_event, bad_length_event}
 use Rattle.section_spec.specs.Section.{section_form}
 use Rattle.reassembly_law.specs.Records.{last_bytes}
 use Rattle.reception_spec.specs.Numbers.{units_on}
 use Rattle.reception_spec.specs.Table.{is_int_section}
-use Rattle.unit_stream.specs.Joining.{JoinerState, Stands, IsGiving}
-use Rattle.service_reception.specs.Counting.{units_in}
+use Rattle.unit_stream.specs.Joining.{JoinerState, Stands}
 
 -- how many sections came, and the first with the table_id of an INT
 pub record KeptSections : Type 0 where
@@ -30,14 +29,16 @@ abbrev pub first_with : Option (List ℕ) → List ℕ → Option (List ℕ)
 first_with (Some first) section = Some first
 first_with None section = if is_int_section section then Some section else None
 
+-- one event more is heard: its section is counted, and kept where it is the first of an INT
+abbrev pub KeepsEvent : Event → KeptSections → KeptSections → Type 0
+KeepsEvent (unit_event moment section) old new =
+    (new.units ≡ raised old.units 1) × (length section ≤ 4096 → new.first ≡ first_with old.first section)
+KeepsEvent bad_check_event old new = new ≡ old
+KeepsEvent delimit_event old new = new ≡ old
+KeepsEvent bad_length_event old new = new ≡ old
+
 -- these records were received on the INT's PID
 pub record HasReceivedTable (pid : ℕ) (state : TableState) (records : List Record) : Type 0 where
   pub last_is : state.last ≡ last_bytes None (received_packets pid records)
   pub stands : Stands section_form state.joiner (received_packets pid records)
   pub kept_are : state.kept ≡ kept_of (units_on section_form (Some pid) records)
-
--- these events of the packets that a joiner was fed are given, and what their sections leave is kept
-pub record IsKeeping (joiner : JoinerState) (packet : PacketFields) (packets : List Arrival) (kept : KeptSections) (given : List Event) : Type 0 where
-  pub gives : IsGiving section_form joiner packet packets given
-  pub few : length (events_of section_form packets) < 2 ^ 64
-  pub kept_are : kept ≡ kept_of (units_in given)

@@ -6,7 +6,7 @@ use byte_slices::put;
 use section_codec::{SectionForm, table_id};
 use std::alloc::Allocator;
 use std::marker::Model;
-use unit_stream::UnitForm;
+use unit_stream::{JoinEvent, Listener, UnitForm};
 
 /// table_id of the IP/MAC notification table (EN 301 192 clause 8.4).
 const INT: u8 = 0x4C;
@@ -73,6 +73,18 @@ impl<A: Allocator> Kept<A> {
         match self.size {
             Some(size) => Some(&self.buffer[..size]),
             None => None,
+        }
+    }
+}
+
+impl<A: Allocator> Listener for Kept<A> {
+    ghost use Rattle.service_reception.specs.Table.{KeepsEvent};
+
+    ghost Hears = { λ old event new. KeepsEvent event old new };
+
+    fn hear(&mut self, event: &JoinEvent<'_>) {
+        if let JoinEvent::Unit { moment: _, bytes } = event {
+            self.add(bytes);
         }
     }
 }

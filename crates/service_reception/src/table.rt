@@ -1,19 +1,11 @@
 //! The packets of the INT's PID -> how many sections came, and the first section of an INT.
-ghost use Rattle.std.specs.Prelude.{◌≡◌, ◌<◌, ◌^◌, true, false, List, length};
-ghost use Rattle.ts_spec.specs.Received.{Arrival};
-ghost use Rattle.ts_spec.specs.Events.{Event, events_of};
-ghost use Rattle.section_spec.specs.Section.{section_form};
-ghost use Rattle.ts_packet.specs.Fields.{fields_in};
-ghost use Rattle.unit_stream.specs.Joining.{Stands, steps_left};
-ghost use Rattle.service_reception.specs.Table.{IsKeeping, kept_of};
-ghost use Rattle.service_reception.specs.Counting.{units_in};
 
 use crate::kept::Kept;
 use section_codec::SectionForm;
 use std::alloc::Allocator;
 use std::marker::Model;
 use ts_packet::{Continuity, Packet};
-use unit_stream::{JoinEvent, Joiner};
+use unit_stream::Joiner;
 
 /// The reception of the INT's PID.
 #[derive(Drop)]
@@ -61,8 +53,7 @@ impl<A: Allocator> TableReception<A> {
             → HasReceivedTable packet.now.pid self.new (records ++ packet_record moment bytes.now ∷ []) }
     {
         let link = self.continuity.see(bytes, packet);
-        self.joiner.feed(link, packet, moment);
-        keep_sections(&mut self.joiner, &mut self.kept, packet);
+        self.joiner.take(link, packet, moment, &mut self.kept);
     }
 
     /// How many sections were accepted.
@@ -77,39 +68,5 @@ impl<A: Allocator> TableReception<A> {
         ensures read { option_copied result ≡ self.now.kept.first }
     {
         self.kept.first()
-    }
-}
-
-/// Keeps what is to be kept of the sections that end in the packet that the joiner was fed last.
-fn keep_sections<A: Allocator>(
-    joiner: &mut Joiner<SectionForm, A>,
-    kept: &mut Kept<A>,
-    packet: &Packet<'_>,
-)
-    ensures kept { (packets : List Arrival) (given : List Event) → IsKeeping joiner.old (fields_in packet.now) packets kept.old given
-        → Stands section_form joiner.new packets × (kept.new ≡ kept_of (units_in (events_of section_form packets))) }
-{
-    while keep_next(joiner, kept, packet) {}
-}
-
-/// Keeps what is to be kept of the next event of a packet. False: all its events are given.
-fn keep_next<A: Allocator>(
-    joiner: &mut Joiner<SectionForm, A>,
-    kept: &mut Kept<A>,
-    packet: &Packet<'_>,
-) -> bool
-    ensures more { (packets : List Arrival) (given : List Event) → IsKeeping joiner.old (fields_in packet.now) packets kept.old given
-        → result ≡ true → (more : List Event) × IsKeeping joiner.new (fields_in packet.now) packets kept.new more }
-    ensures none { (packets : List Arrival) (given : List Event) → IsKeeping joiner.old (fields_in packet.now) packets kept.old given
-        → result ≡ false → Stands section_form joiner.new packets × (kept.new ≡ kept_of (units_in (events_of section_form packets))) }
-    ensures falls { result ≡ true → steps_left (length packet.now.payload.now) joiner.new < steps_left (length packet.now.payload.now) joiner.old }
-{
-    match joiner.next(packet) {
-        Some(JoinEvent::Unit { moment: _, bytes }) => {
-            kept.add(bytes);
-            true
-        }
-        Some(_) => true,
-        None => false,
     }
 }
