@@ -6,7 +6,9 @@ pub mod Accept
 pub mod Arrivals
 pub mod Received
 pub mod Order
+pub mod Spans
 pub mod Channel
+pub mod Copies
 pub mod Subsequences
 pub mod Numbers
 pub mod Row
@@ -19,6 +21,7 @@ pub mod Isolation
 pub mod Datagrams
 pub mod Stamps
 pub mod Late
+pub mod Inserted
 pub mod Lossless
 pub mod Moments
 pub mod SmallStream

@@ -1,5 +1,0 @@
-use Rattle.carriage_law.proofs.Ends.{ended}
-use Rattle.carriage_law.proofs.bytes_are_ended_by_a_packet.Goals as goal
-
-pub returns : goal.returns
-returns c = record { ended = λ start packet behind. ended packet behind }

@@ -1,5 +1,0 @@
-use Rattle.carriage_law.proofs.Datagrams.{intact_are_delivered}
-use Rattle.carriage_law.proofs.intact_datagrams_are_delivered.Goals as goal
-
-pub returns : goal.returns
-returns c = record { delivered = intact_are_delivered }
