@@ -1,12 +1,13 @@
--- What a service delivers, by the numbers of its accepted units.
+-- What a service delivers in a span, by the numbers of its accepted units.
 use Rattle.std.proofs.Common.{◌≡◌, ℕ, ◌<◌, Option, Some, List, [], ◌∷◌, ◌++◌, cond, length, map, flat_map, refl, ap, sym, ◌∙◌, subst}
 use Rattle.std.specs.Prelude.{Contains}
 use Rattle.std.proofs.lemmas.List.Folds.{flat_map-map}
 use Rattle.wire_spec.specs.Lists.{IsSubsequence}
-use Rattle.ts_spec.specs.Recording.{Record, RecordingForm}
+use Rattle.ts_spec.specs.Recording.{Record}
 use Rattle.ts_spec.specs.Reassembly.{PlacedUnit, accepted_units}
 use Rattle.ts_spec.specs.Packetized.{unit_at, Packetizes}
 use Rattle.carriage_spec.specs.Channel.{Channel}
+use Rattle.carriage_spec.specs.Spans.{IsSpanOf}
 use Rattle.carriage_spec.specs.Carried.{packets_sent, IsCarried, NoUndetectedError, ArrivedIntact, IsRising, IncludesIntact}
 use Rattle.addr_rules.specs.Filter.{is_wanted}
 use Rattle.plan_spec.specs.Plan.{ServiceFields, pid_of}
@@ -36,33 +37,33 @@ unfiltered service (unit ∷ units) none =
     ap (λ (t : List (List ℕ)). cond (is_wanted t (label_of service.kind unit)) (carried_by_unit service.kind unit) [] ++ wanted_datagrams service units) none
     ∙ ap (λ (t : List (List ℕ)). carried_by_unit service.kind unit ++ t) (unfiltered service units none)
 
-module _ (recording : RecordingForm) (sent recorded : List Record) (channel : Channel recording sent recorded) (service : ServiceFields) (pid : ℕ)
-    (on : pid_of service.kind ≡ Some pid) (units : List (List ℕ)) (begin : ℕ → ℕ) (packetized : Packetizes (form_of_kind service.kind) units (packets_sent pid sent) begin)
-    (no_error : NoUndetectedError channel (form_of_kind service.kind) pid units begin) where
+module _ (pids : List ℕ) (sent recorded : List Record) (channel : Channel pids sent recorded) (span : List Record) (is_span : IsSpanOf span recorded)
+    (service : ServiceFields) (pid : ℕ) (read : Contains pids pid) (on : pid_of service.kind ≡ Some pid) (units : List (List ℕ)) (begin : ℕ → ℕ) (packetized : Packetizes (form_of_kind service.kind) units (packets_sent pid sent) begin)
+    (no_error : NoUndetectedError channel span (form_of_kind service.kind) pid units begin) where
   -- the units are of a lawful kind
   abbrev carried : IsCarried (form_of_kind service.kind) pid sent units begin
   carried = record { lawful = kind_lawful service.kind; packetized = packetized }
 
   -- the numbers of the accepted units
   abbrev pub delivered_numbers : List ℕ
-  delivered_numbers = accepted_numbers recording sent recorded channel (form_of_kind service.kind) pid units begin carried no_error
+  delivered_numbers = accepted_numbers pids sent recorded channel span is_span (form_of_kind service.kind) pid read units begin carried no_error
 
   -- each unit that arrived intact is among them
-  pub delivered_include : IncludesIntact channel pid units begin delivered_numbers
-  delivered_include = includes_intact recording sent recorded channel (form_of_kind service.kind) pid units begin carried no_error
+  pub delivered_include : IncludesIntact channel span pid units begin delivered_numbers
+  delivered_include = includes_intact pids sent recorded channel span is_span (form_of_kind service.kind) pid read units begin carried no_error
 
   -- the accepted units are the sent ones of their numbers
-  units_are : units_of service recorded ≡ map (unit_at units) delivered_numbers
+  units_are : units_of service span ≡ map (unit_at units) delivered_numbers
   units_are =
-      units_on_pid service pid on recorded
-      ∙ accepted_are recording sent recorded channel (form_of_kind service.kind) pid units begin carried no_error
+      units_on_pid service pid on span
+      ∙ accepted_are pids sent recorded channel span is_span (form_of_kind service.kind) pid read units begin carried no_error
 
   -- the delivered datagrams are theirs
-  pub delivered_are : delivered_datagrams service recorded ≡ flat_map (λ n. delivered_by_unit service (unit_at units n)) delivered_numbers
+  pub delivered_are : delivered_datagrams service span ≡ flat_map (λ n. delivered_by_unit service (unit_at units n)) delivered_numbers
   delivered_are = ap (flat_map (delivered_by_unit service)) units_are ∙ flat_map-map (delivered_by_unit service) (unit_at units) delivered_numbers
 
   -- they are a subsequence of the wanted ones
-  delivered_were_wanted : IsSubsequence (delivered_datagrams service recorded) (wanted_datagrams service units)
+  delivered_were_wanted : IsSubsequence (delivered_datagrams service span) (wanted_datagrams service units)
   delivered_were_wanted =
       subst (λ (t : List (List ℕ)). IsSubsequence (flat_map (delivered_by_unit service) t) (wanted_datagrams service units)) (sym units_are)
       (subsequence_flat (delivered_by_unit service) (map (unit_at units) delivered_numbers) units
@@ -70,7 +71,7 @@ module _ (recording : RecordingForm) (sent recorded : List Record) (channel : Ch
 
   -- all together
   pub service_delivers : (datagrams : List (List ℕ)) → datagrams ≡ flat_map (carried_by_unit service.kind) units
-      → DeliversIntact channel service pid units begin datagrams (delivered_datagrams service recorded)
+      → DeliversIntact channel span service pid units begin datagrams (delivered_datagrams service span)
   service_delivers datagrams carried_are = record {
     numbers = delivered_numbers;
     includes = delivered_include;
@@ -80,9 +81,9 @@ module _ (recording : RecordingForm) (sent recorded : List Record) (channel : Ch
   }
 
   -- those of units that arrived intact are a subsequence of them
-  pub intact_are_delivered : (intact : List ℕ) → IsRising 0 intact → ((n : ℕ) → Contains intact n → (n < length units) × ArrivedIntact channel pid units begin n)
-      → IsSubsequence (flat_map (λ n. delivered_by_unit service (unit_at units n)) intact) (delivered_datagrams service recorded)
+  pub intact_are_delivered : (intact : List ℕ) → IsRising 0 intact → ((n : ℕ) → Contains intact n → (n < length units) × ArrivedIntact channel span pid units begin n)
+      → IsSubsequence (flat_map (λ n. delivered_by_unit service (unit_at units n)) intact) (delivered_datagrams service span)
   intact_are_delivered intact rising each =
       subst (IsSubsequence (flat_map (λ n. delivered_by_unit service (unit_at units n)) intact)) (sym delivered_are)
       (subsequence_flat (λ n. delivered_by_unit service (unit_at units n)) intact delivered_numbers
-      (intact_subsequence channel pid units begin delivered_numbers delivered_include intact rising each))
+      (intact_subsequence channel span pid units begin delivered_numbers delivered_include intact rising each))

@@ -1,12 +1,13 @@
 -- What becomes of the datagrams of a service, and of all services of a plan, whatever becomes of the records on their way.
 use Rattle.std.specs.Prelude.{◌≡◌, ℕ, ◌<◌, List, [], length, slice_index_or, flat_map, Some}
 use Rattle.wire_spec.specs.Lists.{IsSubsequence}
-use Rattle.ts_spec.specs.Recording.{Record, RecordingForm}
+use Rattle.ts_spec.specs.Recording.{Record}
 use Rattle.ts_spec.specs.Packetized.{unit_at}
 use Rattle.carriage_spec.specs.Channel.{Channel}
 use Rattle.carriage_spec.specs.Carried.{NoUndetectedError, IncludesIntact}
 use Rattle.plan_spec.specs.Plan.{mpe, ServiceFields, PlanFields, pid_of}
 use Rattle.stream_spec.specs.Services.{kind_at, form_of_kind, Carries}
+use Rattle.reception_spec.specs.Packets.{all_pids}
 use Rattle.reception_spec.specs.Units.{delivered_by_unit}
 
 -- One service.
@@ -15,12 +16,12 @@ use Rattle.reception_spec.specs.Units.{delivered_by_unit}
 abbrev pub wanted_datagrams : ServiceFields → List (List ℕ) → List (List ℕ)
 wanted_datagrams service units = flat_map (delivered_by_unit service) units
 
--- the delivered datagrams are those of the sent units with these numbers, in order and each once, among them each unit that
--- arrived intact; so they are wanted datagrams, unchanged and in order, and the wanted ones are datagrams that were sent
-pub record DeliversIntact {recording : RecordingForm} {sent recorded : List Record} (channel : Channel recording sent recorded)
+-- the datagrams that a span delivers are those of the sent units with these numbers, in order and each once, among them each unit
+-- that arrived intact in it; so they are wanted datagrams, unchanged and in order, and the wanted ones are datagrams that were sent
+pub record DeliversIntact {pids : List ℕ} {sent recorded : List Record} (channel : Channel pids sent recorded) (span : List Record)
     (service : ServiceFields) (pid : ℕ) (units : List (List ℕ)) (begin : ℕ → ℕ) (datagrams delivered : List (List ℕ)) : Type 0 where
   pub numbers : List ℕ
-  pub includes : IncludesIntact channel pid units begin numbers
+  pub includes : IncludesIntact channel span pid units begin numbers
   pub delivered_are : delivered ≡ flat_map (λ n. delivered_by_unit service (unit_at units n)) numbers
   pub were_wanted : IsSubsequence delivered (wanted_datagrams service units)
   pub were_sent : IsSubsequence (wanted_datagrams service units) datagrams
@@ -34,18 +35,19 @@ no_service = record { name = []; kind = mpe 0; rules = []; filter = []; unicast 
 abbrev pub service_at : PlanFields → ℕ → ServiceFields
 service_at plan k = slice_index_or plan.services k no_service
 
--- a recording of what was sent: it came through the channel, and no damaged or spliced unit of a service passes its check
+-- a recording of what was sent: it came through the channel, which inserts nothing on the plan's PIDs, and no damaged or spliced
+-- unit of a service passes its check
 pub record IsRecorded (plan : PlanFields) (sent : List Record) (datagrams : ℕ → List (List ℕ)) (carries : Carries plan sent datagrams)
     (recorded : List Record) : Type 0 where
-  pub channel : Channel plan.recording sent recorded
+  pub channel : Channel (all_pids plan) sent recorded
   pub detected : (k pid : ℕ) (known : k < length plan.services) (on : pid_of (kind_at plan k) ≡ Some pid)
-      → NoUndetectedError channel (form_of_kind (kind_at plan k)) pid (carries.each k pid known on).units (carries.each k pid known on).begin
+      → NoUndetectedError channel recorded (form_of_kind (kind_at plan k)) pid (carries.each k pid known on).units (carries.each k pid known on).begin
 
 -- each service that has a PID delivers so
 pub record DeliversEach (plan : PlanFields) (sent : List Record) (datagrams : ℕ → List (List ℕ)) (carries : Carries plan sent datagrams)
     (recorded : List Record) (is_recorded : IsRecorded plan sent datagrams carries recorded) (delivered : ℕ → List (List ℕ)) : Type 0 where
   pub each : (k pid : ℕ) (known : k < length plan.services) (on : pid_of (kind_at plan k) ≡ Some pid)
-      → DeliversIntact is_recorded.channel (service_at plan k) pid (carries.each k pid known on).units (carries.each k pid known on).begin
+      → DeliversIntact is_recorded.channel recorded (service_at plan k) pid (carries.each k pid known on).units (carries.each k pid known on).begin
       (datagrams k) (delivered k)
 
 -- each service that has a PID delivers all wanted datagrams, in order, and without a filter all that were sent

@@ -2,10 +2,11 @@
 ghost use Rattle.std.specs.Prelude.{◌≡◌, ℕ, ◌<◌, List, [], length, flat_map, Contains, Some};
 ghost use Rattle.wire_spec.specs.Lists.{IsSubsequence};
 ghost use Rattle.ts_spec.specs.Form.{IsLawful};
-ghost use Rattle.ts_spec.specs.Recording.{Record, RecordingForm};
+ghost use Rattle.ts_spec.specs.Recording.{Record};
 ghost use Rattle.ts_spec.specs.Packetized.{unit_at};
 ghost use Rattle.section_spec.specs.Section.{section_form};
 ghost use Rattle.carriage_spec.specs.Channel.{Channel};
+ghost use Rattle.carriage_spec.specs.Spans.{IsSpanOf};
 ghost use Rattle.carriage_spec.specs.Carried.{NoUndetectedError, ArrivedIntact, IsRising};
 ghost use Rattle.plan_spec.specs.Plan.{ServiceFields, PlanFields, pid_of};
 ghost use Rattle.stream_spec.specs.Services.{form_of_kind, carried_by_unit, CarriesOn, Carries};
@@ -13,26 +14,27 @@ ghost use Rattle.reception_spec.specs.Units.{delivered_by_unit};
 ghost use Rattle.reception_spec.specs.Delivered.{delivered_datagrams};
 ghost use Rattle.loss_law.specs.Loss.{wanted_datagrams, DeliversIntact, service_at, IsRecorded, DeliversEach};
 
-/// Whatever is dropped, repeated or damaged: a service delivers wanted datagrams, unchanged and in order, with each whose unit arrived intact.
+/// Whatever is dropped, repeated, damaged or inserted: a service delivers wanted datagrams, unchanged and in order, with each whose unit arrived intact.
 ///
+/// In the whole recording, and in each span of it in which the service has the PID. Time stamps may be any.
 /// Read off the numbers of the units, which rise: nothing is delivered twice, and nothing that arrived intact is missing.
 pub fn a_service_delivers_what_arrived_intact()
-    ensures delivers { (recording : RecordingForm) (sent recorded : List Record) (channel : Channel recording sent recorded)
-        → (service : ServiceFields) (pid : ℕ) → pid_of service.kind ≡ Some pid
+    ensures delivers { (pids : List ℕ) (sent recorded : List Record) (channel : Channel pids sent recorded) (span : List Record) → IsSpanOf span recorded
+        → (service : ServiceFields) (pid : ℕ) → Contains pids pid → pid_of service.kind ≡ Some pid
         → (datagrams : List (List ℕ)) (carries : CarriesOn service.kind pid sent datagrams)
-        → NoUndetectedError channel (form_of_kind service.kind) pid carries.units carries.begin
-        → DeliversIntact channel service pid carries.units carries.begin datagrams (delivered_datagrams service recorded) }
+        → NoUndetectedError channel span (form_of_kind service.kind) pid carries.units carries.begin
+        → DeliversIntact channel span service pid carries.units carries.begin datagrams (delivered_datagrams service span) }
 {}
 
 /// The wanted datagrams of units that arrived intact are a subsequence of those delivered: each as often as such units carry it.
 pub fn datagrams_that_arrived_intact_are_delivered()
-    ensures delivered { (recording : RecordingForm) (sent recorded : List Record) (channel : Channel recording sent recorded)
-        → (service : ServiceFields) (pid : ℕ) → pid_of service.kind ≡ Some pid
+    ensures delivered { (pids : List ℕ) (sent recorded : List Record) (channel : Channel pids sent recorded) (span : List Record) → IsSpanOf span recorded
+        → (service : ServiceFields) (pid : ℕ) → Contains pids pid → pid_of service.kind ≡ Some pid
         → (datagrams : List (List ℕ)) (carries : CarriesOn service.kind pid sent datagrams)
-        → NoUndetectedError channel (form_of_kind service.kind) pid carries.units carries.begin
+        → NoUndetectedError channel span (form_of_kind service.kind) pid carries.units carries.begin
         → (intact : List ℕ) → IsRising 0 intact
-        → ((n : ℕ) → Contains intact n → (n < length carries.units) × ArrivedIntact channel pid carries.units carries.begin n)
-        → IsSubsequence (flat_map (λ n. delivered_by_unit service (unit_at carries.units n)) intact) (delivered_datagrams service recorded) }
+        → ((n : ℕ) → Contains intact n → (n < length carries.units) × ArrivedIntact channel span pid carries.units carries.begin n)
+        → IsSubsequence (flat_map (λ n. delivered_by_unit service (unit_at carries.units n)) intact) (delivered_datagrams service span) }
 {}
 
 /// The same of each service of a plan that has a PID.

@@ -1,9 +1,10 @@
 //! What a service delivers where nothing is lost: all that it wants.
-ghost use Rattle.std.specs.Prelude.{◌≡◌, ℕ, ◌<◌, List, length, map, Some};
-ghost use Rattle.ts_spec.specs.Recording.{Record, RecordingForm, records_of};
+ghost use Rattle.std.specs.Prelude.{◌≡◌, ℕ, ◌<◌, List, length, map, Contains, Some};
+ghost use Rattle.ts_spec.specs.Recording.{Record};
 ghost use Rattle.ts_spec.specs.Reassembly.{PlacedUnit, accepted_units};
 ghost use Rattle.ts_spec.specs.Packetized.{Packetizes};
 ghost use Rattle.carriage_spec.specs.Channel.{Channel};
+ghost use Rattle.carriage_spec.specs.Spans.{IsSpanOf};
 ghost use Rattle.carriage_spec.specs.Carried.{packets_sent, NoUndetectedError, ArrivedIntact};
 ghost use Rattle.plan_spec.specs.Plan.{KindFields, ServiceFields, PlanFields, pid_of};
 ghost use Rattle.stream_spec.specs.Services.{form_of_kind, CarriesOn, Carries};
@@ -12,31 +13,31 @@ ghost use Rattle.loss_law.specs.Loss.{wanted_datagrams, service_at, IsRecorded, 
 
 /// Where each unit arrived intact, whatever else became of the records, a service delivers all its wanted datagrams, in order and each once.
 pub fn where_all_units_arrived_intact_all_is_delivered()
-    ensures all { (recording : RecordingForm) (sent recorded : List Record) (channel : Channel recording sent recorded)
-        → (service : ServiceFields) (pid : ℕ) → pid_of service.kind ≡ Some pid
+    ensures all { (pids : List ℕ) (sent recorded : List Record) (channel : Channel pids sent recorded) (span : List Record) → IsSpanOf span recorded
+        → (service : ServiceFields) (pid : ℕ) → Contains pids pid → pid_of service.kind ≡ Some pid
         → (datagrams : List (List ℕ)) (carries : CarriesOn service.kind pid sent datagrams)
-        → NoUndetectedError channel (form_of_kind service.kind) pid carries.units carries.begin
-        → ((n : ℕ) → n < length carries.units → ArrivedIntact channel pid carries.units carries.begin n)
-        → delivered_datagrams service recorded ≡ wanted_datagrams service carries.units }
+        → NoUndetectedError channel span (form_of_kind service.kind) pid carries.units carries.begin
+        → ((n : ℕ) → n < length carries.units → ArrivedIntact channel span pid carries.units carries.begin n)
+        → delivered_datagrams service span ≡ wanted_datagrams service carries.units }
 {}
 
 /// Of a stream that was recorded as it was sent the accepted units are those sent, all of them in order, each once, and no others.
 ///
 /// Stuffing gives none: in each kind of unit that a service has, bytes FF where a unit could start tell that none does.
 pub fn a_recorded_stream_gives_its_units()
-    ensures units { (recording : RecordingForm) (pieces : List (List ℕ)) (kind : KindFields) (pid : ℕ) (units : List (List ℕ)) (begin : ℕ → ℕ)
-        → Packetizes (form_of_kind kind) units (packets_sent pid (records_of recording pieces)) begin
-        → map (λ (accepted : PlacedUnit). accepted.unit) (accepted_units (form_of_kind kind) pid (records_of recording pieces)) ≡ units }
+    ensures units { (sent : List Record) (kind : KindFields) (pid : ℕ) (units : List (List ℕ)) (begin : ℕ → ℕ)
+        → Packetizes (form_of_kind kind) units (packets_sent pid sent) begin
+        → map (λ (accepted : PlacedUnit). accepted.unit) (accepted_units (form_of_kind kind) pid sent) ≡ units }
 {}
 
 /// What was sent came through a channel without undetected errors, if it was recorded as it was sent.
 pub fn a_stream_is_a_recording_of_itself()
-    ensures is { (plan : PlanFields) (pieces : List (List ℕ)) (datagrams : ℕ → List (List ℕ)) (carries : Carries plan (records_of plan.recording pieces) datagrams)
-        → IsRecorded plan (records_of plan.recording pieces) datagrams carries (records_of plan.recording pieces) }
+    ensures is { (plan : PlanFields) (sent : List Record) (datagrams : ℕ → List (List ℕ)) (carries : Carries plan sent datagrams)
+        → IsRecorded plan sent datagrams carries sent }
 {}
 
 /// Of a stream that was recorded as it was sent each service of a plan delivers all wanted datagrams, without a filter all that were sent.
 pub fn where_nothing_is_lost_all_is_delivered()
-    ensures all { (plan : PlanFields) (pieces : List (List ℕ)) (datagrams : ℕ → List (List ℕ)) (carries : Carries plan (records_of plan.recording pieces) datagrams)
-        → DeliversAll plan (records_of plan.recording pieces) datagrams carries (λ k. delivered_datagrams (service_at plan k) (records_of plan.recording pieces)) }
+    ensures all { (plan : PlanFields) (sent : List Record) (datagrams : ℕ → List (List ℕ)) (carries : Carries plan sent datagrams)
+        → DeliversAll plan sent datagrams carries (λ k. delivered_datagrams (service_at plan k) sent) }
 {}

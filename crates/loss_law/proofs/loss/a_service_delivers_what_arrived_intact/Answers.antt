@@ -4,6 +4,6 @@ use Rattle.loss_law.proofs.loss.a_service_delivers_what_arrived_intact.Goals as 
 
 pub returns : goal.returns
 returns c = record {
-  delivers = λ recording sent recorded channel service pid on datagrams carries no_error.
-      kind_delivers recording sent recorded channel service service.kind refl pid on datagrams carries no_error;
+  delivers = λ pids sent recorded channel span is_span service pid read on datagrams carries no_error.
+      kind_delivers pids sent recorded channel span is_span service service.kind refl pid read on datagrams carries no_error;
 }

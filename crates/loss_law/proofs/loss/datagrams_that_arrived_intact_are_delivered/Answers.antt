@@ -3,6 +3,6 @@ use Rattle.loss_law.proofs.loss.datagrams_that_arrived_intact_are_delivered.Goal
 
 pub returns : goal.returns
 returns c = record {
-  delivered = λ recording sent recorded channel service pid on datagrams carries no_error intact rising each.
-      intact_are_delivered recording sent recorded channel service pid on carries.units carries.begin carries.packetized no_error intact rising each;
+  delivered = λ pids sent recorded channel span is_span service pid read on datagrams carries no_error intact rising each.
+      intact_are_delivered pids sent recorded channel span is_span service pid read on carries.units carries.begin carries.packetized no_error intact rising each;
 }
