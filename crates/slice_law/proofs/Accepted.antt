@@ -1,6 +1,6 @@
 -- Accepted sections are seen as they were sent, but for a shift that all have in common.
 use Rattle.std.proofs.Common.{◌≡◌, ℕ, ◌+◌, List, sym, ap, ◌∙◌}
-use Rattle.ts_spec.specs.Recording.{Record, RecordingForm}
+use Rattle.ts_spec.specs.Recording.{Record}
 use Rattle.ts_spec.specs.Received.{arrival_at, arrivals}
 use Rattle.ts_spec.specs.Packetized.{unit_at}
 use Rattle.ts_spec.specs.Reassembly.{PlacedUnit}
@@ -10,7 +10,7 @@ use Rattle.slice_spec.specs.Sections.{SectionTime, IsShifted}
 use Rattle.slice_spec.specs.Frames.{IsOf}
 use Rattle.slice_law.specs.Carried.{IsTimedUnit, IsNumberedUnit, time_seen}
 
-module _ {recording : RecordingForm} {sent recorded : List Record} (channel : Channel recording sent recorded)
+module _ {pids : List ℕ} {sent recorded : List Record} (channel : Channel pids sent recorded)
     (pid : ℕ) (units : List (List ℕ)) (begin : ℕ → ℕ) (delta_of : List ℕ → ℕ) (n : ℕ) (a : PlacedUnit) (is : IsSentUnit channel pid units begin n a) where
   -- the section as it was sent
   abbrev pub time_sent : SectionTime
