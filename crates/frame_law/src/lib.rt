@@ -13,6 +13,8 @@ ghost use Rattle.ts_spec.specs.Received.{arrival_at, arrivals};
 ghost use Rattle.ts_spec.specs.Recording.{Record, RecordingForm, records_of};
 ghost use Rattle.section_spec.specs.Section.{section_form};
 ghost use Rattle.carriage_spec.specs.Channel.{Channel};
+ghost use Rattle.carriage_spec.specs.Stamps.{KeepsStamps};
+ghost use Rattle.carriage_spec.specs.Spans.{IsSpanOf, HasNoLoneCopies};
 ghost use Rattle.carriage_spec.specs.Carried.{ArrivedIntact, IncludesIntact, IsAccepted, IsCarried, IsRising, NoUndetectedError, packets_sent};
 ghost use Rattle.fec_spec.specs.Codeword.{IsCodeword};
 ghost use Rattle.fec_spec.specs.Row.{Agrees, IsCorrectable};
@@ -132,20 +134,23 @@ pub fn datagrams_of_accepted_units_are_recovered()
         → IsRecovered rows units fields frames numbers (λ n. Contains numbers n) (delivered_by_frames timing rows (flat_map (sections_of_unit rows) accepted)) }
 {}
 
-/// The datagrams of a service through a channel: from the accepted sections of its PID to the frames that were sent on it.
+/// The datagrams of a service through a channel: from the accepted sections of its PID in a span to the frames that were sent on it.
 ///
 /// Frame by frame they are some of those sent in it, in order: those that came in sections of their own at least, and all of them where
-/// it is recoverable from sections that arrived intact. Moments count with time slicing alone.
+/// it is recoverable from sections that arrived intact. Moments count with time slicing alone: then stamps must survive, and no copy in the
+/// span lack the packet that it is a copy of.
 pub fn datagrams_of_a_service_are_recovered()
-    ensures recovered { (recording : RecordingForm) (sent : List Record) (pieces : List (List ℕ)) (channel : Channel recording sent (records_of recording pieces))
-        → (pid : ℕ) (units : List (List ℕ)) (begin : ℕ → ℕ) → IsCarried section_form pid sent units begin
-        → NoUndetectedError channel section_form pid units begin
+    ensures recovered { (recording : RecordingForm) (pids : List ℕ) (sent : List Record) (pieces : List (List ℕ)) (channel : Channel pids sent (records_of recording pieces))
+        → (span : List Record) → IsSpanOf span (records_of recording pieces)
+        → (pid : ℕ) → Contains pids pid → (units : List (List ℕ)) (begin : ℕ → ℕ) → IsCarried section_form pid sent units begin
+        → NoUndetectedError channel span section_form pid units begin
         → (timing : Timing) (rows first : ℕ) (fields : List FrameFields) (frames : List (List TimedSection)) (moments : ℕ → ℕ)
         → AreFramesOf timing rows first units moments fields frames
-        → ((ten : ℕ) → timing ≡ sliced ten → (n m : ℕ) → n < length units → IsIn (packets_sent pid sent) m (begin n) → (arrival_at (arrivals pid sent) m).moment ≡ moments n)
-        → (timing ≡ indexed → AreAcceptedOften rows units frames (IsAccepted channel section_form pid units begin))
-        → (numbers : List ℕ) × IncludesIntact channel pid units begin numbers
-        × IsRecovered rows units fields frames numbers (ArrivedIntact channel pid units begin) (delivered_by_frames timing rows (frame_sections rows pid (records_of recording pieces))) }
+        → ((ten : ℕ) → timing ≡ sliced ten → KeepsStamps recording channel × HasNoLoneCopies channel span pid
+        × ((n m : ℕ) → n < length units → IsIn (packets_sent pid sent) m (begin n) → (arrival_at (arrivals pid sent) m).moment ≡ moments n))
+        → (timing ≡ indexed → AreAcceptedOften rows units frames (IsAccepted channel span section_form pid units begin))
+        → (numbers : List ℕ) × IncludesIntact channel span pid units begin numbers
+        × IsRecovered rows units fields frames numbers (ArrivedIntact channel span pid units begin) (delivered_by_frames timing rows (frame_sections rows pid span)) }
 {}
 
 /// A frame that is recoverable from some of its sections is so from more of them.
