@@ -3,7 +3,7 @@ use Rattle.std.proofs.Common.{◌≡◌, ℕ, ◌<◌, cond, List, [], ◌∷◌
 use Rattle.std.specs.Prelude.{filter}
 use Rattle.std.proofs.lemmas.List.{get_or-map, length-map}
 use Rattle.wire_spec.specs.Lists.{IsSubsequence}
-use Rattle.ts_spec.specs.Recording.{Record, RecordingForm}
+use Rattle.ts_spec.specs.Recording.{Record}
 use Rattle.ts_spec.specs.Packetized.{unit_at}
 use Rattle.carriage_spec.specs.Channel.{Channel}
 use Rattle.plan_spec.specs.Plan.{ServiceFields}
@@ -36,9 +36,9 @@ module _ (service : ServiceFields) (datagrams : List (List ℕ)) (taken : AreTak
       ∙ each (unit_at datagrams n) (taken_at service.kind datagrams taken n less)
 
   -- delivered datagrams by their own numbers
-  pub delivers_numbered : {recording : RecordingForm} {sent recorded : List Record} (channel : Channel recording sent recorded) (pid : ℕ) (begin : ℕ → ℕ) (delivered : List (List ℕ))
-      → DeliversIntact channel service pid units begin datagrams delivered → DeliversNumbered channel service pid units begin datagrams delivered
-  delivers_numbered channel pid begin delivered delivers = record {
+  pub delivers_numbered : {pids : List ℕ} {sent recorded : List Record} (channel : Channel pids sent recorded) (span : List Record) (pid : ℕ) (begin : ℕ → ℕ) (delivered : List (List ℕ))
+      → DeliversIntact channel span service pid units begin datagrams delivered → DeliversNumbered channel span service pid units begin datagrams delivered
+  delivers_numbered channel span pid begin delivered delivers = record {
     numbers = delivers.numbers;
     includes = delivers.includes;
     delivered_are =
@@ -49,7 +49,7 @@ module _ (service : ServiceFields) (datagrams : List (List ℕ)) (taken : AreTak
   }
 
 -- the same of equal datagrams
-pub numbered_same : {recording : RecordingForm} {sent recorded : List Record} (channel : Channel recording sent recorded) (service : ServiceFields) (pid : ℕ)
+pub numbered_same : {pids : List ℕ} {sent recorded : List Record} (channel : Channel pids sent recorded) (span : List Record) (service : ServiceFields) (pid : ℕ)
     (units : List (List ℕ)) (begin : ℕ → ℕ) (datagrams delivered others : List (List ℕ)) → delivered ≡ others
-    → DeliversNumbered channel service pid units begin datagrams delivered → DeliversNumbered channel service pid units begin datagrams others
-numbered_same channel service pid units begin datagrams delivered others same numbered = subst (DeliversNumbered channel service pid units begin datagrams) same numbered
+    → DeliversNumbered channel span service pid units begin datagrams delivered → DeliversNumbered channel span service pid units begin datagrams others
+numbered_same channel span service pid units begin datagrams delivered others same numbered = subst (DeliversNumbered channel span service pid units begin datagrams) same numbered

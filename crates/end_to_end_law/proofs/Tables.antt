@@ -1,8 +1,8 @@
 -- The sections of the INT that are received, where all that were sent are the same.
 use Rattle.std.proofs.Common.{◌≡◌, inl, inr, ℕ, zero, suc, ◌<◌, ◌≤◌, List, [], ◌∷◌, length, map, replicate, refl, ap, ap₂, ◌∙◌, arith, Option, Some, None}
-use Rattle.std.specs.Prelude.{find}
+use Rattle.std.specs.Prelude.{find, Contains}
 use Rattle.std.proofs.lemmas.List.{get_or-replicate, length-replicate}
-use Rattle.ts_spec.specs.Recording.{Record, RecordingForm, records_of}
+use Rattle.ts_spec.specs.Recording.{Record}
 use Rattle.ts_spec.specs.Packetized.{unit_at, Packetizes}
 use Rattle.section_spec.specs.Section.{section_form}
 use Rattle.carriage_spec.specs.Channel.{Channel}
@@ -13,6 +13,7 @@ use Rattle.plan_spec.specs.Signalling.{table_of}
 use Rattle.reception_spec.specs.Numbers.{units_on}
 use Rattle.reception_spec.specs.Table.{table_pid, table_sections, is_int_section}
 use Rattle.carriage_law.proofs.Member.{Member, contains_member}
+use Rattle.carriage_law.proofs.Spans.{whole_is_span}
 use Rattle.carriage_law.proofs.Units.{accepted_numbers, accepted_are, includes_intact}
 use Rattle.loss_law.proofs.Sections.{section_lawful}
 use Rattle.loss_law.proofs.Ones.{kind_ones}
@@ -47,10 +48,10 @@ module _ (plan : PlanFields) (int : IntFields) (table_is : plan.table ≡ Some i
   on_pid records = ap (λ (t : Option IntFields). units_on section_form (table_pid t) records) table_is
 
   -- whatever a channel leaves
-  pub finds_table : (recording : RecordingForm) (sent recorded : List Record) (channel : Channel recording sent recorded)
-      → Packetizes section_form (replicate count section) (packets_sent int.pid sent) begin → NoUndetectedError channel section_form int.pid (replicate count section) begin
+  pub finds_table : (pids : List ℕ) → Contains pids int.pid → (sent recorded : List Record) (channel : Channel pids sent recorded)
+      → Packetizes section_form (replicate count section) (packets_sent int.pid sent) begin → NoUndetectedError channel recorded section_form int.pid (replicate count section) begin
       → FindsTable channel plan int (replicate count section) begin
-  finds_table recording sent recorded channel packetized no_error = record {
+  finds_table pids read sent recorded channel packetized no_error = record {
     numbers = numbers;
     includes = includes;
     sections_are = sections_are;
@@ -62,21 +63,21 @@ module _ (plan : PlanFields) (int : IntFields) (table_is : plan.table ≡ Some i
       carried = record { lawful = section_lawful; packetized = packetized }
 
       numbers : List ℕ
-      numbers = accepted_numbers recording sent recorded channel section_form int.pid (replicate count section) begin carried no_error
+      numbers = accepted_numbers pids sent recorded channel recorded (whole_is_span recorded) section_form int.pid read (replicate count section) begin carried no_error
 
-      includes : IncludesIntact channel int.pid (replicate count section) begin numbers
-      includes = includes_intact recording sent recorded channel section_form int.pid (replicate count section) begin carried no_error
+      includes : IncludesIntact channel recorded int.pid (replicate count section) begin numbers
+      includes = includes_intact pids sent recorded channel recorded (whole_is_span recorded) section_form int.pid read (replicate count section) begin carried no_error
 
       sections_are : table_sections plan recorded ≡ replicate (length numbers) section
       sections_are =
           on_pid recorded
-          ∙ accepted_are recording sent recorded channel section_form int.pid (replicate count section) begin carried no_error
+          ∙ accepted_are pids sent recorded channel recorded (whole_is_span recorded) section_form int.pid read (replicate count section) begin carried no_error
           ∙ copies count section numbers
           (λ n there. omega (arith, includes.within n (contains_member numbers n there), length-replicate count section))
 
   -- where nothing is lost
-  pub finds_all : (recording : RecordingForm) (pieces : List (List ℕ)) → Packetizes section_form (replicate count section) (packets_sent int.pid (records_of recording pieces)) begin
-      → table_sections plan (records_of recording pieces) ≡ replicate count section
-  finds_all recording pieces packetized =
-      on_pid (records_of recording pieces)
-      ∙ all_accepted recording pieces section_form int.pid (replicate count section) begin (record { lawful = section_lawful; packetized = packetized }) (kind_ones (mpe 0))
+  pub finds_all : (sent : List Record) → Packetizes section_form (replicate count section) (packets_sent int.pid sent) begin
+      → table_sections plan sent ≡ replicate count section
+  finds_all sent packetized =
+      on_pid sent
+      ∙ all_accepted sent section_form int.pid (replicate count section) begin (record { lawful = section_lawful; packetized = packetized }) (kind_ones (mpe 0))

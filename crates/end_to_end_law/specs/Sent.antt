@@ -3,7 +3,7 @@ use Rattle.std.specs.Prelude.{◌≡◌, ℕ, ◌<◌, true, List, [], length, s
 use Rattle.std.specs.List.{list_all}
 use Rattle.wire_spec.specs.Bytes.{AreBytes}
 use Rattle.wire_spec.specs.Lists.{IsSubsequence}
-use Rattle.ts_spec.specs.Recording.{Record, RecordingForm, records_of}
+use Rattle.ts_spec.specs.Recording.{Record, records_of}
 use Rattle.carriage_spec.specs.Channel.{Channel}
 use Rattle.carriage_spec.specs.Carried.{IncludesIntact}
 use Rattle.pcap_file.specs.Told.{Tells}
@@ -49,10 +49,10 @@ datagram_at datagrams n = slice_index_or datagrams n []
 
 -- the delivered datagrams are the wanted ones among those with these numbers, in order and each once; among the numbers is
 -- that of each datagram whose unit arrived intact
-pub record DeliversNumbered {recording : RecordingForm} {sent recorded : List Record} (channel : Channel recording sent recorded)
+pub record DeliversNumbered {pids : List ℕ} {sent recorded : List Record} (channel : Channel pids sent recorded) (span : List Record)
     (service : ServiceFields) (pid : ℕ) (units : List (List ℕ)) (begin : ℕ → ℕ) (datagrams delivered : List (List ℕ)) : Type 0 where
   pub numbers : List ℕ
-  pub includes : IncludesIntact channel pid units begin numbers
+  pub includes : IncludesIntact channel span pid units begin numbers
   pub delivered_are : delivered ≡ filter (wants_datagram service) (map (datagram_at datagrams) numbers)
   pub were_wanted : IsSubsequence delivered (filter (wants_datagram service) datagrams)
 
@@ -60,5 +60,5 @@ pub record DeliversNumbered {recording : RecordingForm} {sent recorded : List Re
 pub record DeliversOfEach (plan : PlanFields) (sent : List Record) (datagrams : ℕ → List (List ℕ)) (carries : Carries plan sent datagrams)
     (recorded : List Record) (is_recorded : IsRecorded plan sent datagrams carries recorded) (delivered : ℕ → List (List ℕ)) : Type 0 where
   pub each : (k pid : ℕ) (known : k < length plan.services) (on : pid_of (kind_at plan k) ≡ Some pid)
-      → DeliversNumbered is_recorded.channel (service_at plan k) pid (carries.each k pid known on).units (carries.each k pid known on).begin
+      → DeliversNumbered is_recorded.channel recorded (service_at plan k) pid (carries.each k pid known on).units (carries.each k pid known on).begin
       (datagrams k) (delivered k)

@@ -50,7 +50,8 @@ pub fn a_unit_gives_its_datagram()
     an_address_or_parameters_can_be_written();
 }
 
-/// However records of the stream of a capture are dropped, repeated or damaged, if no damaged or spliced unit passes its check:
+/// However records of the stream of a capture are dropped, repeated or damaged, those of others inserted, and their stamps changed, if no
+/// damaged or spliced unit passes its check:
 /// each service delivers wanted datagrams that were offered to it, unchanged, in order and each once, with each whose unit arrived intact.
 pub fn what_arrives_of_a_capture()
     ensures arrives { (plan : PlanFields) (capture : List ℕ) (told records : List (List ℕ)) → IsSent plan capture told records

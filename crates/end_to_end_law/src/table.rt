@@ -1,5 +1,5 @@
 //! The INT: from a plan to what a receiver finds of it.
-ghost use Rattle.std.specs.Prelude.{◌≡◌, ℕ, List, replicate, Some};
+ghost use Rattle.std.specs.Prelude.{◌≡◌, ℕ, List, replicate, Contains, Some};
 ghost use Rattle.ts_spec.specs.Recording.{Record};
 ghost use Rattle.ts_spec.specs.Packetized.{Packetizes};
 ghost use Rattle.section_spec.specs.Section.{section_form};
@@ -17,12 +17,12 @@ use stream_law::{a_capture_gives_datagrams, a_stream_carries_the_table};
 
 /// The sections that are received on the INT's PID are all that of the plan, and there is one as soon as one arrived intact.
 ///
-/// However records of the stream are dropped, repeated or damaged, if no damaged or spliced section passes its CRC_32.
+/// However records of the stream are dropped, repeated or damaged, and those of others inserted, if no damaged or spliced section passes its CRC_32.
 pub fn the_table_arrives()
     ensures arrives { (plan : PlanFields) (capture : List ℕ) (told records : List (List ℕ)) (sent : IsSent plan capture told records) (int : IntFields) → plan.table ≡ Some int
         → (begin : ℕ → ℕ) × Packetizes section_form (sent_tables plan int sent.stream.slots) (packets_sent int.pid (sent_records plan records)) begin
-        × ((recorded : List Record) (channel : Channel plan.recording (sent_records plan records) recorded)
-        → NoUndetectedError channel section_form int.pid (sent_tables plan int sent.stream.slots) begin
+        × ((pids : List ℕ) → Contains pids int.pid → (recorded : List Record) (channel : Channel pids (sent_records plan records) recorded)
+        → NoUndetectedError channel recorded section_form int.pid (sent_tables plan int sent.stream.slots) begin
         → FindsTable channel plan int (sent_tables plan int sent.stream.slots) begin) }
 {
     a_capture_gives_datagrams();

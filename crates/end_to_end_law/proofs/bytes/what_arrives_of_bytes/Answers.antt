@@ -15,7 +15,7 @@ returns c = record {
         λ bytes recording delivered delivers. record {
           each = λ k pid known on.
               let same = c.cuts_are_unique.ensures.pieces (record_size plan.recording) bytes delivers.pieces recording.pieces delivers.tail recording.tail delivers.cut recording.cut in
-              numbered_same recording.is_recorded.channel (service_at plan k) pid (found.0.each k pid known on).units (found.0.each k pid known on).begin
+              numbered_same recording.is_recorded.channel (records_of plan.recording recording.pieces) (service_at plan k) pid (found.0.each k pid known on).units (found.0.each k pid known on).begin
               (offered_by plan capture told k) (delivered_datagrams (service_at plan k) (records_of plan.recording recording.pieces)) (delivered k)
               (ap (λ (t : List (List ℕ)). delivered_datagrams (service_at plan k) (records_of plan.recording t)) (sym same) ∙ sym (delivers.each k))
               ((found.2 (records_of plan.recording recording.pieces) recording.is_recorded).each k pid known on);

@@ -17,7 +17,7 @@ returns c = record {
               delivers_numbered (service_at plan k) (offered_by plan capture told k) (takes plan capture told records sent k known c.a_capture_gives_datagrams.ensures.are)
               (gives plan capture told records sent k known c.a_unit_gives_its_datagram.ensures.gives) (found.0.each k pid known on).units
               (units_by_kind plan k known (offered_by plan capture told k) (found.0.each k pid known on).units (found.1.units_are k pid known on))
-              is_recorded.channel pid (found.0.each k pid known on).begin (delivered_datagrams (service_at plan k) recorded)
+              is_recorded.channel recorded pid (found.0.each k pid known on).begin (delivered_datagrams (service_at plan k) recorded)
               ((each_delivers plan (sent_records plan records) (offered_by plan capture told) found.0 recorded is_recorded).each k pid known on);
         },
       );

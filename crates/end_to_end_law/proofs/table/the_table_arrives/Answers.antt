@@ -12,7 +12,7 @@ returns c = record {
       (c.a_capture_gives_datagrams.ensures.limits capture told sent.fault sent.capture_bytes sent.tells) records sent.stream in (
         found.0,
         found.1,
-        λ recorded channel no_error.
-            finds_table plan int table_is (begun_cycles plan.cycle sent.stream.slots) found.0 plan.recording (sent_records plan records) recorded channel found.1 no_error,
+        λ pids read recorded channel no_error.
+            finds_table plan int table_is (begun_cycles plan.cycle sent.stream.slots) found.0 pids read (sent_records plan records) recorded channel found.1 no_error,
       );
 }
