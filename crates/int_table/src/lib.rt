@@ -17,7 +17,9 @@ mod sizes;
 mod table;
 mod writing;
 
-pub use laws::{a_section_carries_one_table, a_written_table_reads_back};
+pub use laws::{
+    a_section_carries_one_table, a_table_is_told_by_its_bytes, a_written_table_reads_back,
+};
 pub use reading::{IntReadFault, version_of};
 pub use sizes::{entry_size, section_size};
 pub use table::{IntEntry, IntFault, IntTable};

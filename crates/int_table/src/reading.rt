@@ -6,7 +6,9 @@ ghost use Rattle.section_spec.specs.Section.{section_fields};
 ghost use Rattle.section_codec.specs.Views.{fields_in};
 ghost use Rattle.int_spec.specs.Reading.{is_table, has_right_hash, version_of as version_in, platform_id_of, IsInt, IsReading, no_section, no_table, no_loops, no_descriptors, wrong_hash, more_sections};
 ghost use Rattle.int_spec.specs.Table.{TableFields};
-ghost use Rattle.int_table.specs.Loops.{loops_in, found_network, table_in};
+ghost use Rattle.int_spec.specs.Versions.{version_of_platform};
+ghost use Rattle.int_spec.specs.Loops.{loops_in, found_network};
+ghost use Rattle.int_table.specs.Loops.{network_seen, table_in};
 ghost use Rattle.int_table.specs.Refusal.{refusal};
 
 use crate::entries::push_entries;
@@ -62,7 +64,7 @@ pub(crate) fn read_platform_id(body: &[u8]) -> u32
 pub(crate) fn check(section: &[u8]) -> Result<Checked<'_>, IntFault>
     ensures refused { refusal section.now ≡ result_err result }
     ensures body { IfOk result (λ c. c.body.now ≡ (section_fields section.now).body) }
-    ensures network { IfOk result (λ c. found_network (loops_in (section_fields section.now).body) ≡ Some c.network) }
+    ensures network { IfOk result (λ c. found_network (loops_in (section_fields section.now).body) ≡ Some (network_seen c.network)) }
     ensures long { IfOk result (λ c. 9 < length c.body.now) }
 {
     let Ok(section) = parse(section) else {
@@ -123,9 +125,9 @@ impl IntTable {
 
 /// The table of a body that was tested.
 fn read_checked(alloc: Global, checked: Checked<'_>) -> Result<IntTable, OutOfMemory>
-    requires found { found_network (loops_in checked.body.now) ≡ Some checked.network }
+    requires found { found_network (loops_in checked.body.now) ≡ Some (network_seen checked.network) }
     requires long { 9 < length checked.body.now }
-    ensures { IfOk result (λ table. table ≡ table_in checked.entry.body.now checked.entry.network) }
+    ensures { IfOk result (λ table. table ≡ table_in checked.entry.body.now (network_seen checked.entry.network)) }
 {
     let body = checked.body;
     let network = checked.network;
@@ -147,6 +149,7 @@ fn read_checked(alloc: Global, checked: Checked<'_>) -> Result<IntTable, OutOfMe
 pub fn version_of(section: &[u8], platform_id: u32) -> Option<u8>
     ensures read { IfSome result (λ version. (table : TableFields) × IsInt section.now table × (table.platform_id ≡ platform_id) × (table.version ≡ version)) }
     ensures only { IfNone result ((table : TableFields) → IsInt section.now table → table.platform_id ≢ platform_id) }
+    ensures told { result ≡ version_of_platform platform_id section.now }
 {
     match check(section) {
         Err(_) => None,
