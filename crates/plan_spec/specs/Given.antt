@@ -26,6 +26,8 @@ plan_of_pid pid = record {
   frame_bytes = None;
   table = None;
   services = service_of_pid pid ∷ [];
+  version = 0;
+  changes = [];
 }
 
 -- the sample job: a lecture to 239.1.0.0/16 in sliced frames, and files to 239.2.0.0/16 in SNDUs
@@ -57,4 +59,6 @@ sample_plan = record {
   frame_bytes = None;
   table = Some (record { pid = 600; platform_id = 1; network_id = 2; original_network_id = 3; transport_stream_id = 4 });
   services = sample_services;
+  version = 0;
+  changes = [];
 }

@@ -1,7 +1,10 @@
 pub mod Plan
 pub mod Checks
 pub mod Signalling
+pub mod Changes
 pub mod Valid
+pub mod Wholes
+pub mod InForce
 pub mod Given
 pub mod Built
 pub mod Route

@@ -33,7 +33,19 @@ pub record IntFields : Type 0 where
   pub original_network_id : ℕ
   pub transport_stream_id : ℕ
 
--- a plan; the bytes of a baseband frame are there exactly where these carry it, and not transport packets
+-- a service that a change moves: its place in the list, its PID and its rules from then on
+pub record MovedFields : Type 0 where
+  pub service : ℕ
+  pub pid : ℕ
+  pub rules : List Rule
+
+-- a change: it holds from the capture's record of this number on, counted from 1, and moves these services
+pub record ChangeFields : Type 0 where
+  pub at : ℕ
+  pub moved : List MovedFields
+
+-- a plan; the bytes of a baseband frame are there exactly where these carry it, and not transport packets.
+-- The services are those of its version, which its INT says; what changes them later makes the versions after it
 pub record PlanFields : Type 0 where
   pub recording : RecordingForm
   pub packet_rate : ℕ
@@ -41,6 +53,8 @@ pub record PlanFields : Type 0 where
   pub frame_bytes : Option ℕ
   pub table : Option IntFields
   pub services : List ServiceFields
+  pub version : ℕ
+  pub changes : List ChangeFields
 
 -- the plan is of baseband frames
 abbrev pub is_baseband : PlanFields → Bool
