@@ -51,3 +51,27 @@ both recording slots cycle pid =
 -- the same with a key that settings do not have
 abbrev pub with_speed : Members → Members
 with_speed settings = member (codes "speed") (number 1) settings
+
+-- from the third record on, the files are on this PID
+abbrev pub moved_files : Data → Members
+moved_files pid = member (codes "name") (string (codes "files")) (member (codes "pid") pid no_members)
+
+abbrev pub files_move : Data → Members
+files_move pid =
+    member (codes "at") (number 3) (
+    member (codes "service") (array (item (table (moved_files pid)) no_items)) no_members)
+
+-- files that move to this PID, with an INT or without, in cycles of 100 slots
+abbrev pub moving_from : Data → Members → Members
+moving_from pid behind =
+    member (codes "change") (array (item (table (files_move pid)) no_items)) (
+    member (codes "cycle") (number 100) behind)
+
+abbrev pub files_alone : Members
+files_alone = member (codes "service") (array (item (table (files (number 513))) no_items)) no_members
+
+abbrev pub moving : Data → Members
+moving pid = moving_from pid (member (codes "int") int files_alone)
+
+abbrev pub moving_unsignalled : Members
+moving_unsignalled = moving_from (number 514) files_alone

@@ -21,13 +21,15 @@ pub data SettingsFault : Type 0 where
   no_stamps : SettingsFault
   wrong_carrier : SettingsFault
   unknown_key : SettingsFault
+  wrong_change : SettingsFault
 
--- what a key may hold: one of some texts, a service's name, a MAC address; a number from one to another, a number of rows;
+-- what a key may hold: one of some texts, a service's name, a MAC address, any text; a number from one to another, a number of rows;
 -- true or false; a table; one table to so many; texts; MAC addresses
 pub data Values : Type 0 where
   one_of : List (List ℕ) → Values
   name_text : Values
   address_text : Values
+  any_text : Values
   range : ℕ → ℕ → Values
   row_count : Values
   flag : Values
@@ -71,6 +73,7 @@ abbrev pub has_type : Values → Data → Bool
 has_type (one_of words) d = is_text d
 has_type name_text d = is_text d
 has_type address_text d = is_text d
+has_type any_text d = is_text d
 has_type (range least most) d = is_integer d
 has_type row_count d = is_integer d
 has_type flag d = is_some (as_bool d)
@@ -88,6 +91,7 @@ abbrev pub in_range : Values → Data → Bool
 in_range (one_of words) d = holds (λ text. list_any (bytes_eq text) words) (as_str d)
 in_range name_text d = holds is_service_name (as_str d)
 in_range address_text d = holds is_address (as_str d)
+in_range any_text d = true
 in_range (range least most) d = holds (is_between least most) (as_natural d)
 in_range row_count d = holds is_row_count (as_natural d)
 in_range flag d = true
@@ -144,13 +148,16 @@ keys_fault (rule ∷ rules) entries = first_of (key_fault rule entries) (keys_fa
 abbrev pub table_fault : List KeyRule → Members → Option SettingsFault
 table_fault rules entries = first_of (unknown_fault (map (λ (rule : KeyRule). rule.name) rules) entries) (keys_fault rules entries)
 
--- What stands at a key, or a default.
+-- What stands at a key, or a default where there is one.
 
 unfoldable pub text_or : List ℕ → List ℕ → Members → List ℕ
 text_or default key entries = unwrap_or (option_and_then as_str (get_member key entries)) default
 
 unfoldable pub number_or : ℕ → List ℕ → Members → ℕ
 number_or default key entries = unwrap_or (option_and_then as_natural (get_member key entries)) default
+
+unfoldable pub number_at : List ℕ → Members → Option ℕ
+number_at key entries = option_and_then as_natural (get_member key entries)
 
 unfoldable pub flag_or : Bool → List ℕ → Members → Bool
 flag_or default key entries = unwrap_or (option_and_then as_bool (get_member key entries)) default
@@ -164,6 +171,10 @@ items_at key entries = unwrap_or (option_and_then as_list (get_member key entrie
 
 abbrev pub texts_at : List ℕ → Members → List (List ℕ)
 texts_at key entries = filter_map as_str (items_at key entries)
+
+-- the texts of a list, where there is one
+unfoldable pub texts_if_any : List ℕ → Members → Option (List (List ℕ))
+texts_if_any key entries = option_map (λ items. filter_map as_str items) (option_and_then as_list (get_member key entries))
 
 abbrev pub tables_at : List ℕ → Members → List Members
 tables_at key entries = filter_map as_table (items_at key entries)

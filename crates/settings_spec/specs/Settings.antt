@@ -1,13 +1,15 @@
 -- Settings: the keys of their tables in order, and the plan that the values or their defaults give. Profile: all of it.
-use Rattle.std.specs.Prelude.{ℕ, ◌+◌, Bool, true, List, [], ◌∷◌, ◌++◌, map, bytes_eq, codes, Option, Some, None, if◌then◌else◌}
+use Rattle.std.specs.Prelude.{ℕ, ◌+◌, Bool, true, List, [], ◌∷◌, ◌++◌, map, bytes_eq, codes, Option, Some, None, is_some, if◌then◌else◌}
 use Rattle.std.specs.Option.{option_map}
 use Rattle.std.specs.List.{filter_map}
-use Rattle.toml.specs.Data.{Members}
+use Rattle.toml.specs.Data.{Members, get_member}
 use Rattle.ts_spec.specs.Recording.{RecordingForm, plain, stamped, m2ts}
 use Rattle.addr_rules.specs.Macs.{broadcast_mac}
 use Rattle.addr_rules.specs.Texts.{mac_of_text}
 use Rattle.plan_spec.specs.Plan.{WindowFields, KindFields, ule, mpe, fec, gse, ServiceFields, IntFields, PlanFields}
-use Rattle.settings_spec.specs.Keys.{SettingsFault, one_of, name_text, address_text, range, row_count, flag, one_table, tables, texts, addresses, KeyRule, required, optional, key_fault, first_of, table_fault, text_or, number_or, flag_or, address_or, texts_at, tables_at, table_at}
+use Rattle.plan_spec.specs.Built.{reads_changes}
+use Rattle.settings_spec.specs.Keys.{SettingsFault, one_of, name_text, address_text, any_text, range, row_count, flag, one_table, tables, texts, addresses, KeyRule, required, optional, key_fault, unknown_fault, keys_fault, first_of, table_fault, text_or, number_or, flag_or, address_or, texts_at, tables_at, table_at}
+use Rattle.settings_spec.specs.Changes.{ChangeValues, change_values, without_rules, changes_by}
 
 -- baseband frames carry the stream, and not transport packets
 unfoldable pub says_baseband : Members → Bool
@@ -24,14 +26,33 @@ value_keys =
     ∷ optional (codes "frame_bytes") (range 300 7274)
     ∷ []
 
-abbrev pub int_key : KeyRule
-int_key = optional (codes "int") one_table
+-- what changes the plan needs an INT
+abbrev pub int_key : Members → KeyRule
+int_key top = record { name = codes "int"; is_required = is_some (get_member (codes "change") top); values = one_table }
 
 abbrev pub service_key : Members → KeyRule
 service_key top = required (codes "service") (tables (if says_baseband top then 16 else 64))
 
 abbrev pub top_keys : Members → List KeyRule
-top_keys top = value_keys ++ int_key ∷ service_key top ∷ []
+top_keys top = value_keys ++ int_key top ∷ service_key top ∷ []
+
+-- what changes the plan, from the first record of each change on; an unknown key until it is built
+abbrev pub change_key : KeyRule
+change_key = optional (codes "change") (tables 31)
+
+abbrev pub change_keys : List KeyRule
+change_keys = required (codes "at") (range 2 4194304) ∷ required (codes "service") (tables 64) ∷ []
+
+-- a service that a change moves: its PID and its rules, where they change
+abbrev pub moved_keys : List KeyRule
+moved_keys = required (codes "name") any_text ∷ optional (codes "pid") (range 32 8190) ∷ optional (codes "rules") texts ∷ []
+
+-- the names that the top table may have
+abbrev pub names_of : List KeyRule → List (List ℕ)
+names_of rules = map (λ (rule : KeyRule). rule.name) rules
+
+abbrev pub top_names : Members → List (List ℕ)
+top_names top = names_of (top_keys top) ++ (if reads_changes then codes "change" ∷ [] else [])
 
 abbrev pub int_keys : List KeyRule
 int_keys =
@@ -123,9 +144,26 @@ unfoldable pub int_fault : Option Members → Option SettingsFault
 int_fault None = None
 int_fault (Some int) = table_fault int_keys int
 
--- the top table first, then int, then each service in order
+abbrev pub moved_fault : List Members → Option SettingsFault
+moved_fault [] = None
+moved_fault (moved ∷ others) = first_of (table_fault moved_keys moved) (moved_fault others)
+
+unfoldable pub change_fault : Members → Option SettingsFault
+change_fault change = first_of (table_fault change_keys change) (moved_fault (tables_at (codes "service") change))
+
+abbrev pub changes_fault : List Members → Option SettingsFault
+changes_fault [] = None
+changes_fault (change ∷ changes) = first_of (change_fault change) (changes_fault changes)
+
+-- an unknown key of the top table comes first, then key by key; what stands at `change` has a place of its own
+abbrev pub top_fault : Members → Option SettingsFault
+top_fault top = first_of (unknown_fault (top_names top) top) (keys_fault (top_keys top) top)
+
+-- the top table first, then int, then each service in order, then the list of changes, then each change and the services that it moves
 unfoldable pub tables_fault : Members → Option SettingsFault
-tables_fault top = first_of (table_fault (top_keys top) top) (first_of (int_fault (table_at (codes "int") top)) (services_fault (tables_at (codes "service") top)))
+tables_fault top =
+    first_of (top_fault top) (first_of (int_fault (table_at (codes "int") top)) (first_of (services_fault (tables_at (codes "service") top))
+    (first_of (key_fault change_key top) (changes_fault (tables_at (codes "change") top)))))
 
 -- The plan.
 
@@ -173,6 +211,10 @@ int_of int = record {
   transport_stream_id = number_or 0 (codes "transport_stream_id") int;
 }
 
+-- the changes, as the text says them
+unfoldable pub changes_at : Members → List (ChangeValues (List ℕ))
+changes_at top = map change_values (tables_at (codes "change") top)
+
 -- the plan, still without rules
 unfoldable pub plan_of : Members → PlanFields
 plan_of top = record {
@@ -182,6 +224,8 @@ plan_of top = record {
   frame_bytes = if says_baseband top then Some (number_or 2000 (codes "frame_bytes") top) else None;
   table = option_map int_of (table_at (codes "int") top);
   services = services_of 0 (tables_at (codes "service") top);
+  version = 0;
+  changes = changes_by (services_of 0 (tables_at (codes "service") top)) (map without_rules (changes_at top));
 }
 
 -- the texts of the rules of each service

@@ -34,3 +34,7 @@ returns-clause-unknown c = refl
 pub returns-clause-nothing : goal.returns-clause-nothing
 unfolding key_fault unknown_fault text_or number_or flag_or address_or items_at table_at says_baseband is_sliced_mode kind_fault service_fault int_fault tables_fault kind_of plan_of
 returns-clause-nothing c = refl
+
+pub returns-clause-change : goal.returns-clause-change
+unfolding key_fault unknown_fault text_or number_or flag_or address_or items_at table_at says_baseband is_sliced_mode kind_fault service_fault int_fault tables_fault kind_of plan_of
+returns-clause-change c = refl
