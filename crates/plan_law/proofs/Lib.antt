@@ -1,0 +1,6 @@
+pub mod Lists
+pub mod Kept
+pub mod Pids
+pub mod Windows
+pub mod Alone
+pub mod Versions
