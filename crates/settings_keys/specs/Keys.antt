@@ -1,6 +1,6 @@
 -- The names of keys, and faults as definitions say them.
 use Rattle.std.specs.Prelude.{ℕ, List, codes}
-use Rattle.settings_spec.specs.Keys.{SettingsFault, no_document, missing, wrong_type, out_of_range, same_pid, same_name, wrong_rules, wrong_window, short_gap, long_cycle, no_stamps, wrong_carrier, unknown_key}
+use Rattle.settings_spec.specs.Keys.{SettingsFault, no_document, missing, wrong_type, out_of_range, same_pid, same_name, wrong_rules, wrong_window, short_gap, long_cycle, no_stamps, wrong_carrier, unknown_key, wrong_change}
 use Rattle.settings_keys.specs.declared.key.Key.{Key}
 use Rattle.settings_keys.specs.declared.key.Key.TheVariants as key
 use Rattle.settings_keys.specs.declared.fault.PlanFault.{PlanFault}
@@ -35,6 +35,8 @@ key_text key.Filter = codes "filter"
 key_text key.Unicast = codes "unicast"
 key_text key.ServiceId = codes "service_id"
 key_text key.ComponentTag = codes "component_tag"
+key_text key.Change = codes "change"
+key_text key.At = codes "at"
 
 -- a fault of the code
 abbrev pub fault_seen : PlanFault → SettingsFault
@@ -51,3 +53,4 @@ fault_seen fault.Delta = long_cycle
 fault_seen fault.NeedsStamps = no_stamps
 fault_seen fault.Carrier = wrong_carrier
 fault_seen fault.Unknown = unknown_key
+fault_seen fault.Change = wrong_change

@@ -31,4 +31,6 @@ pub enum PlanFault {
     Carrier,
     /// 13: a table has a key that it does not know.
     Unknown,
+    /// 14: changes are not in order, one moves a service that is not there or one twice, or a PID is another's or one that was left.
+    Change,
 }

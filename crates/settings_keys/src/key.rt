@@ -59,6 +59,10 @@ pub enum Key {
     ServiceId,
     /// `component_tag` of a service.
     ComponentTag,
+    /// `change`: the tables of what changes the plan.
+    Change,
+    /// `at` of a change: the capture's record from which on it holds.
+    At,
 }
 
 impl Key {
@@ -94,6 +98,8 @@ impl Key {
             Key::Unicast => "unicast",
             Key::ServiceId => "service_id",
             Key::ComponentTag => "component_tag",
+            Key::Change => "change",
+            Key::At => "at",
         }
     }
 }

@@ -2,7 +2,7 @@
 use Rattle.std.specs.Prelude.{ℕ, List, [], ◌∷◌, ◌++◌, map, codes, decimal}
 use Rattle.wire_spec.specs.Lists.{joined}
 use Rattle.plan_spec.specs.Plan.{KindFields, ule, mpe, fec, gse, ServiceFields, PlanFields}
-use Rattle.settings_spec.specs.Keys.{SettingsFault, no_document, missing, wrong_type, out_of_range, same_pid, same_name, wrong_rules, wrong_window, short_gap, long_cycle, no_stamps, wrong_carrier, unknown_key}
+use Rattle.settings_spec.specs.Keys.{SettingsFault, no_document, missing, wrong_type, out_of_range, same_pid, same_name, wrong_rules, wrong_window, short_gap, long_cycle, no_stamps, wrong_carrier, unknown_key, wrong_change}
 use Rattle.settings_load.specs.Settings.{Refusal, too_long, refused}
 
 -- the number of a fault
@@ -20,6 +20,7 @@ fault_number long_cycle = 10
 fault_number no_stamps = 11
 fault_number wrong_carrier = 12
 fault_number unknown_key = 13
+fault_number wrong_change = 14
 
 -- its key after a space, where it has one
 abbrev pub fault_key : SettingsFault → List ℕ
@@ -36,6 +37,7 @@ fault_key long_cycle = []
 fault_key no_stamps = []
 fault_key wrong_carrier = []
 fault_key unknown_key = []
+fault_key wrong_change = []
 
 -- the line that is told of a file that gives no plan
 abbrev pub refusal_line : Refusal → List ℕ

@@ -30,6 +30,7 @@ fn number_of(fault: PlanFault) -> u8
         PlanFault::NeedsStamps => 11,
         PlanFault::Carrier => 12,
         PlanFault::Unknown => 13,
+        PlanFault::Change => 14,
     }
 }
 
