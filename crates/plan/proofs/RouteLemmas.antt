@@ -43,7 +43,7 @@ services_are_few plan valid =
     let frames = (and_parts (is_between 100 1000000 plan.cycle) _ rest).1 in
     let ints = (and_parts (is_valid_frame_size plan.frame_bytes) _ frames).1 in
     let count = (and_parts (is_valid_int plan.table) _ ints).1 in
-    let few = between_most 1 (most_services (is_baseband plan)) (length plan.services) count in
+    let few = between_most 1 (most_services (is_baseband plan)) (length plan.services) (and_parts (is_between 1 (most_services (is_baseband plan)) (length plan.services)) _ count).0 in
     omega (arith, most_is_64 (is_baseband plan), few)
 
 either_true : (a b : Bool) → (a || b) ≡ true → (a ≡ true) ⊎ (b ≡ true)

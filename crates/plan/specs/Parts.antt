@@ -3,11 +3,13 @@ use Rattle.std.specs.Prelude.{ℕ, List, map, Option, option_map}
 use Rattle.ts_spec.specs.Recording.{RecordingForm, plain, stamped, m2ts}
 use Rattle.ipe_io.specs.declared.faults.Recording.{Recording}
 use Rattle.ipe_io.specs.declared.faults.Recording.TheVariants.{Plain, Stamped, M2ts}
-use Rattle.plan_spec.specs.Plan.{WindowFields, KindFields, ule, mpe, fec, gse, ServiceFields, IntFields, PlanFields}
+use Rattle.plan_spec.specs.Plan.{WindowFields, KindFields, ule, mpe, fec, gse, ServiceFields, IntFields, MovedFields, ChangeFields, PlanFields}
 use Rattle.plan.specs.declared.service.Kind.{Kind}
 use Rattle.plan.specs.declared.service.Kind.TheVariants.{Ule, Mpe, Fec, Gse}
 use Rattle.plan.specs.declared.service.Service.{Service}
 use Rattle.plan.specs.declared.plan.IntPlan.{IntPlan}
+use Rattle.plan.specs.declared.change.Moved.{Moved}
+use Rattle.plan.specs.declared.change.Change.{Change}
 
 abbrev pub form_of : Recording → RecordingForm
 form_of Plain = plain
@@ -46,12 +48,24 @@ int_seen int = record {
   transport_stream_id = int.transport_stream_id;
 }
 
-abbrev pub plan_seen : Recording → ℕ → ℕ → Option ℕ → Option IntPlan → List Service → PlanFields
-plan_seen recording packet_rate cycle frame_bytes table services = record {
+abbrev pub moved_seen : Moved → MovedFields
+moved_seen moved = record { service = moved.service; pid = moved.pid; rules = moved.rules }
+
+abbrev pub change_seen : Change → ChangeFields
+change_seen change = record { at = change.at; moved = map moved_seen change.moved }
+
+abbrev pub changes_seen : List Change → List ChangeFields
+changes_seen changes = map change_seen changes
+
+-- as it is written: version 0
+abbrev pub plan_seen : Recording → ℕ → ℕ → Option ℕ → Option IntPlan → List Service → List Change → PlanFields
+plan_seen recording packet_rate cycle frame_bytes table services changes = record {
   recording = form_of recording;
   packet_rate = packet_rate;
   cycle = cycle;
   frame_bytes = frame_bytes;
   table = option_map int_seen table;
   services = services_seen services;
+  version = 0;
+  changes = changes_seen changes;
 }

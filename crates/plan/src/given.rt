@@ -4,6 +4,7 @@ ghost use Rattle.plan_spec.specs.Given.{plan_of_pid, service_of_pid, sample_plan
 ghost use Rattle.plan.specs.Parts.{kind_seen, service_seen};
 ghost use Rattle.plan.specs.PlanView.{plan_fields};
 
+use crate::change::ChangeList;
 use crate::plan::{IntPlan, Plan};
 use crate::service::{Kind, Name, Service, ServiceList};
 use addr_rules::{MacList, Rule, RuleList};
@@ -47,6 +48,7 @@ pub fn ule_plan(alloc: Global, pid: u16) -> Result<Plan, OutOfMemory>
         frame_bytes: None,
         table: None,
         services,
+        changes: ChangeList::new(alloc),
     })
 }
 
@@ -113,5 +115,6 @@ pub fn sample_plan(alloc: Global) -> Result<Plan, OutOfMemory>
         frame_bytes: None,
         table: Some(table),
         services,
+        changes: ChangeList::new(alloc),
     })
 }
