@@ -6,3 +6,4 @@ pub mod CheckLemmas
 pub mod OrderLemmas
 pub mod AcceptLemmas
 pub mod SizeLemmas
+pub mod ChangeLemmas

@@ -9,7 +9,7 @@ use Rattle.addr_rules.specs.declared.rules.Rule.{Rule}
 use Rattle.plan_spec.specs.Plan.{ServiceFields, IntFields, PlanFields, services_with, with_rules}
 use Rattle.plan_spec.specs.Checks.{is_between}
 use Rattle.settings_spec.specs.Keys.{tables, is_table, text_or, number_or, table_at, tables_at}
-use Rattle.settings_spec.specs.Settings.{says_baseband, service_key, recording_of, int_of, services_of, plan_of}
+use Rattle.settings_spec.specs.Settings.{says_baseband, service_key, recording_of, int_of, services_of, changes_at, plan_of}
 use Rattle.plan_spec.specs.Valid.{has_valid_top, is_valid_frame_size, is_valid_int, most_services}
 use Rattle.service_plan.specs.Reading.{rule_for}
 use Rattle.settings_spec.specs.Settings.{rule_texts}
@@ -23,7 +23,7 @@ use Rattle.settings_keys.specs.declared.key.Key.TheVariants as key
 
 abbrev pub plan_from : RecordingForm → ℕ → ℕ → Option ℕ → Option IntFields → List ServiceFields → PlanFields
 plan_from recording rate cycle frame table services =
-    record { recording = recording; packet_rate = rate; cycle = cycle; frame_bytes = frame; table = table; services = services }
+    record { recording = recording; packet_rate = rate; cycle = cycle; frame_bytes = frame; table = table; services = services; version = 0; changes = [] }
 
 -- the key of the services asks for as many as the carrier takes
 pub service_key_is : (top : Members) (b : Bool) (n : ℕ) → n ≡ most_services b → b ≡ says_baseband top → rule_for key.Service true (tables n) ≡ service_key top
@@ -33,9 +33,9 @@ pub plan_of_parts : (top : Members) (recording : RecordingForm) (rate cycle : �
     → recording ≡ recording_of (text_or (codes "plain") (codes "recording") top) → rate ≡ number_or 10000 (codes "packet_rate") top
     → cycle ≡ number_or 20000 (codes "cycle") top → frame ≡ (if says_baseband top then Some (number_or 2000 (codes "frame_bytes") top) else None)
     → table ≡ option_map int_of (table_at (codes "int") top) → services ≡ services_with (services_of 0 (tables_at (codes "service") top)) lists
-    → plan_from recording rate cycle frame table services ≡ with_rules (plan_of top) lists
+    → changes_at top ≡ [] → plan_from recording rate cycle frame table services ≡ with_rules (plan_of top) lists
 unfolding plan_of
-plan_of_parts top recording rate cycle frame table services lists r p c f t s = rw (r, p, c, f, t, s)
+plan_of_parts top recording rate cycle frame table services lists r p c f t s none = rw (r, p, c, f, t, s, none)
 
 pub frame_said : (top : Members) (b : Bool) (bytes : ℕ) → b ≡ says_baseband top → bytes ≡ number_or 2000 (codes "frame_bytes") top
     → (if b then Some bytes else None) ≡ (if says_baseband top then Some (number_or 2000 (codes "frame_bytes") top) else None)

@@ -21,7 +21,8 @@ mod window_checks;
 
 pub use fault::{PlanError, PlanFault};
 pub use plan::{
-    IntPlan, Kind, Name, Plan, Service, ServiceList, longest, route, sample_plan, ule_plan,
+    Change, ChangeList, IntPlan, Kind, Moved, MovedList, Name, Plan, Service, ServiceList, longest,
+    pid_in, route, route_in, sample_plan, ule_plan, version_at,
 };
 pub use read::read_plan;
 pub use settings_keys::Key;

@@ -12,7 +12,7 @@ ghost use Rattle.service_plan.specs.Accepted.{IsAcceptedTable};
 use crate::fault::{PlanError, PlanFault};
 use crate::plan_checks::check_whole;
 use crate::settings_draft::{Draft, read_tables};
-use plan::Plan;
+use plan::{ChangeList, Plan};
 use std::alloc::Global;
 use toml::Table;
 
@@ -60,6 +60,7 @@ fn plan_of_table(alloc: Global, top: &Table) -> Result<Plan, PlanError>
                 frame_bytes,
                 table,
                 services,
+                changes: ChangeList::new(alloc),
             })
         }
         Err(fault) => Err(PlanError::Fault(fault)),

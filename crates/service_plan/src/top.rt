@@ -1,10 +1,10 @@
 //! The top table of settings.
-ghost use Rattle.std.specs.Prelude.{◌≡◌, false, codes, option_map, bytes_eq, if◌then◌else◌};
+ghost use Rattle.std.specs.Prelude.{◌≡◌, codes, option_map, bytes_eq, if◌then◌else◌};
 ghost use Rattle.toml.specs.View.{table_view};
-ghost use Rattle.settings_spec.specs.Keys.{keys_fault, one_table, table_at};
-ghost use Rattle.settings_spec.specs.Settings.{value_keys, recording_of};
+ghost use Rattle.settings_spec.specs.Keys.{keys_fault, table_at};
+ghost use Rattle.settings_spec.specs.Settings.{value_keys, int_key, recording_of};
 ghost use Rattle.plan.specs.Parts.{form_of};
-ghost use Rattle.service_plan.specs.Reading.{Answers, Reads, rule_for};
+ghost use Rattle.service_plan.specs.Reading.{Answers, Reads};
 ghost use Rattle.service_plan.specs.Top.{AreTopValues};
 
 use crate::fault::PlanFault;
@@ -52,13 +52,18 @@ pub(crate) fn top_values(top: &Table) -> Result<TopValues, PlanFault>
     })
 }
 
-/// The table of the INT, where there is one.
+/// The table of the INT, where there is one; a plan that changes needs it.
 pub(crate) fn int_table(top: &Table) -> Result<Option<&Table>, PlanFault>
-    ensures read { Reads result (rule_for Key.Int false one_table) (table_view top.now) (λ o. option_map (λ t. table_view t.now) o ≡ table_at (codes "int") (table_view top.now)) }
+    ensures read { Reads result (int_key (table_view top.now)) (table_view top.now) (λ o. option_map (λ t. table_view t.now) o ≡ table_at (codes "int") (table_view top.now)) }
 {
     let value = match find(top, Key::Int) {
         Some(value) => value,
-        None => return Ok(None),
+        None => {
+            if find(top, Key::Change).is_some() {
+                return Err(PlanFault::Missing(Key::Int));
+            }
+            return Ok(None);
+        }
     };
     match value.as_table() {
         Some(table) => Ok(Some(table)),
