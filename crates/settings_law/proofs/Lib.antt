@@ -1,5 +1,7 @@
 pub mod Addresses
+pub mod Bare
 pub mod Keys
+pub mod Moved
 pub mod Services
 pub mod Spellings
 pub mod Tops

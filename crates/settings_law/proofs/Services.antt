@@ -165,7 +165,7 @@ service_holds m none = kind_holds m (first_none (key_fault kind_key m) (kind_fau
 -- The services.
 
 -- the values of a service at one of the first 256 places
-values_hold : (place : ℕ) (m : Members) → place ≤ 255 → service_fault m ≡ None → has_valid_values 32 (service_of place m) ≡ true
+pub values_hold : (place : ℕ) (m : Members) → place ≤ 255 → service_fault m ≡ None → has_valid_values 32 (service_of place m) ≡ true
 values_hold place m few none =
     let hold = service_holds m none in
     both_true (is_service_name (text_or [] (codes "name") m)) _ (name_holds (codes "name") m hold.1.name)
@@ -176,13 +176,13 @@ values_hold place m few none =
     (λ never. both_true (leb 0 place) (leb place 255) (le-leb 0 place (omega arith)) (le-leb place 255 few)))))
 
 -- rules that are spelled are rules
-rules_hold : (texts : List (List ℕ)) (rules : List Rule) → AreRules texts rules → list_all is_valid_rule rules ≡ true
+pub rules_hold : (texts : List (List ℕ)) (rules : List Rule) → AreRules texts rules → list_all is_valid_rule rules ≡ true
 rules_hold [] [] are = refl
 rules_hold [] (rule ∷ rules) are = absurd are
 rules_hold (text ∷ texts) [] are = absurd are
 rules_hold (text ∷ texts) (rule ∷ rules) are = rw (le-leb rule.slash (bit_count rule.address) are.0.range, are.0.clear, rules_hold texts rules are.1) refl
 
-rules_are : (texts : List (List ℕ)) (rules : List Rule) → AreRules texts rules → All IsRule rules
+pub rules_are : (texts : List (List ℕ)) (rules : List Rule) → AreRules texts rules → All IsRule rules
 rules_are [] [] are k d less = absurd (omega (arith, less))
 rules_are [] (rule ∷ rules) are k d less = absurd are
 rules_are (text ∷ texts) [] are k d less = absurd are

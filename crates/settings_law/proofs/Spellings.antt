@@ -1,5 +1,5 @@
 -- A text spells one rule at most, and settings give one plan.
-use Rattle.std.proofs.Common.{◌≡◌, ◌⊎◌, inl, inr, ⊎_elim, ℕ, ◌+◌, ◌-◌, ◌*◌, ◌<◌, ◌≤◌, false, eqb, List, [], ◌∷◌, ◌++◌, length, get_or, map, replicate, fold, All, Some, refl, ap, ap₂, sym, ◌∙◌, subst, arith}
+use Rattle.std.proofs.Common.{◌≡◌, ◌⊎◌, inl, inr, ⊎_elim, ℕ, ◌+◌, ◌-◌, ◌*◌, ◌<◌, ◌≤◌, false, eqb, List, [], ◌∷◌, ◌++◌, length, get_or, map, replicate, fold, All, Option, Some, None, refl, ap, ap₂, sym, ◌∙◌, subst, arith}
 use Rattle.std.specs.List.{join_with_byte}
 use Rattle.std.proofs.lemmas.Bool.{cases_lt, lt-ltb, le-ltb}
 use Rattle.std.proofs.lemmas.List.{get_or_append_left}
@@ -16,8 +16,10 @@ use Rattle.addr_rules.proofs.GroupTexts.{groups_or_empty, empty_only, single_col
 use Rattle.addr_rules.proofs.DoubleColons.{no_double, double_at, same_cut}
 use Rattle.addr_rules.proofs.RuleTexts.{no_dot, dotted}
 use Rattle.plan_spec.specs.Plan.{PlanFields, with_rules}
-use Rattle.settings_spec.specs.Refusal.{AreRules, AreRuleLists, IsPlan, IsAccepted}
-use Rattle.settings_spec.specs.Settings.{plan_of, rule_texts}
+use Rattle.std.specs.List.{AllZip}
+use Rattle.settings_spec.specs.Changes.{MovedValues, ChangeValues, with_changes}
+use Rattle.settings_spec.specs.Refusal.{AreRules, AreRuleLists, AreNewRules, IsSpelledMoved, IsSpelledChange, IsPlan, IsAccepted}
+use Rattle.settings_spec.specs.Settings.{changes_at, plan_of, rule_texts}
 
 -- Decimals.
 
@@ -158,11 +160,55 @@ same_lists (texts ∷ services) [] ss of_rs of_ss = absurd of_rs
 same_lists (texts ∷ services) (r ∷ rs) [] of_rs of_ss = absurd of_ss
 same_lists (texts ∷ services) (r ∷ rs) (s ∷ ss) of_rs of_ss = cc (same_rules texts r s of_rs.0 of_ss.0, same_lists services rs ss of_rs.1 of_ss.1)
 
+-- Changes.
+
+same_new_rules : (texts : Option (List (List ℕ))) (rs ss : Option (List Rule)) → AreNewRules texts rs → AreNewRules texts ss → rs ≡ ss
+same_new_rules None None None of_rs of_ss = refl
+same_new_rules None None (Some s) of_rs of_ss = absurd of_ss
+same_new_rules None (Some r) ss of_rs of_ss = absurd of_rs
+same_new_rules (Some texts) None ss of_rs of_ss = absurd of_rs
+same_new_rules (Some texts) (Some r) None of_rs of_ss = absurd of_ss
+same_new_rules (Some texts) (Some r) (Some s) of_rs of_ss = ap (λ (rules : List Rule). Some rules) (same_rules texts r s of_rs of_ss)
+
+abbrev moved_with : List ℕ × Option ℕ → Option (List Rule) → MovedValues Rule
+moved_with named rules = record { name = named.0; pid = named.1; rules = rules }
+
+same_moved : (text : MovedValues (List ℕ)) (m n : MovedValues Rule) → IsSpelledMoved text m → IsSpelledMoved text n → m ≡ n
+same_moved text m n of_m of_n =
+    let named : (m.name, m.pid) ≡ (n.name, n.pid) = ap₂ (λ (name : List ℕ) (pid : Option ℕ). (name, pid)) (of_m.name ∙ sym of_n.name) (of_m.pid ∙ sym of_n.pid) in
+    ap₂ moved_with named (same_new_rules text.rules m.rules n.rules of_m.rules of_n.rules)
+
+same_moves : (texts : List (MovedValues (List ℕ))) (ms ns : List (MovedValues Rule)) → AllZip IsSpelledMoved texts ms → AllZip IsSpelledMoved texts ns → ms ≡ ns
+same_moves [] [] [] of_ms of_ns = refl
+same_moves [] [] (n ∷ ns) of_ms of_ns = absurd of_ns
+same_moves [] (m ∷ ms) ns of_ms of_ns = absurd of_ms
+same_moves (text ∷ texts) [] ns of_ms of_ns = absurd of_ms
+same_moves (text ∷ texts) (m ∷ ms) [] of_ms of_ns = absurd of_ns
+same_moves (text ∷ texts) (m ∷ ms) (n ∷ ns) of_ms of_ns = cc (same_moved text m n of_ms.0 of_ns.0, same_moves texts ms ns of_ms.1 of_ns.1)
+
+abbrev change_with : ℕ → List (MovedValues Rule) → ChangeValues Rule
+change_with at moved = record { at = at; moved = moved }
+
+same_change : (text : ChangeValues (List ℕ)) (c d : ChangeValues Rule) → IsSpelledChange text c → IsSpelledChange text d → c ≡ d
+same_change text c d of_c of_d = ap₂ change_with (of_c.at ∙ sym of_d.at) (same_moves text.moved c.moved d.moved of_c.moved of_d.moved)
+
+same_changes : (texts : List (ChangeValues (List ℕ))) (cs ds : List (ChangeValues Rule)) → AllZip IsSpelledChange texts cs → AllZip IsSpelledChange texts ds → cs ≡ ds
+same_changes [] [] [] of_cs of_ds = refl
+same_changes [] [] (d ∷ ds) of_cs of_ds = absurd of_ds
+same_changes [] (c ∷ cs) ds of_cs of_ds = absurd of_cs
+same_changes (text ∷ texts) [] ds of_cs of_ds = absurd of_cs
+same_changes (text ∷ texts) (c ∷ cs) [] of_cs of_ds = absurd of_ds
+same_changes (text ∷ texts) (c ∷ cs) (d ∷ ds) of_cs of_ds = cc (same_change text c d of_cs.0 of_ds.0, same_changes texts cs ds of_cs.1 of_ds.1)
+
 -- Plans.
 
 one_plan_of_table : (top : Members) (p q : PlanFields) → IsPlan top p → IsPlan top q → p ≡ q
 one_plan_of_table top p q is_p is_q =
-    is_p.values ∙ (ap (λ (rules : List (List Rule)). with_rules (plan_of top) rules) (same_lists (rule_texts top) is_p.rules is_q.rules is_p.spelled is_q.spelled) ∙ sym is_q.values)
+    is_p.values
+    ∙ (ap₂ (λ (rules : List (List Rule)) (changes : List (ChangeValues Rule)). with_changes (with_rules (plan_of top) rules) changes)
+    (same_lists (rule_texts top) is_p.rules is_q.rules is_p.spelled.of_services is_q.spelled.of_services)
+    (same_changes (changes_at top) is_p.changes is_q.changes is_p.spelled.of_changes is_q.spelled.of_changes)
+    ∙ sym is_q.values)
 
 pub one_plan : (bytes : List ℕ) (p q : PlanFields) → IsAccepted bytes p → IsAccepted bytes q → p ≡ q
 one_plan bytes p q is_p is_q =

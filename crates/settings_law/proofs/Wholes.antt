@@ -1,22 +1,35 @@
 -- The checks over the whole plan of accepted settings.
-use Rattle.std.proofs.Common.{◌≡◌, ◌⊎◌, inr, ℕ, suc, Bool, true, false, ◌||◌, List, [], ◌∷◌, length, map, sum_by, codes, refl, ap, sym, ◌∙◌, subst, arith}
+use Rattle.std.proofs.Common.{◌≡◌, ◌⊎◌, inl, inr, ℕ, suc, ◌+◌, ◌<◌, ◌≤◌, Bool, true, false, not, ◌||◌, List, [], ◌∷◌, ◌++◌, length, map, Option, Some, None, is_some, option_map, codes, eqb, le-leb, refl, ap, sym, ◌∙◌, subst, arith}
 use Rattle.std.specs.Prelude.{All}
-use Rattle.std.specs.List.{list_all}
+use Rattle.std.specs.List.{list_all, list_any, AllZip}
+use Rattle.std.specs.Prelude.{nat_le}
+use Rattle.std.proofs.lemmas.Bool.{eq-eqb}
+use Rattle.std.proofs.lemmas.Slice.Zip.{AllZip-long}
+use Rattle.toml.specs.Data.{Members}
 use Rattle.std.proofs.lemmas.List.{length-map}
 use Rattle.std.proofs.lemmas.List.Sums.{sum_by-cons}
-use Rattle.toml.specs.Data.{Members}
 use Rattle.addr_rules.specs.declared.rules.Rule.{Rule}
 use Rattle.int_spec.specs.Table.{IsRule}
-use Rattle.plan_spec.specs.Plan.{KindFields, ServiceFields, PlanFields, services_with, with_rules, rule_lists}
+use Rattle.plan_spec.specs.Plan.{KindFields, ServiceFields, ChangeFields, PlanFields, services_with, with_rules, rule_lists, table_pids, service_pids, isis}
 use Rattle.plan_spec.specs.Checks.{has_wrong_carrier, has_same_name, has_same_pid, has_no_rule, has_too_many_rules, has_wrong_count, needs_stamps, has_wrong_window, has_short_gap, has_long_cycle}
-use Rattle.settings_spec.specs.Keys.{texts_at, tables_at}
-use Rattle.settings_spec.specs.Settings.{plan_of, rule_texts}
+use Rattle.settings_spec.specs.Keys.{wrong_change, wrong_rules, wrong_window, texts_at, tables_at, table_at}
+use Rattle.settings_spec.specs.Settings.{int_of, changes_at, plan_of, rule_texts}
 use Rattle.plan_spec.specs.Signalling.{table_packets}
-use Rattle.settings_spec.specs.Refusal.{AreRules, AreRuleLists, HasNoRule, Fails, whole_checks, NoneFails, IsAccepted}
-use Rattle.plan_spec.specs.Valid.{is_valid_service, is_in_range, is_consistent, is_plan_of_settings}
-use Rattle.stream_law.specs.Words.{IsOfBytes}
-use Rattle.settings_law.proofs.Services.{services_hold, lists_are, unicasts_are}
-use Rattle.settings_law.proofs.Tops.{length-services_of, PartsHold, parts_hold, services_few, top_holds}
+use Rattle.settings_spec.specs.Changes.{ChangeValues, change_values, with_changes}
+use Rattle.settings_spec.specs.Refusal.{AreRules, AreRuleLists, IsSpelledChange, AreSpelled, IsPlan, Fails, whole_checks, NoneFails, IsAccepted}
+use Rattle.plan_spec.specs.Changes.{services_in, plan_in, all_pids, rises_from, moves_wrongly, has_wrong_change}
+use Rattle.plan_spec.specs.Valid.{has_valid_top, is_in_range, is_consistent, is_plan_of_settings}
+use Rattle.plan_spec.specs.Wholes.{has_wrong_rules, most_table_packets, is_valid_change, has_valid_changes, is_whole_of_settings}
+use Rattle.stream_law.specs.Words.{IsMac, IsOfBytes}
+use Rattle.plan_law.proofs.Lists.{none_at, all_from}
+use Rattle.plan_law.proofs.Kept.{kept, length-services_in, isis_kept, carrier_kept, name_kept, stamps_kept, window_kept, gap_kept, cycle_kept}
+use Rattle.plan_law.proofs.Pids.{twice, none_twice_in}
+use Rattle.plan_law.proofs.Windows.{windows_right, most_packets}
+use Rattle.plan_law.proofs.Versions.{versions_of_settings, first_of_settings}
+use Rattle.settings_law.proofs.Services.{both_true, unicasts_are}
+use Rattle.settings_law.proofs.Bare.{wrong_with}
+use Rattle.settings_law.proofs.Moved.{AreGood, all_valid, all_written, services_good, changes_good, changes_valid, length-changes_by}
+use Rattle.settings_law.proofs.Tops.{length-services_of, PartsHold, parts_hold, services_few, top_holds, count_if_any, int_is_there, top_again}
 
 -- Rules change neither kinds nor names.
 
@@ -68,22 +81,6 @@ same_lists [] (rules ∷ lists) are = absurd are
 same_lists (text ∷ texts) [] are = absurd are
 same_lists (text ∷ texts) (rules ∷ lists) are = ap suc (same_lists texts lists are.1)
 
-same_none : (texts : List (List (List ℕ))) (lists : List (List Rule)) → AreRuleLists texts lists → has_no_rule texts ≡ has_no_rule lists
-same_none [] [] are = refl
-same_none [] (rules ∷ lists) are = absurd are
-same_none (text ∷ texts) [] are = absurd are
-same_none (text ∷ texts) (rules ∷ lists) are = rw (same_length text rules are.0, same_none texts lists are.1)
-
-same_sum : (texts : List (List (List ℕ))) (lists : List (List Rule)) → AreRuleLists texts lists → sum_by length texts ≡ sum_by length lists
-same_sum [] [] are = refl
-same_sum [] (rules ∷ lists) are = absurd are
-same_sum (text ∷ texts) [] are = absurd are
-same_sum (text ∷ texts) (rules ∷ lists) are =
-    sum_by-cons length text texts ∙ rw (same_length text rules are.0, same_sum texts lists are.1) (sym (sum_by-cons length rules lists))
-
-same_count : (texts : List (List (List ℕ))) (lists : List (List Rule)) → AreRuleLists texts lists → has_wrong_count lists ≡ has_wrong_count texts
-same_count texts lists are = rw (same_none texts lists are, same_sum texts lists are)
-
 -- The checks.
 
 not_true : (b : Bool) → ¬ (b ≡ true) → b ≡ false
@@ -94,10 +91,16 @@ neither : (a b : Bool) → (a || b) ≡ false → (a ≡ false) × (b ≡ false)
 neither true b none = absurd (cc)
 neither false b none = (refl, none)
 
-module _ (top : Members) (lists : List (List Rule)) (spelled : AreRuleLists (rule_texts top) lists) where
-  -- the plan of the settings
+module _ (top : Members) (lists : List (List Rule)) (changes : List (ChangeValues Rule)) (spelled : AreSpelled top lists changes) where
+  -- the plan of the settings, before its changes and with them
+  abbrev pub base : PlanFields
+  base = with_rules (plan_of top) lists
+
   abbrev pub plan : PlanFields
-  plan = with_rules (plan_of top) lists
+  plan = with_changes base changes
+
+  is_plan : IsPlan top plan
+  is_plan = record { rules = lists; changes = changes; spelled = spelled; values = refl }
 
   -- the rules are those of its services
   texts_count : length (rule_texts top) ≡ length (tables_at (codes "service") top)
@@ -109,61 +112,163 @@ module _ (top : Members) (lists : List (List Rule)) (spelled : AreRuleLists (rul
   services_count = length-services_of 0 (tables_at (codes "service") top)
 
   pub rule_lists_are : rule_lists plan ≡ lists
-  rule_lists_are = rules_with (plan_of top).services lists (services_count ∙ sym texts_count ∙ same_lists (rule_texts top) lists spelled)
+  rule_lists_are = rules_with (plan_of top).services lists (services_count ∙ sym texts_count ∙ same_lists (rule_texts top) lists spelled.of_services)
 
-  -- each service has a rule, and there are not too many
-  counts : ¬ (HasNoRule (rule_texts top) ⊎ (has_wrong_count (rule_texts top) ≡ true)) → (has_no_rule (rule_lists plan) ≡ false) × (has_too_many_rules (rule_lists plan) ≡ false)
-  counts passes =
-      neither (has_no_rule (rule_lists plan)) (has_too_many_rules (rule_lists plan))
-      (ap has_wrong_count rule_lists_are
-      ∙ same_count (rule_texts top) lists spelled
-      ∙ not_true (has_wrong_count (rule_texts top)) (λ wrong. passes (inr wrong)))
-
-  -- no check over the whole fails
-  pub whole_holds : NoneFails (Fails top) whole_checks → (is_consistent plan ≡ true) × (has_no_rule (rule_lists plan) ≡ false)
-  unfolding is_consistent
-  whole_holds none = (
-    rw (
-      carrier_with (plan_of top) lists ∙ not_true (has_wrong_carrier (plan_of top)) none.0,
-      name_with (plan_of top) lists ∙ not_true (has_same_name (plan_of top)) none.1.0,
-      pid_with (plan_of top) lists ∙ not_true (has_same_pid (plan_of top)) none.1.1.0,
-      (counts none.1.1.1.0).1,
-      stamps_with (plan_of top) lists ∙ not_true (needs_stamps (plan_of top)) none.1.1.1.1.0,
-      not_true (has_wrong_window (table_packets plan) plan) (λ wrong. none.1.1.1.1.1.0 (plan, record { rules = lists; spelled = spelled; values = refl }, wrong)),
-      gap_with (plan_of top) lists ∙ not_true (has_short_gap (plan_of top)) none.1.1.1.1.1.1.0,
-      cycle_with (plan_of top) lists ∙ not_true (has_long_cycle (plan_of top)) none.1.1.1.1.1.1.1.0,
-    )
-        refl,
-    (counts none.1.1.1.0).0,
-  )
-
-  -- the values of all services are in their ranges
-  services_valid : PartsHold top → list_all (is_valid_service 32) plan.services ≡ true
+  -- its services are good, and so are those of each version
+  base_good : PartsHold top → AreGood base.services
   unfolding plan_of rule_texts
-  services_valid parts = services_hold 0 (tables_at (codes "service") top) lists (omega (arith, services_few top parts)) parts.services spelled
+  base_good parts = services_good 0 (tables_at (codes "service") top) lists (omega (arith, services_few top parts)) parts.services spelled.of_services
 
-  -- so it is a plan
-  pub is_of_settings : PartsHold top → NoneFails (Fails top) whole_checks → is_plan_of_settings plan ≡ true
-  unfolding is_plan_of_settings is_in_range
-  is_of_settings parts whole =
-      let holds = whole_holds whole in
-      rw (top_holds top lists parts, services_valid parts, holds.0, holds.1) refl
+  version_good : PartsHold top → (version : ℕ) → AreGood (services_in plan version)
+  unfolding changes_at
+  version_good parts version = changes_good base.services (base_good parts) (tables_at (codes "change") top) parts.changes changes spelled.of_changes version
 
-  -- of bytes
-  pub plan_of_bytes : PartsHold top → IsOfBytes plan
+  -- The checks.
+
+  no_wrong_change : ¬ Fails top wrong_change → has_wrong_change plan ≡ false
+  no_wrong_change right = wrong_with top lists changes spelled.of_changes ∙ not_true (has_wrong_change (plan_of top)) right
+
+  none_twice : ¬ Fails top wrong_change → twice (all_pids plan) ≡ false
+  none_twice right =
+      let changes_right = (neither (not (rises_from 2 plan.changes)) _ (no_wrong_change right)).1 in
+      (neither (list_any (moves_wrongly plan) plan.changes) (twice (all_pids plan)) changes_right).1
+
+  rules_right : ¬ Fails top wrong_rules → has_wrong_rules plan ≡ false
+  rules_right right = not_true (has_wrong_rules plan) (λ wrong. right (inr (plan, is_plan, wrong)))
+
+  windows_hold : ¬ Fails top wrong_window → has_wrong_window (most_table_packets plan) plan ≡ false
+  windows_hold right = not_true (has_wrong_window (most_table_packets plan) plan) (λ wrong. right (plan, is_plan, wrong))
+
+  -- in each version
+  module _ (none : NoneFails (Fails top) whole_checks) (version : ℕ) (within : version < length plan.changes + 1) where
+    counts : (has_no_rule (rule_lists (plan_in plan version)) ≡ false) × (has_too_many_rules (rule_lists (plan_in plan version)) ≡ false)
+    counts =
+        neither (has_no_rule (rule_lists (plan_in plan version))) (has_too_many_rules (rule_lists (plan_in plan version)))
+        (ap (λ v. has_wrong_count (rule_lists (plan_in plan v))) (zero_is version)
+        ∙ none_at (λ v. has_wrong_count (rule_lists (plan_in plan v))) 0 (length plan.changes + 1) version (rules_right none.1.1.1.1.0) within)
+      where
+        zero_is : (n : ℕ) → n ≡ 0 + n
+        zero_is n = omega arith
+
+    pids_differ : has_same_pid (plan_in plan version) ≡ false
+    pids_differ =
+        let own = neither (twice (table_pids plan.table ++ service_pids plan)) (twice (isis plan)) (pid_with (plan_of top) lists ∙ not_true (has_same_pid (plan_of top)) none.1.1.0) in
+        both_false (twice (table_pids plan.table ++ service_pids (plan_in plan version))) (twice (isis (plan_in plan version)))
+        (none_twice_in plan version within (none_twice none.1.1.1.0)) (ap (λ (l : List ℕ). twice l) (isis_kept plan version) ∙ own.1)
+      where
+        both_false : (a b : Bool) → a ≡ false → b ≡ false → (a || b) ≡ false
+        both_false true b no_a no_b = absurd (cc)
+        both_false false b no_a no_b = no_b
+
+    consistent : is_consistent (plan_in plan version) ≡ true
+    unfolding is_consistent
+    consistent =
+        rw (
+          carrier_kept plan version ∙ carrier_with (plan_of top) lists ∙ not_true (has_wrong_carrier (plan_of top)) none.0,
+          name_kept plan version ∙ name_with (plan_of top) lists ∙ not_true (has_same_name (plan_of top)) none.1.0,
+          pids_differ,
+          counts.1,
+          stamps_kept plan version ∙ stamps_with (plan_of top) lists ∙ not_true (needs_stamps (plan_of top)) none.1.1.1.1.1.0,
+          window_kept plan version (table_packets (plan_in plan version))
+              ∙ windows_right plan (table_packets (plan_in plan version)) (most_table_packets plan) (most_packets plan version within) (windows_hold none.1.1.1.1.1.1.0),
+          gap_kept plan version ∙ gap_with (plan_of top) lists ∙ not_true (has_short_gap (plan_of top)) none.1.1.1.1.1.1.1.0,
+          cycle_kept plan version ∙ cycle_with (plan_of top) lists ∙ not_true (has_long_cycle (plan_of top)) none.1.1.1.1.1.1.1.1.0,
+        )
+        refl
+
+    version_is_plan : PartsHold top → version ≤ 31 → is_plan_of_settings (plan_in plan version) ≡ true
+    unfolding is_plan_of_settings is_in_range
+    version_is_plan parts few =
+        rw (
+          top_again plan (services_in plan version) version [] (top_holds top lists parts) (length-services_in plan version) (le-leb version 31 few),
+          all_valid (services_in plan version) (version_good parts version),
+          consistent,
+          counts.0,
+        )
+        refl
+
+  -- The whole.
+
+  changes_few : PartsHold top → length plan.changes ≤ 31
+  unfolding changes_at
+  changes_few parts =
+      omega (
+        arith,
+        length-changes_by base.services changes,
+        AllZip-long IsSpelledChange (changes_at top) changes spelled.of_changes,
+        length-map (tables_at (codes "change") top) change_values,
+        count_if_any 31 (codes "change") top parts.list,
+      )
+
+  changes_hold : PartsHold top → has_valid_changes plan ≡ true
+  unfolding has_valid_changes plan_of changes_at
+  changes_hold parts =
+      both_true (nat_le (length plan.changes) 31) _ (le-leb (length plan.changes) 31 (changes_few parts))
+      (both_true (list_all is_valid_change plan.changes) _ (changes_valid base.services (tables_at (codes "change") top) parts.changes changes spelled.of_changes)
+      (signalled (int_is_there top parts)))
+    where
+      signalled : (length (tables_at (codes "change") top) ≡ 0) ⊎ (is_some (table_at (codes "int") top) ≡ true) → (eqb (length plan.changes) 0 || is_some plan.table) ≡ true
+      signalled (inl none) =
+          ap (λ (b : Bool). b || is_some plan.table)
+          (eq-eqb (length plan.changes) 0 (omega (
+            arith,
+            none,
+            length-changes_by base.services changes,
+            AllZip-long IsSpelledChange (changes_at top) changes spelled.of_changes,
+            length-map (tables_at (codes "change") top) change_values,
+          )))
+      signalled (inr there) = or_second (eqb (length plan.changes) 0) (some_int (table_at (codes "int") top) there)
+        where
+          some_int : (o : Option Members) → is_some o ≡ true → is_some (option_map int_of o) ≡ true
+          some_int None is = absurd (cc)
+          some_int (Some m) is = refl
+
+          or_second : (a : Bool) {b : Bool} → b ≡ true → (a || b) ≡ true
+          or_second true is = refl
+          or_second false is = is
+
+  pub is_whole : PartsHold top → NoneFails (Fails top) whole_checks → is_whole_of_settings plan ≡ true
+  unfolding is_whole_of_settings plan_of
+  is_whole parts none =
+      both_true (eqb plan.version 0) _ refl
+      (both_true (has_valid_changes plan) _ (changes_hold parts)
+      (both_true (not (has_wrong_change plan)) _ (ap not (no_wrong_change none.1.1.1.0))
+      (all_from (λ version. is_plan_of_settings (plan_in plan version)) 0 (length plan.changes + 1)
+      (λ i within. version_is_plan none (0 + i) (omega (arith, within)) parts (omega (arith, within, changes_few parts))))))
+
+  -- of bytes, in each version
+  pub version_of_bytes : PartsHold top → (version : ℕ) → IsOfBytes (plan_in plan version)
   unfolding plan_of
-  plan_of_bytes parts = record {
-    rules = subst (All (All IsRule)) (sym rule_lists_are) (lists_are (rule_texts top) lists spelled);
-    unicast = unicasts_are 0 (tables_at (codes "service") top) lists parts.services;
+  version_of_bytes parts version = record {
+    rules = all_written (services_in plan version) (version_good parts version);
+    unicast = subst (All IsMac) (sym (kept (λ (service : ServiceFields). service.unicast) (record { same = λ service moved. refl }) plan version))
+        (unicasts_are 0 (tables_at (codes "service") top) lists parts.services);
   }
 
 -- Accepted settings.
 
+-- what changes a plan later is not asked of it by itself
+same_by_itself : (plan : PlanFields) (version : ℕ) (changes : List ChangeFields)
+    → is_plan_of_settings (record plan { version = version; changes = [] }) ≡ is_plan_of_settings (record plan { version = version; changes = changes })
+unfolding has_valid_top is_in_range is_consistent is_plan_of_settings table_packets
+same_by_itself plan version changes = refl
+
+pub accepted_is_whole : (bytes : List ℕ) (plan : PlanFields) → IsAccepted bytes plan → is_whole_of_settings plan ≡ true
+accepted_is_whole bytes plan accepted =
+    ap is_whole_of_settings accepted.gives.values
+    ∙ is_whole accepted.top accepted.gives.rules accepted.gives.changes accepted.gives.spelled (parts_hold accepted.top accepted.tables) accepted.whole
+
 pub accepted_is_plan : (bytes : List ℕ) (plan : PlanFields) → IsAccepted bytes plan → is_plan_of_settings plan ≡ true
 accepted_is_plan bytes plan accepted =
-    ap is_plan_of_settings accepted.gives.values
-    ∙ is_of_settings accepted.top accepted.gives.rules accepted.gives.spelled (parts_hold accepted.top accepted.tables) accepted.whole
+    let whole : is_whole_of_settings plan ≡ true = accepted_is_whole bytes plan accepted in
+    ap (λ (v : ℕ). is_plan_of_settings (record plan { version = v })) (first_of_settings plan whole)
+    ∙ sym (same_by_itself plan 0 plan.changes)
+    ∙ versions_of_settings plan 0 whole (omega arith)
+
+pub accepted_versions_of_bytes : (bytes : List ℕ) (plan : PlanFields) → IsAccepted bytes plan → (version : ℕ) → IsOfBytes (plan_in plan version)
+accepted_versions_of_bytes bytes plan accepted version =
+    subst (λ (p : PlanFields). IsOfBytes (plan_in p version)) (sym accepted.gives.values)
+    (version_of_bytes accepted.top accepted.gives.rules accepted.gives.changes accepted.gives.spelled (parts_hold accepted.top accepted.tables) version)
 
 pub accepted_of_bytes : (bytes : List ℕ) (plan : PlanFields) → IsAccepted bytes plan → IsOfBytes plan
-accepted_of_bytes bytes plan accepted =
-    subst IsOfBytes (sym accepted.gives.values) (plan_of_bytes accepted.top accepted.gives.rules accepted.gives.spelled (parts_hold accepted.top accepted.tables))
+accepted_of_bytes bytes plan accepted = let first : IsOfBytes (plan_in plan 0) = accepted_versions_of_bytes bytes plan accepted 0 in record { rules = first.rules; unicast = first.unicast }
