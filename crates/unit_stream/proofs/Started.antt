@@ -57,6 +57,7 @@ module _ (form : UnitForm) (lawful : IsLawful form) (packet : PacketFields) (pla
     events = ap (flat_map event_there) none;
     under_way = ap (flat_map open_there) none;
     at_end = λ _. ap drained (sym (ap (flat_map open_there) none));
+    past = tt;
     falls = λ some. absurd (cc);
   }
 
@@ -79,6 +80,7 @@ module _ (form : UnitForm) (lawful : IsLawful form) (packet : PacketFields) (pla
             ∙ ap (event_by form place.moment) (outcome_there is ∙ ap (λ (s : Span). told_by s bytes) told);
         under_way = ap (flat_map open_there) one ∙ append-nil (open_there place.at) ∙ open_is true is;
         at_end = λ none. absurd (cc);
+        past = tt;
         falls = λ _. omega arith;
       }
 
@@ -98,6 +100,7 @@ module _ (form : UnitForm) (lawful : IsLawful form) (packet : PacketFields) (pla
         under_way = ap (flat_map open_there) more_starts
             ∙ ap (λ (t : List Open). t ++ flat_map open_there (starts_from form packet.payload (place.at + size))) (open_is true is);
         at_end = λ none. absurd (cc);
+        past = tt;
         falls = λ _. omega (arith, least, ap length there, length-drop place.at packet.payload);
       }
 
@@ -112,6 +115,7 @@ module _ (form : UnitForm) (lawful : IsLawful form) (packet : PacketFields) (pla
         events = ap (flat_map event_there) one ∙ append-nil (event_there place.at) ∙ no_outcome_there untold;
         under_way = opened;
         at_end = λ _. ap drained (sym opened);
+        past = tt;
         falls = λ some. absurd (cc);
       }
     where

@@ -1,11 +1,11 @@
 -- What one packet makes of a unit under way.
-use Rattle.std.specs.Prelude.{◌≡◌, ℕ, ◌<◌, Bool, true, List, [], ◌∷◌, ◌++◌, length, take, drop, flat_map, Option, None, option_to_list, IsSome}
+use Rattle.std.specs.Prelude.{◌≡◌, ℕ, ◌<◌, Bool, true, List, [], ◌∷◌, ◌++◌, length, take, drop, flat_map, Option, None, Some, option_to_list, IsSome}
 use Rattle.ts_spec.specs.Form.{UnitForm}
 use Rattle.ts_spec.specs.Packet.{PacketFields, pointer}
 use Rattle.ts_spec.specs.Reassembly.{outcome_of, bytes_from, unit_starts}
 use Rattle.ts_spec.specs.Events.{Event, event_by, misfit_events}
 use Rattle.reassembly_law.specs.UnderWay.{Open, unless_told, resumed, still_open, IsUnderWay}
-use Rattle.unit_stream.specs.Joining.{Place, JoinerState, drained, reading, steps_left, events_from, open_from, left_events, left_open, rest_events, rest_open}
+use Rattle.unit_stream.specs.Joining.{Place, JoinerState, drained, reading, giving, steps_left, events_from, open_from, left_events, left_open, rest_events, rest_open}
 
 -- the bytes before the first start
 abbrev pub pointed : PacketFields → List ℕ
@@ -19,6 +19,17 @@ AreProper form (unit ∷ units) = IsUnderWay form unit.bytes × AreProper form u
 -- all events are given; a unit may be under way
 abbrev pub IsDrained : JoinerState → Type 0
 IsDrained state = (under_way : List Open) × (state ≡ drained under_way)
+
+-- no outcome of a unit that began before is left to be given
+abbrev pub IsPastOutcome : JoinerState → Type 0
+IsPastOutcome (drained under_way) = Unit {0}
+IsPastOutcome (reading place) = Unit {0}
+IsPastOutcome (giving moment told rest) = ⊥
+
+-- once that outcome is given, units may start from a place on
+abbrev pub state_after : Option Place → JoinerState
+state_after None = drained []
+state_after (Some place) = reading place
 
 -- a continuous packet without the start indicator
 pub record GoesOn (form : UnitForm) (unit : Open) (packet : PacketFields) (state : JoinerState) : Type 0 where
@@ -44,4 +55,5 @@ pub record Reads (form : UnitForm) (packet : PacketFields) (place : Place) (even
   pub events : events_from form packet place ≡ option_to_list event ++ left_events form packet state
   pub under_way : open_from form packet place ≡ left_open form packet state
   pub at_end : event ≡ None → state ≡ drained (open_from form packet place)
+  pub past : IsPastOutcome state
   pub falls : IsSome event → steps_left (length packet.payload) state < steps_left (length packet.payload) (reading place)

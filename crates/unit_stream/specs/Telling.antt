@@ -4,18 +4,20 @@ use Rattle.ts_spec.specs.Form.{UnitForm}
 use Rattle.ts_spec.specs.Packet.{PacketFields}
 use Rattle.ts_spec.specs.Received.{Arrival}
 use Rattle.ts_spec.specs.Events.{Event, events_of}
-use Rattle.unit_stream.specs.Joining.{JoinerState, Stands, IsGiving}
+use Rattle.unit_stream.specs.Joining.{JoinerState, Stands, left_events, left_open}
+use Rattle.unit_stream.specs.Steps.{IsPastOutcome}
 
 -- a listener heard these events in order, where `Hears` says what one makes of it
 abbrev pub HasHeard : {L : Type 0} → (L → Event → L → Type 0) → L → List Event → L → Type 0
 HasHeard Hears old [] new = new ≡ old
 HasHeard {L} Hears old (event ∷ events) new = (mid : L) × (Hears old event mid × HasHeard Hears mid events new)
 
--- of the events that the joiner gives, those after the ones before were heard
-pub record IsTelling {L : Type 0} (form : UnitForm) (joiner : JoinerState) (packet : PacketFields) (packets : List Arrival) (before : List Event)
-    (Hears : L → Event → L → Type 0) (old new : L) : Type 0 where
+-- some events of a packet that were still to come were heard, and the others are still to come
+pub record Tells {L : Type 0} (form : UnitForm) (packet : PacketFields) (before after : JoinerState) (Hears : L → Event → L → Type 0) (old new : L) : Type 0 where
   pub events : List Event
-  pub gives : IsGiving form joiner packet packets (before ++ events)
+  pub left : left_events form packet before ≡ events ++ left_events form packet after
+  pub under_way : left_open form packet before ≡ left_open form packet after
+  pub past : IsPastOutcome after
   pub heard : HasHeard Hears old events new
 
 -- all events of the packets after the ones before were heard, and the joiner was fed these packets

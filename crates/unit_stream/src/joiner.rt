@@ -2,9 +2,9 @@
 ghost use Rattle.std.specs.Prelude.{◌≡◌};
 
 use crate::form::UnitForm;
-use crate::joining::{Ended, State, UnderWay, run_on, take_packet};
+use crate::joining::{State, UnderWay, run_on, take_packet};
 use crate::listening::{Listener, tell_events};
-use crate::reading::{JoinEvent, checked, read_start};
+use crate::reading::{JoinEvent, after_end, end_event, read_start};
 use std::alloc::Allocator;
 use std::marker::{Model, PhantomData};
 use ts_packet::{Link, Packet};
@@ -96,7 +96,7 @@ impl<F: UnitForm, A: Allocator> Joiner<F, A> {
             return;
         }
         self.feed(link, packet, moment);
-        tell_events(self, packet, listener);
+        self.state = tell_events::<F, L>(&mut self.buffer, self.state, packet, listener);
     }
 
     /// Goes on with the unit under way by a continuous packet in its middle, which gives no event. False: the packet is none
@@ -132,15 +132,8 @@ impl<F: UnitForm, A: Allocator> Joiner<F, A> {
                 event
             }
             State::Ended(ended, rest) => {
-                self.state = match rest {
-                    None => State::Drained(None),
-                    Some(position) => State::Reading(position),
-                };
-                match ended {
-                    Ended::Unit(unit) => Some(checked::<F>(unit.moment, &self.buffer[..unit.size])),
-                    Ended::Delimit => Some(JoinEvent::Delimit),
-                    Ended::BadLength => Some(JoinEvent::BadLength),
-                }
+                self.state = after_end(rest);
+                Some(end_event::<F>(&self.buffer, ended))
             }
         }
     }

@@ -1,16 +1,16 @@
 //! The events of the packet fed last -> a listener.
-ghost use Rattle.std.specs.Prelude.{◌≡◌, ◌<◌, List, [], ◌∷◌, ◌++◌, length, true, false};
+ghost use Rattle.std.specs.Prelude.{◌≡◌, ◌<◌, List, length};
+ghost use Rattle.ts_spec.specs.Packet.{PacketFields};
 ghost use Rattle.ts_spec.specs.Received.{Arrival};
 ghost use Rattle.ts_spec.specs.Events.{Event};
 ghost use Rattle.ts_packet.specs.Fields.{fields_in};
-ghost use Rattle.unit_stream.specs.Joining.{IsGiving, steps_left};
-ghost use Rattle.unit_stream.specs.States.{event_in};
-ghost use Rattle.unit_stream.specs.Telling.{HasHeard, HasTold};
+ghost use Rattle.unit_stream.specs.Joining.{IsGiving, reading, steps_left};
+ghost use Rattle.unit_stream.specs.States.{FitsState, event_in, place_of, state_in};
+ghost use Rattle.unit_stream.specs.Telling.{HasHeard, HasTold, Tells};
 
 use crate::form::UnitForm;
-use crate::joiner::Joiner;
-use crate::reading::JoinEvent;
-use std::alloc::Allocator;
+use crate::joining::{Position, State};
+use crate::reading::{JoinEvent, after_end, end_event, read_start};
 use ts_packet::Packet;
 
 /// Where the events of packets go.
@@ -23,39 +23,59 @@ pub trait Listener {
         ensures heard { Hears self.old (event_in event.now) self.new };
 }
 
-/// Tells the events of the packet fed last that are not given yet.
-pub(crate) fn tell_events<F: UnitForm, A: Allocator, L: Listener>(
-    joiner: &mut Joiner<F, A>,
+/// Tells the events of the packet fed last that are not given yet, and answers what it leaves.
+pub(crate) fn tell_events<F: UnitForm, L: Listener>(
+    buffer: &mut [u8],
+    state: State,
     packet: &Packet<'_>,
     listener: &mut L,
-)
-    ensures told { (packets : List Arrival) (before : List Event) → IsGiving F.form joiner.old (fields_in packet.now) packets before
-        → HasTold F.form joiner.new packets before L.Hears listener.old listener.new }
+) -> State
+    requires room { length buffer.old ≡ F.LONGEST }
+    requires fits { FitsState F.form state buffer.old }
+    ensures fits { FitsState F.form result buffer.new }
+    ensures told { (packets : List Arrival) (before : List Event) → IsGiving F.form (state_in state buffer.old) (fields_in packet.now) packets before
+        → HasTold F.form (state_in result buffer.new) packets before L.Hears listener.old listener.new }
     ensures heard { (events : List Event) × HasHeard L.Hears listener.old events listener.new }
 {
-    while tell_next(joiner, packet, listener) {}
+    let mut state = tell_end::<F, L>(buffer, state, listener);
+    while let State::Reading(position) = state {
+        state = tell_start::<F, L>(buffer, position, packet, listener);
+    }
+    state
 }
 
-/// Tells the next event of the packet fed last, where there is one.
-fn tell_next<F: UnitForm, A: Allocator, L: Listener>(
-    joiner: &mut Joiner<F, A>,
+/// Tells how the unit under way ended, where it did, and answers what is left then.
+fn tell_end<F: UnitForm, L: Listener>(buffer: &[u8], state: State, listener: &mut L) -> State
+    requires fits { FitsState F.form state buffer.now }
+    ensures fits { FitsState F.form result buffer.now }
+    ensures tells { (packet : PacketFields) → Tells F.form packet (state_in state buffer.now) (state_in result buffer.now) L.Hears listener.old listener.new }
+{
+    match state {
+        State::Ended(ended, rest) => {
+            listener.hear(&end_event::<F>(buffer, ended));
+            after_end(rest)
+        }
+        _ => state,
+    }
+}
+
+/// Tells the event of the unit that starts at a place of the payload, where there is one, and answers what is left then.
+fn tell_start<F: UnitForm, L: Listener>(
+    buffer: &mut [u8],
+    position: Position,
     packet: &Packet<'_>,
     listener: &mut L,
-) -> bool
-    ensures one { (packets : List Arrival) (before : List Event) → IsGiving F.form joiner.old (fields_in packet.now) packets before
-        → result ≡ true → (event : Event) × (IsGiving F.form joiner.new (fields_in packet.now) packets (before ++ event ∷ []) × L.Hears listener.old event listener.new) }
-    ensures none { (packets : List Arrival) (before : List Event) → IsGiving F.form joiner.old (fields_in packet.now) packets before
-        → result ≡ false → HasTold F.form joiner.new packets before L.Hears listener.old listener.new }
-    ensures hears { result ≡ true → (event : Event) × L.Hears listener.old event listener.new }
-    ensures silent { result ≡ false → listener.new ≡ listener.old }
-    ensures falls { result ≡ true → steps_left (length packet.now.payload.now) joiner.new
-        < steps_left (length packet.now.payload.now) joiner.old }
+) -> State
+    requires room { length buffer.old ≡ F.LONGEST }
+    ensures room { length buffer.new ≡ F.LONGEST }
+    ensures fits { FitsState F.form result buffer.new }
+    ensures tells { Tells F.form (fields_in packet.now) (reading (place_of position)) (state_in result buffer.new) L.Hears listener.old listener.new }
+    ensures falls { steps_left (length packet.now.payload.now) (state_in result buffer.new)
+        < steps_left (length packet.now.payload.now) (reading (place_of position)) }
 {
-    match joiner.next(packet) {
-        Some(event) => {
-            listener.hear(&event);
-            true
-        }
-        None => false,
+    let (event, state) = read_start::<F>(buffer, position, packet);
+    if let Some(event) = &event {
+        listener.hear(event);
     }
+    state
 }

@@ -1,12 +1,15 @@
 //! The units that start in a packet, read one place after another.
-ghost use Rattle.std.specs.Prelude.{◌≡◌, ◌≤◌, ◌<◌, length, if◌then◌else◌, option_map};
+ghost use Rattle.std.specs.Prelude.{◌≡◌, ◌≤◌, ◌<◌, ℕ, List, ◌∷◌, length, if◌then◌else◌, Option, option_map};
+ghost use Rattle.ts_spec.specs.Form.{UnitForm as Form};
+ghost use Rattle.ts_spec.specs.Packet.{PacketFields};
 ghost use Rattle.ts_spec.specs.Events.{unit_event, bad_check_event};
 ghost use Rattle.ts_packet.specs.Fields.{fields_in};
-ghost use Rattle.unit_stream.specs.States.{TellsLook, HasRoom, FitsState, event_in, place_of, state_in};
-ghost use Rattle.unit_stream.specs.Steps.{Reads};
+ghost use Rattle.unit_stream.specs.Joining.{Place, left_events, rest_events};
+ghost use Rattle.unit_stream.specs.States.{TellsLook, HasRoom, FitsEnded, FitsState, ended_state, event_in, place_of, rest_of, state_in};
+ghost use Rattle.unit_stream.specs.Steps.{Reads, state_after};
 
 use crate::form::{Span, UnitForm};
-use crate::joining::{Position, State, UnderWay};
+use crate::joining::{Ended, Position, State, UnderWay};
 use ts_packet::Packet;
 
 /// What became of a unit.
@@ -63,13 +66,37 @@ fn look_at<F: UnitForm>(bytes: &[u8]) -> Look
 }
 
 /// The event of a unit whose last byte came.
-pub(crate) fn checked<'u, F: UnitForm>(moment: u64, bytes: &'u [u8]) -> JoinEvent<'u>
+fn checked<'u, F: UnitForm>(moment: u64, bytes: &'u [u8]) -> JoinEvent<'u>
     ensures { event_in result ≡ (if F.form.check bytes.now then unit_event moment bytes.now else bad_check_event) }
 {
     if F::check(bytes) {
         JoinEvent::Unit { moment, bytes }
     } else {
         JoinEvent::BadCheck
+    }
+}
+
+/// The event of a unit under way that ended.
+pub(crate) fn end_event<'u, F: UnitForm>(buffer: &'u [u8], ended: Ended) -> JoinEvent<'u>
+    requires { FitsEnded ended (length buffer.now) }
+    ensures { (packet : PacketFields) (rest : Option Place)
+        → left_events F.form packet (ended_state ended rest buffer.now) ≡ event_in result ∷ rest_events F.form packet rest }
+{
+    match ended {
+        Ended::Unit(unit) => checked::<F>(unit.moment, &buffer[..unit.size]),
+        Ended::Delimit => JoinEvent::Delimit,
+        Ended::BadLength => JoinEvent::BadLength,
+    }
+}
+
+/// What is left of a packet after that event.
+pub(crate) fn after_end(rest: Option<Position>) -> State
+    ensures fits { (form : Form) (buffer : List ℕ) → FitsState form result buffer }
+    ensures state { (buffer : List ℕ) → state_in result buffer ≡ state_after (rest_of rest) }
+{
+    match rest {
+        None => State::Drained(None),
+        Some(position) => State::Reading(position),
     }
 }
 

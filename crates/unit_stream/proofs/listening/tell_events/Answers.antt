@@ -1,38 +1,29 @@
-use Rattle.std.proofs.Common.{◌∷◌, [], ◌++◌, refl, subst}
-use Rattle.ts_spec.specs.Events.{Event}
+use Rattle.std.proofs.Common.{sym, subst}
 use Rattle.ts_packet.specs.Fields.{fields_in}
-use Rattle.unit_stream.specs.Telling.{HasHeard}
-use Rattle.unit_stream.proofs.Heard.{heard_then, telling_begins, telling_more, telling_ends}
+use Rattle.unit_stream.specs.States.{state_in}
+use Rattle.unit_stream.specs.Telling.{Tells}
+use Rattle.unit_stream.specs.declared.joining.State.{State}
+use Rattle.unit_stream.proofs.Heard.{tells_then, tells_all}
+use Rattle.unit_stream.proofs.Views.{drained_unless_reading}
 use Rattle.unit_stream.proofs.listening.tell_events.Goals as goal
 
-pub loop-init : goal.loop-init
-loop-init g c = record {
-  telling = λ packets before giving.
-      telling_begins g.L.Listener.Hears g.F.UnitForm.form (fields_in c.args.packet.now) packets before c.args.joiner.now c.args.listener.now giving;
-  heard = ([], refl);
+pub loop-state-preserved : goal.loop-state-preserved
+loop-state-preserved g c = record {
+  room = c.tell_start-state.ensures.room;
+  fits = c.tell_start-state.ensures.fits;
+  tells =
+      tells_then g.L.Listener.Hears g.F.UnitForm.form (fields_in c.args.packet.now)
+      (state_in c.args.state c.args.buffer.now) (state_in c.loop-state.state c.loop-state.buffer) (state_in c.tell_start-state.result c.tell_start-state.new.buffer)
+      c.args.listener.now c.loop-state.listener c.tell_start-state.new.listener c.loop-state.invariant.tells
+      (subst (λ (s : State). Tells g.F.UnitForm.form (fields_in c.args.packet.now) (state_in s c.loop-state.buffer) (state_in c.tell_start-state.result c.tell_start-state.new.buffer) g.L.Listener.Hears c.loop-state.listener c.tell_start-state.new.listener)
+      (sym c.in-Reading.is) c.tell_start-state.ensures.tells);
 }
 
-pub loop-preserved : goal.loop-preserved
-loop-preserved g c = record {
-  telling = λ packets before giving.
-      let telling = c.loop.invariant.telling packets before giving in
-      telling_more g.L.Listener.Hears g.F.UnitForm.form (fields_in c.args.packet.now) packets before c.loop.joiner c.tell_next.new.joiner c.args.listener.now c.loop.listener c.tell_next.new.listener
-      telling (c.tell_next.ensures.one packets (before ++ telling.events) telling.gives c.loop-test.true);
-  heard =
-      let before = c.loop.invariant.heard in
-      let more = c.tell_next.ensures.hears c.loop-test.true in (
-        before.0 ++ more.0 ∷ [],
-        heard_then g.L.Listener.Hears c.args.listener.now c.loop.listener c.tell_next.new.listener before.0 (more.0 ∷ []) before.1 (c.tell_next.new.listener, (more.1, refl)),
-      );
-}
+pub returns-clause-told : goal.returns-clause-told
+returns-clause-told g c = λ packets before giving.
+    tells_all g.L.Listener.Hears g.F.UnitForm.form (fields_in c.args.packet.now)
+    (state_in c.args.state c.args.buffer.now) (state_in c.loop-state.state c.loop-state.buffer) c.args.listener.now c.loop-state.listener packets before c.loop-state.invariant.tells
+    (drained_unless_reading c.loop-state.state c.loop-state.buffer (λ position is. c.in_default.not-Reading position is) c.loop-state.invariant.tells.past) giving
 
-pub returns : goal.returns
-returns g c = record {
-  told = λ packets before giving.
-      let telling = c.loop.invariant.telling packets before giving in
-      telling_ends g.L.Listener.Hears g.F.UnitForm.form (fields_in c.args.packet.now) packets before c.loop.joiner c.tell_next.new.joiner c.args.listener.now c.loop.listener c.tell_next.new.listener
-      telling (c.tell_next.ensures.none packets (before ++ telling.events) telling.gives c.loop-test.false);
-  heard =
-      let before = c.loop.invariant.heard in
-      (before.0 ++ [], heard_then g.L.Listener.Hears c.args.listener.now c.loop.listener c.tell_next.new.listener before.0 [] before.1 (c.tell_next.ensures.silent c.loop-test.false));
-}
+pub returns-clause-heard : goal.returns-clause-heard
+returns-clause-heard g c = (c.loop-state.invariant.tells.events, c.loop-state.invariant.tells.heard)

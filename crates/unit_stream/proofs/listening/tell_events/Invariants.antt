@@ -1,17 +1,16 @@
-use Rattle.std.proofs.Common.{List, length}
-use Rattle.ts_spec.specs.Received.{Arrival}
-use Rattle.ts_spec.specs.Events.{Event}
+use Rattle.std.proofs.Common.{◌≡◌, length}
 use Rattle.ts_packet.specs.Fields.{fields_in}
-use Rattle.unit_stream.specs.Joining.{IsGiving, steps_left}
-use Rattle.unit_stream.specs.Telling.{HasHeard, IsTelling}
+use Rattle.unit_stream.specs.Joining.{steps_left}
+use Rattle.unit_stream.specs.States.{FitsState, state_in}
+use Rattle.unit_stream.specs.Telling.{Tells}
 use Rattle.unit_stream.proofs.listening.tell_events.Given as goal
 
-abbrev pub invariant-loop : goal.invariant-loop
-invariant-loop g l = record {
-  telling : (packets : List Arrival) (before : List Event) → IsGiving g.F.UnitForm.form l.initial.joiner (fields_in l.packet) packets before
-      → IsTelling g.F.UnitForm.form l.joiner (fields_in l.packet) packets before g.L.Listener.Hears l.initial.listener l.listener;
-  heard : (events : List Event) × HasHeard g.L.Listener.Hears l.initial.listener events l.listener;
+abbrev pub invariant-loop-state : goal.invariant-loop-state
+invariant-loop-state g l = record {
+  room : length l.buffer ≡ g.F.UnitForm.LONGEST;
+  fits : FitsState g.F.UnitForm.form l.state l.buffer;
+  tells : Tells g.F.UnitForm.form (fields_in l.packet) (state_in l.fn.state l.fn.buffer) (state_in l.state l.buffer) g.L.Listener.Hears l.fn.listener l.listener;
 }
 
-abbrev pub decreases-loop : goal.decreases-loop
-decreases-loop g l = steps_left (length l.packet.payload.now) l.joiner
+abbrev pub decreases-loop-state : goal.decreases-loop-state
+decreases-loop-state g l = steps_left (length l.packet.payload.now) (state_in l.state l.buffer)
