@@ -11,7 +11,7 @@ use Rattle.carriage_spec.specs.Carried.{packets_sent, IsCarried, NoUndetectedErr
 use Rattle.plan_spec.specs.Plan.{KindFields, ServiceFields, PlanFields, pid_of}
 use Rattle.stream_spec.specs.Services.{kind_at, form_of_kind, carried_by_unit, Carries}
 use Rattle.reception_spec.specs.Units.{delivered_by_unit}
-use Rattle.reception_spec.specs.Packets.{all_pids}
+use Rattle.reception_spec.specs.Packets.{heard_pids}
 use Rattle.reception_spec.specs.Delivered.{delivered_datagrams}
 use Rattle.carriage_law.proofs.Member.{member_contains, contains_member}
 use Rattle.carriage_law.proofs.Late.{unchanged}
@@ -68,10 +68,10 @@ module _ (plan : PlanFields) (sent : List Record) (datagrams : ℕ → List (Lis
   -- what was sent is a recording of itself
   pub recorded_as_sent : IsRecorded plan sent datagrams carries sent
   recorded_as_sent = record {
-    channel = unchanged (all_pids plan) sent;
+    channel = unchanged (heard_pids plan) sent;
     detected = λ k pid known on.
         kind_no_error sent (kind_at plan k) pid (carries.each k pid known on).units (carries.each k pid known on).begin
-        (carries.each k pid known on).packetized (all_pids plan) (service_read plan k pid known on);
+        (carries.each k pid known on).packetized (heard_pids plan) (service_read plan k pid known on);
   }
 
   -- each service delivers all that it wants

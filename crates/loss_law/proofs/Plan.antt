@@ -10,7 +10,7 @@ use Rattle.carriage_spec.specs.Spans.{IsSpanOf}
 use Rattle.carriage_spec.specs.Carried.{packets_sent, NoUndetectedError}
 use Rattle.plan_spec.specs.Plan.{KindFields, mpe, ServiceFields, IntFields, PlanFields, kinds, pid_of, table_pids, service_pids}
 use Rattle.stream_spec.specs.Services.{kind_at, form_of_kind, carried_by_unit, CarriesOn, Carries}
-use Rattle.reception_spec.specs.Packets.{all_pids}
+use Rattle.reception_spec.specs.Packets.{heard_pids}
 use Rattle.reception_spec.specs.Delivered.{delivered_datagrams}
 use Rattle.carriage_law.proofs.Member.{Member, member_behind, member_at, contains_member}
 use Rattle.carriage_law.proofs.Spans.{whole_is_span}
@@ -38,14 +38,14 @@ member_made {X} {Y} f (z ∷ xs) x y (inr there) is = by_first (f z) (member_mad
     by_first (Some a) later = inr later
 
 -- that of a service is one of them
-pub service_read : (plan : PlanFields) (k pid : ℕ) → k < length plan.services → pid_of (kind_at plan k) ≡ Some pid → Contains (all_pids plan) pid
+pub service_read : (plan : PlanFields) (k pid : ℕ) → k < length plan.services → pid_of (kind_at plan k) ≡ Some pid → Contains (heard_pids plan) pid
 service_read plan k pid known on =
-    contains_member (all_pids plan) pid
+    contains_member (heard_pids plan) pid
     (member_behind (table_pids plan.table) (service_pids plan) pid
     (member_made pid_of (kinds plan) (kind_at plan k) pid (member_at (kinds plan) k (mpe 0) (omega (arith, known, length-map plan.services (λ (s : ServiceFields). s.kind)))) on))
 
 -- so is that of the INT
-pub table_read : (plan : PlanFields) (int : IntFields) → plan.table ≡ Some int → Contains (all_pids plan) int.pid
+pub table_read : (plan : PlanFields) (int : IntFields) → plan.table ≡ Some int → Contains (heard_pids plan) int.pid
 table_read plan int is =
     subst (λ (table : Option IntFields). Contains (table_pids table ++ service_pids plan) int.pid) (sym is)
     (contains_member (int.pid ∷ service_pids plan) int.pid (inl refl))
@@ -72,6 +72,6 @@ pub each_delivers : (plan : PlanFields) (sent : List Record) (datagrams : ℕ �
     → DeliversEach plan sent datagrams carries recorded is_recorded (λ k. delivered_datagrams (service_at plan k) recorded)
 each_delivers plan sent datagrams carries recorded is_recorded = record {
   each = λ k pid known on.
-      kind_delivers (all_pids plan) sent recorded is_recorded.channel recorded (whole_is_span recorded) (service_at plan k) (kind_at plan k) (kind_of_service plan k known) pid
+      kind_delivers (heard_pids plan) sent recorded is_recorded.channel recorded (whole_is_span recorded) (service_at plan k) (kind_at plan k) (kind_of_service plan k known) pid
       (service_read plan k pid known on) on (datagrams k) (carries.each k pid known on) (is_recorded.detected k pid known on);
 }

@@ -7,7 +7,7 @@ use Rattle.carriage_spec.specs.Channel.{Channel}
 use Rattle.carriage_spec.specs.Carried.{NoUndetectedError, IncludesIntact}
 use Rattle.plan_spec.specs.Plan.{mpe, ServiceFields, PlanFields, pid_of}
 use Rattle.stream_spec.specs.Services.{kind_at, form_of_kind, Carries}
-use Rattle.reception_spec.specs.Packets.{all_pids}
+use Rattle.reception_spec.specs.Packets.{heard_pids}
 use Rattle.reception_spec.specs.Units.{delivered_by_unit}
 
 -- One service.
@@ -39,7 +39,7 @@ service_at plan k = slice_index_or plan.services k no_service
 -- unit of a service passes its check
 pub record IsRecorded (plan : PlanFields) (sent : List Record) (datagrams : ℕ → List (List ℕ)) (carries : Carries plan sent datagrams)
     (recorded : List Record) : Type 0 where
-  pub channel : Channel (all_pids plan) sent recorded
+  pub channel : Channel (heard_pids plan) sent recorded
   pub detected : (k pid : ℕ) (known : k < length plan.services) (on : pid_of (kind_at plan k) ≡ Some pid)
       → NoUndetectedError channel recorded (form_of_kind (kind_at plan k)) pid (carries.each k pid known on).units (carries.each k pid known on).begin
 

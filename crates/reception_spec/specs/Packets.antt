@@ -11,11 +11,11 @@ abbrev pub is_without_payload : List ℕ → Bool
 is_without_payload bytes = not (lacks_sync bytes || (is_marked bytes || has_bad_adaptation bytes)) && lacks_payload bytes
 
 -- the PIDs of a plan: those of its services and of its INT, which a receiver reads
-abbrev pub all_pids : PlanFields → List ℕ
-all_pids plan = table_pids plan.table ++ service_pids plan
+abbrev pub heard_pids : PlanFields → List ℕ
+heard_pids plan = table_pids plan.table ++ service_pids plan
 
 abbrev pub is_pid_of : PlanFields → ℕ → Bool
-is_pid_of plan pid = list_any (λ other. other == pid) (all_pids plan)
+is_pid_of plan pid = list_any (λ other. other == pid) (heard_pids plan)
 
 -- the record has a moment and is a packet of this PID
 abbrev pub is_on : ℕ → Record → Bool
