@@ -2,8 +2,8 @@
 ghost use Rattle.std.specs.Prelude.{◌≡◌};
 
 use crate::form::UnitForm;
-use crate::joining::{State, UnderWay, run_on, take_packet};
-use crate::listening::{Listener, tell_events};
+use crate::joining::{State, UnderWay, feed_packet, run_on};
+use crate::listening::{Listener, tell_packet};
 use crate::reading::{JoinEvent, after_end, end_event, read_start};
 use std::alloc::Allocator;
 use std::marker::{Model, PhantomData};
@@ -67,16 +67,7 @@ impl<F: UnitForm, A: Allocator> Joiner<F, A> {
             → IsGiving F.form self.new (fields_in packet.now) (packets_with link packets next) (events_of F.form packets) }
         ensures duplicate { link ≡ Link.Repeat → self.new ≡ self.old }
     {
-        let is_continuous = match link {
-            Link::Repeat => return,
-            Link::Next => true,
-            Link::First | Link::Gap => false,
-        };
-        let under_way = match self.state {
-            State::Drained(under_way) => under_way,
-            _ => None,
-        };
-        self.state = take_packet::<F>(&mut self.buffer, under_way, is_continuous, packet, moment);
+        self.state = feed_packet::<F>(&mut self.buffer, self.state, link, packet, moment);
     }
 
     /// Takes the next packet of the PID as `feed` does, and tells the listener each of its events, in order.
@@ -95,8 +86,14 @@ impl<F: UnitForm, A: Allocator> Joiner<F, A> {
         if self.run_on(link, packet) {
             return;
         }
-        self.feed(link, packet, moment);
-        self.state = tell_events::<F, L>(&mut self.buffer, self.state, packet, listener);
+        self.state = tell_packet::<F, L>(
+            &mut self.buffer,
+            self.state,
+            link,
+            packet,
+            moment,
+            listener,
+        );
     }
 
     /// Goes on with the unit under way by a continuous packet in its middle, which gives no event. False: the packet is none

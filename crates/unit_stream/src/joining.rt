@@ -1,15 +1,17 @@
 //! What a joiner holds, and the steps of reassembly over its buffer.
 ghost use Rattle.std.specs.Prelude.{◌≡◌, ℕ, ◌+◌, ◌≤◌, ◌++◌, List, [], ◌∷◌, length, take, min, true, false, Option};
 ghost use Rattle.ts_spec.specs.Packet.{PacketFields, pointer_fits};
+ghost use Rattle.ts_spec.specs.Received.{Arrival, packet_of};
+ghost use Rattle.ts_spec.specs.Events.{events_of};
 ghost use Rattle.ts_packet.specs.Fields.{fields_in};
 ghost use Rattle.reassembly_law.specs.UnderWay.{IsUnderWay};
 ghost use Rattle.unit_stream.specs.Form.{span_told};
-ghost use Rattle.unit_stream.specs.Joining.{Place, drained};
+ghost use Rattle.unit_stream.specs.Joining.{Place, Stands, IsGiving, IsLinked, drained, packets_with};
 ghost use Rattle.unit_stream.specs.States.{TellsFront, IsFirstStart, HoldsUnit, FitsUnderWay, FitsEnded, FitsState, ended_state, state_in, open_in, opens_in};
 ghost use Rattle.unit_stream.specs.Steps.{GoesOn, Closes, IsFed, AreProper, pointed};
 
 use crate::form::{Span, UnitForm};
-use ts_packet::Packet;
+use ts_packet::{Link, Packet};
 
 /// A unit under way, at the front of the buffer.
 #[derive(Clone, Copy)]
@@ -291,4 +293,32 @@ pub(crate) fn take_packet<F: UnitForm>(
             )
         }
     }
+}
+
+/// Takes the next packet after what the packets before left, where `link` is how it follows them. A duplicate changes nothing.
+pub(crate) fn feed_packet<F: UnitForm>(
+    buffer: &mut [u8],
+    state: State,
+    link: Link,
+    packet: &Packet<'_>,
+    moment: u64,
+) -> State
+    requires fits { FitsState F.form state buffer.old }
+    requires room { length buffer.old ≡ F.LONGEST }
+    ensures fits { FitsState F.form result buffer.new }
+    ensures fed { (packets : List Arrival) (next : Arrival) → Stands F.form (state_in state buffer.old) packets
+        → IsLinked link packets next → packet_of next ≡ fields_in packet.now → next.moment ≡ moment
+        → IsGiving F.form (state_in result buffer.new) (fields_in packet.now) (packets_with link packets next) (events_of F.form packets) }
+    ensures duplicate { link ≡ Link.Repeat → (result ≡ state) × (buffer.new ≡ buffer.old) }
+{
+    let is_continuous = match link {
+        Link::Repeat => return state,
+        Link::Next => true,
+        Link::First | Link::Gap => false,
+    };
+    let under_way = match state {
+        State::Drained(under_way) => under_way,
+        _ => None,
+    };
+    take_packet::<F>(buffer, under_way, is_continuous, packet, moment)
 }

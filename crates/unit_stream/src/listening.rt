@@ -1,17 +1,17 @@
 //! The events of the packet fed last -> a listener.
 ghost use Rattle.std.specs.Prelude.{◌≡◌, ◌<◌, List, length};
 ghost use Rattle.ts_spec.specs.Packet.{PacketFields};
-ghost use Rattle.ts_spec.specs.Received.{Arrival};
-ghost use Rattle.ts_spec.specs.Events.{Event};
+ghost use Rattle.ts_spec.specs.Received.{Arrival, packet_of};
+ghost use Rattle.ts_spec.specs.Events.{Event, events_of};
 ghost use Rattle.ts_packet.specs.Fields.{fields_in};
-ghost use Rattle.unit_stream.specs.Joining.{IsGiving, reading, steps_left};
+ghost use Rattle.unit_stream.specs.Joining.{Stands, IsGiving, IsLinked, packets_with, reading, steps_left};
 ghost use Rattle.unit_stream.specs.States.{FitsState, event_in, place_of, state_in};
 ghost use Rattle.unit_stream.specs.Telling.{HasHeard, HasTold, Tells};
 
 use crate::form::UnitForm;
-use crate::joining::{Position, State};
+use crate::joining::{Position, State, feed_packet};
 use crate::reading::{JoinEvent, after_end, end_event, read_start};
-use ts_packet::Packet;
+use ts_packet::{Link, Packet};
 
 /// Where the events of packets go.
 pub trait Listener {
@@ -23,8 +23,29 @@ pub trait Listener {
         ensures heard { Hears self.old (event_in event.now) self.new };
 }
 
+/// Takes the next packet as `feed_packet` does, tells its events, and answers what it leaves.
+pub(crate) fn tell_packet<F: UnitForm, L: Listener>(
+    buffer: &mut [u8],
+    state: State,
+    link: Link,
+    packet: &Packet<'_>,
+    moment: u64,
+    listener: &mut L,
+) -> State
+    requires room { length buffer.old ≡ F.LONGEST }
+    requires fits { FitsState F.form state buffer.old }
+    ensures fits { FitsState F.form result buffer.new }
+    ensures told { (packets : List Arrival) (next : Arrival) → Stands F.form (state_in state buffer.old) packets
+        → IsLinked link packets next → packet_of next ≡ fields_in packet.now → next.moment ≡ moment
+        → HasTold F.form (state_in result buffer.new) (packets_with link packets next) (events_of F.form packets) L.Hears listener.old listener.new }
+    ensures heard { (events : List Event) × HasHeard L.Hears listener.old events listener.new }
+{
+    let state = feed_packet::<F>(buffer, state, link, packet, moment);
+    tell_events::<F, L>(buffer, state, packet, listener)
+}
+
 /// Tells the events of the packet fed last that are not given yet, and answers what it leaves.
-pub(crate) fn tell_events<F: UnitForm, L: Listener>(
+fn tell_events<F: UnitForm, L: Listener>(
     buffer: &mut [u8],
     state: State,
     packet: &Packet<'_>,

@@ -1,9 +1,9 @@
-use Rattle.std.proofs.Common.{◌≡◌, [], ◌++◌, length, take, drop, sym, ap, ◌∙◌, refl, subst, true, arith}
+use Rattle.std.proofs.Common.{◌≡◌, [], ◌++◌, length, take, drop, sym, ap, ◌∙◌, refl, true, arith}
 use Rattle.std.proofs.lemmas.List.{take_at}
 use Rattle.ts_spec.specs.Events.{events_of}
 use Rattle.ts_packet.specs.Fields.{fields_in}
 use Rattle.reassembly_law.specs.UnderWay.{open_units}
-use Rattle.unit_stream.specs.Joining.{JoinerState, IsGiving, packets_with}
+use Rattle.unit_stream.specs.Joining.{packets_with}
 use Rattle.unit_stream.specs.States.{state_in}
 use Rattle.unit_stream.proofs.Fed.{feeds, is_next}
 use Rattle.unit_stream.proofs.Heard.{drained_told}
@@ -25,13 +25,11 @@ returns-then-run_on g c = record {
 
 pub returns-clause-told : goal.returns-clause-told
 returns-clause-told g c = λ packets next stands linked fields time.
-    let same : take c.self.inside.buffer.len (c.tell_events-self-inside.new.buffer ++ drop (length c.tell_events-self-inside.new.buffer) c.self.inside.buffer.items) ≡ c.tell_events-self-inside.new.buffer =
-    take_at c.tell_events-self-inside.new.buffer (drop (length c.tell_events-self-inside.new.buffer) c.self.inside.buffer.items) c.self.inside.buffer.len (omega arith) in
+    let same : take c.self.inside.buffer.len (c.tell_packet-self-inside.new.buffer ++ drop (length c.tell_packet-self-inside.new.buffer) c.self.inside.buffer.items) ≡ c.tell_packet-self-inside.new.buffer =
+    take_at c.tell_packet-self-inside.new.buffer (drop (length c.tell_packet-self-inside.new.buffer) c.self.inside.buffer.items) c.self.inside.buffer.len (omega arith) in
     rw same (
-    c.tell_events-self-inside.ensures.told (packets_with c.args.link packets next) (events_of g.F.UnitForm.form packets)
-    (subst (λ (s : JoinerState). IsGiving g.F.UnitForm.form s (fields_in c.args.packet.now) (packets_with c.args.link packets next) (events_of g.F.UnitForm.form packets))
-    (sym (ap (state_in c.self.inside.state) c.deref_mut.ensures.value ∙ c.self.view_is))
-    (c.feed.ensures.fed packets next (c.run_on.ensures.unchanged c.if-run_on.false ∙ stands) linked fields time)))
+    c.tell_packet-self-inside.ensures.told packets next
+    (ap (state_in c.self.inside.state) c.deref_mut.ensures.value ∙ c.self.view_is ∙ c.run_on.ensures.unchanged c.if-run_on.false ∙ stands) linked fields time)
 
 pub returns-clause-heard : goal.returns-clause-heard
-returns-clause-heard g c = c.tell_events-self-inside.ensures.heard
+returns-clause-heard g c = c.tell_packet-self-inside.ensures.heard
