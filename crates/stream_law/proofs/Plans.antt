@@ -92,6 +92,7 @@ pub record Ranges (plan : PlanFields) : Type 0 where
   pub cycle : is_between 100 1000000 plan.cycle ≡ true
   pub int : is_valid_int plan.table ≡ true
   pub count : is_between 1 (most_services (is_baseband plan)) (length plan.services) ≡ true
+  pub version : leb plan.version 31 ≡ true
   pub services : list_all (is_valid_service least) plan.services ≡ true
 
 -- a plan is in range, from a least PID on, and consistent
@@ -125,17 +126,18 @@ module _ (plan : PlanFields) (accepted : is_plan plan ≡ true) where
       let parts : (has_valid_top plan ≡ true) × (list_all (is_valid_service least) plan.services ≡ true)
       = both (has_valid_top plan) (list_all (is_valid_service least) plan.services) in_range in
       let top : (is_between 1 1000000 plan.packet_rate ≡ true) × (is_between 100 1000000 plan.cycle ≡ true) × (is_valid_int plan.table ≡ true)
-      × (is_between 1 (most_services (is_baseband plan)) (length plan.services) ≡ true)
+      × (is_between 1 (most_services (is_baseband plan)) (length plan.services) ≡ true) × (leb plan.version 31 ≡ true)
       = by_parts (is_between 1 1000000 plan.packet_rate) (is_between 100 1000000 plan.cycle) (is_valid_frame_size plan.frame_bytes) (is_valid_int plan.table)
-      (is_between 1 (most_services (is_baseband plan)) (length plan.services)) parts.0 in
-      record { least = least; rate = top.0; cycle = top.1; int = top.2; count = top.3; services = parts.1 }
+      (is_between 1 (most_services (is_baseband plan)) (length plan.services)) (leb plan.version 31) parts.0 in
+      record { least = least; rate = top.0; cycle = top.1; int = top.2; count = top.3; version = top.4; services = parts.1 }
     where
-      by_parts : (a b c d e : Bool) → (a && (b && (c && (d && e)))) ≡ true → (a ≡ true) × (b ≡ true) × (d ≡ true) × (e ≡ true)
-      by_parts a b c d e all =
-          let of_b : (b && (c && (d && e))) ≡ true = (both a (b && (c && (d && e))) all).1 in
-          let of_c : (c && (d && e)) ≡ true = (both b (c && (d && e)) of_b).1 in
-          let of_d : (d && e) ≡ true = (both c (d && e) of_c).1 in
-          ((both a (b && (c && (d && e))) all).0, (both b (c && (d && e)) of_b).0, (both d e of_d).0, (both d e of_d).1)
+      by_parts : (a b c d e f : Bool) → (a && (b && (c && (d && (e && f))))) ≡ true → (a ≡ true) × (b ≡ true) × (d ≡ true) × (e ≡ true) × (f ≡ true)
+      by_parts a b c d e f all =
+          let of_b : (b && (c && (d && (e && f)))) ≡ true = (both a (b && (c && (d && (e && f)))) all).1 in
+          let of_c : (c && (d && (e && f))) ≡ true = (both b (c && (d && (e && f))) of_b).1 in
+          let of_d : (d && (e && f)) ≡ true = (both c (d && (e && f)) of_c).1 in
+          let of_e : (e && f) ≡ true = (both d (e && f) of_d).1 in
+          ((both a (b && (c && (d && (e && f)))) all).0, (both b (c && (d && (e && f))) of_b).0, (both d (e && f) of_d).0, (both e f of_e).0, (both e f of_e).1)
 
   pub checks : (has_same_pid plan ≡ false) × (has_wrong_window (table_packets plan) plan ≡ false) × (has_too_many_rules (rule_lists plan) ≡ false)
   unfolding is_consistent

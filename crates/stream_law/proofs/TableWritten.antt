@@ -116,7 +116,7 @@ module _ (plan : PlanFields) where
       let numbers : (int.platform_id ≤ 16777215) × (int.network_id ≤ 65535) × (int.original_network_id ≤ 65535) × (int.transport_stream_id ≤ 65535)
       = numbers_of int (ap is_valid_int (sym is) ∙ (ranges plan accepted).int) in
       record {
-        version = omega arith;
+        version = grind (arith, (ranges plan accepted).version);
         platform_id = omega (arith, numbers.0);
         network_id = omega (arith, numbers.1);
         original_network_id = omega (arith, numbers.2);
