@@ -24,6 +24,8 @@ small_plan = record {
   frame_bytes = None;
   table = None;
   services = small_service 0x100 ∷ [];
+  version = 0;
+  changes = [];
 }
 
 -- a null packet, one with an adaptation field alone, and one whose first byte is wrong
