@@ -1,5 +1,5 @@
 -- What the check of changes asks is not their rules: the plan of a table fails it exactly where that plan without rules does.
-use Rattle.std.proofs.Common.{◌≡◌, ℕ, zero, suc, ◌+◌, Bool, true, false, not, cond, ◌&&◌, ◌||◌, List, [], ◌∷◌, ◌++◌, length, map, fold, take, set, get_or, Option, Some, None, codes, bytes_eq, refl, ap, ap₂, sym, ◌∙◌}
+use Rattle.std.proofs.Common.{◌≡◌, ℕ, zero, suc, ◌+◌, Bool, not, cond, ◌&&◌, ◌||◌, List, [], ◌∷◌, ◌++◌, length, map, fold, take, set, get_or, Option, None, codes, bytes_eq, refl, ap, ap₂, sym, ◌∙◌}
 use Rattle.std.specs.Prelude.{flat_map, nat_le, ◌==◌}
 use Rattle.std.specs.List.{list_any, range_with_len, take-map, AllZip}
 use Rattle.std.proofs.lemmas.List.{length-map, map-set}
@@ -7,7 +7,7 @@ use Rattle.toml.specs.Data.{Members}
 use Rattle.addr_rules.specs.declared.rules.Rule.{Rule}
 use Rattle.plan_spec.specs.Plan.{ServiceFields, MovedFields, ChangeFields, PlanFields, pid_of, table_pids, services_with, with_rules}
 use Rattle.plan_spec.specs.Checks.{has_pair}
-use Rattle.plan_spec.specs.Changes.{moved_to, no_service, with_moved, with_change, services_in, versions, pid_in, pids_in, with_pid_behind, all_pids, rises_from, moves_wrongly, has_wrong_change}
+use Rattle.plan_spec.specs.Changes.{moved_to, no_service, with_moved, with_change, services_in, pid_in, pids_in, with_pid_behind, all_pids, rises_from, moves_wrongly, has_wrong_change}
 use Rattle.settings_spec.specs.Keys.{tables_at}
 use Rattle.settings_spec.specs.Changes.{MovedValues, ChangeValues, moved_without_rules, without_rules, place_of_name, moved_from, moved_by, change_by, changes_by, with_changes}
 use Rattle.settings_spec.specs.Settings.{service_of, services_of, changes_at, plan_of}

@@ -1,24 +1,24 @@
 -- Services after the changes of accepted settings have values in their ranges, and rules that can be written.
-use Rattle.std.proofs.Common.{◌≡◌, ◌⊎◌, inl, inr, ℕ, zero, suc, ◌+◌, ◌<◌, ◌≤◌, Bool, true, false, cond, ◌&&◌, ◌||◌, List, [], ◌∷◌, length, map, fold, take, set, get_or, Option, Some, None, is_some, option_map, codes, refl, ap, sym, ◌∙◌, subst, arith, eqb}
+use Rattle.std.proofs.Common.{◌≡◌, ◌⊎◌, inl, inr, ℕ, zero, suc, ◌+◌, ◌<◌, ◌≤◌, Bool, true, false, List, [], ◌∷◌, length, map, fold, take, set, get_or, Option, Some, None, codes, refl, ap, sym, ◌∙◌, arith}
 use Rattle.std.specs.Prelude.{All}
 use Rattle.std.specs.List.{list_all, AllZip}
 use Rattle.std.specs.Option.{unwrap_or, option_and_then}
-use Rattle.std.proofs.lemmas.Bool.{and_parts, leb-true}
-use Rattle.std.proofs.lemmas.List.{length-map, length-set}
+use Rattle.std.proofs.lemmas.Bool.{and_parts}
+use Rattle.std.proofs.lemmas.List.{length-map}
 use Rattle.std.proofs.lemmas.Slice.Zip.{AllZip-long}
-use Rattle.toml.specs.Data.{Data, Members, get_member, as_table}
+use Rattle.toml.specs.Data.{Data, Members, get_member}
 use Rattle.addr_rules.specs.declared.rules.Rule.{Rule}
 use Rattle.int_spec.specs.Table.{IsRule}
-use Rattle.plan_spec.specs.Plan.{KindFields, ule, mpe, fec, gse, ServiceFields, MovedFields, ChangeFields, pid_of, services_with}
+use Rattle.plan_spec.specs.Plan.{KindFields, ule, mpe, fec, gse, ServiceFields, MovedFields, pid_of, services_with}
 use Rattle.plan_spec.specs.Checks.{is_between, is_service_name, is_gse}
 use Rattle.plan_spec.specs.Changes.{with_pid, moved_to, no_service, with_moved, with_change}
 use Rattle.plan_spec.specs.Valid.{is_valid_kind, is_valid_rule, has_valid_values, is_valid_service}
 use Rattle.plan_spec.specs.Wholes.{is_valid_change}
-use Rattle.plan_law.proofs.Kept.{gse_stays, by_moved, by_moves}
-use Rattle.settings_spec.specs.Keys.{wrong_type, out_of_range, range, has_type, in_range, as_natural, holds, KeyRule, optional, required, value_fault, key_fault, table_fault, texts_at, number_or, number_at, tables_at}
+use Rattle.plan_law.proofs.Kept.{gse_stays, by_moved}
+use Rattle.settings_spec.specs.Keys.{wrong_type, out_of_range, range, has_type, in_range, as_natural, holds, optional, required, value_fault, key_fault, table_fault, texts_at, number_at, tables_at}
 use Rattle.settings_spec.specs.Changes.{MovedValues, ChangeValues, moved_values, change_values, place_of_name, moved_by, change_by, changes_by}
 use Rattle.settings_spec.specs.Settings.{change_keys, moved_keys, moved_fault, change_fault, changes_fault, services_fault, services_of}
-use Rattle.settings_spec.specs.Refusal.{AreRules, AreRuleLists, AreNewRules, IsSpelledMoved, IsSpelledChange}
+use Rattle.settings_spec.specs.Refusal.{AreRuleLists, AreNewRules, IsSpelledMoved, IsSpelledChange}
 use Rattle.settings_law.proofs.Keys.{first_none, key_of_table, passed, number_between}
 use Rattle.settings_law.proofs.Services.{both_true, values_hold, rules_hold, rules_are}
 use Rattle.settings_law.proofs.Tops.{count_holds}
@@ -73,7 +73,7 @@ rules_at (service ∷ services) zero good = good.0.rules
 rules_at (service ∷ services) (suc k) good = rules_at services k good.1
 
 written_at : (services : List ServiceFields) (k : ℕ) → AreGood services → All IsRule (get_or services k no_service).rules
-written_at [] k good n d less = absurd (omega (arith, less))
+written_at [] k good = λ n d less. absurd (omega (arith, less))
 written_at (service ∷ services) zero good = good.0.written
 written_at (service ∷ services) (suc k) good = written_at services k good.1
 

@@ -1,5 +1,5 @@
 -- A service of accepted settings has values in their ranges, and an address of six bytes.
-use Rattle.std.proofs.Common.{◌≡◌, inl, inr, ℕ, zero, suc, ◌+◌, ◌≤◌, Bool, true, false, cond, ◌&&◌, leb, List, [], ◌∷◌, length, map, Option, Some, None, codes, bytes_eq, refl, arith, le-leb}
+use Rattle.std.proofs.Common.{◌≡◌, inl, inr, ℕ, zero, suc, ◌+◌, ◌≤◌, Bool, true, false, cond, ◌&&◌, leb, List, [], ◌∷◌, map, Option, Some, None, codes, bytes_eq, refl, arith, le-leb}
 use Rattle.std.specs.Prelude.{All}
 use Rattle.std.specs.List.{list_all}
 use Rattle.toml.specs.Data.{Members}
@@ -10,10 +10,10 @@ use Rattle.addr_rules.specs.declared.rules.Rule.{Rule}
 use Rattle.int_spec.specs.Table.{IsRule}
 use Rattle.plan_spec.specs.Plan.{WindowFields, KindFields, ule, mpe, fec, gse, ServiceFields, services_with}
 use Rattle.plan_spec.specs.Checks.{is_between, is_row_count, is_service_name}
-use Rattle.settings_spec.specs.Keys.{range, row_count, address_text, KeyRule, optional, required, key_fault, table_fault, texts_at, text_or, number_or, flag_or}
+use Rattle.settings_spec.specs.Keys.{range, row_count, address_text, KeyRule, optional, required, key_fault, table_fault, text_or, number_or, flag_or}
 use Rattle.settings_spec.specs.Settings.{name_key, kind_key, pid_key, mode_key, ule_keys, mpe_keys, indexed_keys, sliced_keys, gse_keys, kind_text, is_sliced_mode, fec_fault, kind_fault, service_fault, services_fault, window_of, kind_of, service_of, services_of}
-use Rattle.settings_spec.specs.Refusal.{AreRules, AreRuleLists}
-use Rattle.plan_spec.specs.Valid.{is_valid_window, is_valid_kind, is_valid_rule, has_valid_values, is_valid_service}
+use Rattle.settings_spec.specs.Refusal.{AreRules}
+use Rattle.plan_spec.specs.Valid.{is_valid_window, is_valid_kind, is_valid_rule, has_valid_values}
 use Rattle.stream_law.specs.Words.{IsMac}
 use Rattle.settings_law.proofs.Addresses.{rule_is}
 use Rattle.settings_law.proofs.Keys.{first_none, key_of_table, number_holds, number_between, name_holds, address_holds}
@@ -188,25 +188,6 @@ rules_are [] (rule ∷ rules) are k d less = absurd are
 rules_are (text ∷ texts) [] are k d less = absurd are
 rules_are (text ∷ texts) (rule ∷ rules) are zero d less = rule_is text rule are.0
 rules_are (text ∷ texts) (rule ∷ rules) are (suc k) d less = rules_are texts rules are.1 k d (omega (arith, less))
-
--- all services with their rules
-pub services_hold : (place : ℕ) (ms : List Members) (lists : List (List Rule)) → place + length ms ≤ 256 → services_fault ms ≡ None → AreRuleLists (map (texts_at (codes "rules")) ms) lists
-    → list_all (is_valid_service 32) (services_with (services_of place ms) lists) ≡ true
-services_hold place [] lists few none are = refl
-services_hold place (m ∷ ms) [] few none are = absurd are
-services_hold place (m ∷ ms) (rules ∷ lists) few none are =
-    let parts = first_none (service_fault m) (services_fault ms) none in
-    both_true (has_valid_values 32 (service_of place m) && list_all is_valid_rule rules) (list_all (is_valid_service 32) (services_with (services_of (place + 1) ms) lists))
-    (both_true (has_valid_values 32 (service_of place m)) (list_all is_valid_rule rules) (values_hold place m (omega (arith, few)) parts.0) (rules_hold (texts_at (codes "rules") m) rules are.0))
-    (services_hold (place + 1) ms lists (omega (arith, few)) parts.1 are.1)
-
--- their lists of rules
-pub lists_are : (texts : List (List (List ℕ))) (lists : List (List Rule)) → AreRuleLists texts lists → All (All IsRule) lists
-lists_are [] [] are k d less = absurd (omega (arith, less))
-lists_are [] (rules ∷ lists) are k d less = absurd are
-lists_are (text ∷ texts) [] are k d less = absurd are
-lists_are (text ∷ texts) (rules ∷ lists) are zero d less = rules_are text rules are.0
-lists_are (text ∷ texts) (rules ∷ lists) are (suc k) d less = lists_are texts lists are.1 k d (omega (arith, less))
 
 -- the address of all receivers
 broadcast_is : IsMac broadcast_mac

@@ -8,7 +8,7 @@ use Rattle.toml.specs.Data.{Data, Members, get_member, as_table}
 use Rattle.addr_rules.specs.declared.rules.Rule.{Rule}
 use Rattle.plan_spec.specs.Plan.{ServiceFields, ChangeFields, PlanFields, is_baseband, services_with, with_rules}
 use Rattle.plan_spec.specs.Checks.{is_between}
-use Rattle.settings_spec.specs.Keys.{wrong_type, out_of_range, range, tables, as_list, is_table, has_type, in_range, holds, optional, required, key_fault, value_fault, unknown_fault, keys_fault, table_fault, items_at, number_or, tables_at, table_at}
+use Rattle.settings_spec.specs.Keys.{wrong_type, out_of_range, range, one_table, tables, as_list, is_table, has_type, in_range, holds, optional, required, key_fault, value_fault, unknown_fault, keys_fault, items_at, number_or, tables_at, table_at}
 use Rattle.settings_spec.specs.Settings.{says_baseband, int_key, service_key, change_key, top_keys, top_names, top_fault, int_keys, int_fault, services_fault, changes_fault, tables_fault, int_of, services_of, plan_of}
 use Rattle.plan_spec.specs.Valid.{is_valid_int, is_valid_frame_size, most_services, has_valid_top}
 use Rattle.settings_law.proofs.Keys.{first_none, key_of_keys, key_of_table, passed, number_between}

@@ -1,15 +1,13 @@
 -- The checks over the whole plan of accepted settings.
 use Rattle.std.proofs.Common.{◌≡◌, ◌⊎◌, inl, inr, ℕ, suc, ◌+◌, ◌<◌, ◌≤◌, Bool, true, false, not, ◌||◌, List, [], ◌∷◌, ◌++◌, length, map, Option, Some, None, is_some, option_map, codes, eqb, le-leb, refl, ap, sym, ◌∙◌, subst, arith}
 use Rattle.std.specs.Prelude.{All}
-use Rattle.std.specs.List.{list_all, list_any, AllZip}
+use Rattle.std.specs.List.{list_all, list_any}
 use Rattle.std.specs.Prelude.{nat_le}
 use Rattle.std.proofs.lemmas.Bool.{eq-eqb}
 use Rattle.std.proofs.lemmas.Slice.Zip.{AllZip-long}
 use Rattle.toml.specs.Data.{Members}
 use Rattle.std.proofs.lemmas.List.{length-map}
-use Rattle.std.proofs.lemmas.List.Sums.{sum_by-cons}
 use Rattle.addr_rules.specs.declared.rules.Rule.{Rule}
-use Rattle.int_spec.specs.Table.{IsRule}
 use Rattle.plan_spec.specs.Plan.{KindFields, ServiceFields, ChangeFields, PlanFields, services_with, with_rules, rule_lists, table_pids, service_pids, isis}
 use Rattle.plan_spec.specs.Checks.{has_wrong_carrier, has_same_name, has_same_pid, has_no_rule, has_too_many_rules, has_wrong_count, needs_stamps, has_wrong_window, has_short_gap, has_long_cycle}
 use Rattle.settings_spec.specs.Keys.{wrong_change, wrong_rules, wrong_window, texts_at, tables_at, table_at}
@@ -180,7 +178,7 @@ module _ (top : Members) (lists : List (List Rule)) (changes : List (ChangeValue
     unfolding is_plan_of_settings is_in_range
     version_is_plan parts few =
         rw (
-          top_again plan (services_in plan version) version [] (top_holds top lists parts) (length-services_in plan version) (le-leb version 31 few),
+          top_again base (services_in plan version) version [] (top_holds top lists parts) (length-services_in plan version) (le-leb version 31 few),
           all_valid (services_in plan version) (version_good parts version),
           consistent,
           counts.0,
@@ -248,27 +246,27 @@ module _ (top : Members) (lists : List (List Rule)) (changes : List (ChangeValue
 -- Accepted settings.
 
 -- what changes a plan later is not asked of it by itself
-same_by_itself : (plan : PlanFields) (version : ℕ) (changes : List ChangeFields)
-    → is_plan_of_settings (record plan { version = version; changes = [] }) ≡ is_plan_of_settings (record plan { version = version; changes = changes })
+same_by_itself : (p : PlanFields) (version : ℕ) (changes : List ChangeFields)
+    → is_plan_of_settings (record p { version = version; changes = [] }) ≡ is_plan_of_settings (record p { version = version; changes = changes })
 unfolding has_valid_top is_in_range is_consistent is_plan_of_settings table_packets
-same_by_itself plan version changes = refl
+same_by_itself p version changes = refl
 
-pub accepted_is_whole : (bytes : List ℕ) (plan : PlanFields) → IsAccepted bytes plan → is_whole_of_settings plan ≡ true
-accepted_is_whole bytes plan accepted =
+pub accepted_is_whole : (bytes : List ℕ) (p : PlanFields) → IsAccepted bytes p → is_whole_of_settings p ≡ true
+accepted_is_whole bytes p accepted =
     ap is_whole_of_settings accepted.gives.values
     ∙ is_whole accepted.top accepted.gives.rules accepted.gives.changes accepted.gives.spelled (parts_hold accepted.top accepted.tables) accepted.whole
 
-pub accepted_is_plan : (bytes : List ℕ) (plan : PlanFields) → IsAccepted bytes plan → is_plan_of_settings plan ≡ true
-accepted_is_plan bytes plan accepted =
-    let whole : is_whole_of_settings plan ≡ true = accepted_is_whole bytes plan accepted in
-    ap (λ (v : ℕ). is_plan_of_settings (record plan { version = v })) (first_of_settings plan whole)
-    ∙ sym (same_by_itself plan 0 plan.changes)
-    ∙ versions_of_settings plan 0 whole (omega arith)
+pub accepted_is_plan : (bytes : List ℕ) (p : PlanFields) → IsAccepted bytes p → is_plan_of_settings p ≡ true
+accepted_is_plan bytes p accepted =
+    let whole : is_whole_of_settings p ≡ true = accepted_is_whole bytes p accepted in
+    ap (λ (v : ℕ). is_plan_of_settings (record p { version = v })) (first_of_settings p whole)
+    ∙ sym (same_by_itself p 0 p.changes)
+    ∙ versions_of_settings p 0 whole (omega arith)
 
-pub accepted_versions_of_bytes : (bytes : List ℕ) (plan : PlanFields) → IsAccepted bytes plan → (version : ℕ) → IsOfBytes (plan_in plan version)
-accepted_versions_of_bytes bytes plan accepted version =
-    subst (λ (p : PlanFields). IsOfBytes (plan_in p version)) (sym accepted.gives.values)
+pub accepted_versions_of_bytes : (bytes : List ℕ) (p : PlanFields) → IsAccepted bytes p → (version : ℕ) → IsOfBytes (plan_in p version)
+accepted_versions_of_bytes bytes p accepted version =
+    subst (λ (q : PlanFields). IsOfBytes (plan_in q version)) (sym accepted.gives.values)
     (version_of_bytes accepted.top accepted.gives.rules accepted.gives.changes accepted.gives.spelled (parts_hold accepted.top accepted.tables) version)
 
-pub accepted_of_bytes : (bytes : List ℕ) (plan : PlanFields) → IsAccepted bytes plan → IsOfBytes plan
-accepted_of_bytes bytes plan accepted = let first : IsOfBytes (plan_in plan 0) = accepted_versions_of_bytes bytes plan accepted 0 in record { rules = first.rules; unicast = first.unicast }
+pub accepted_of_bytes : (bytes : List ℕ) (p : PlanFields) → IsAccepted bytes p → IsOfBytes p
+accepted_of_bytes bytes p accepted = let first : IsOfBytes (plan_in p 0) = accepted_versions_of_bytes bytes p accepted 0 in record { rules = first.rules; unicast = first.unicast }
