@@ -85,12 +85,12 @@ pub fn pid_in(plan: &Plan, version: u8, service: u32) -> Option<u16>
     requires service { service < length plan.now.services }
     ensures read { result ≡ pid_in_version (plan_fields plan.now) version service }
 {
-    match own_pid(&plan.services.at(service as usize).kind) {
-        None => None,
-        Some(own) => match moved_in(plan, version, service) {
-            Some(moved) => Some(moved.pid),
-            None => Some(own),
-        },
+    let Some(own) = own_pid(&plan.services.at(service as usize).kind) else {
+        return None;
+    };
+    match moved_in(plan, version, service) {
+        Some(moved) => Some(moved.pid),
+        None => Some(own),
     }
 }
 
