@@ -1,8 +1,7 @@
 -- What the checks of a plan that was read say of its settings.
-use Rattle.std.proofs.Common.{◌≡◌, ◌⊎◌, inl, inr, ℕ, Bool, true, false, not, ◌||◌, List, [], ◌∷◌, ◌++◌, length, map, sum_by, le-leb, Option, Some, None, MatchOption, suc, codes, if◌then◌else◌, refl, sym, ap, ap₂, ◌∙◌}
+use Rattle.std.proofs.Common.{◌≡◌, inl, inr, ℕ, Bool, true, false, not, ◌||◌, List, [], ◌∷◌, ◌++◌, map, le-leb, Option, Some, None, MatchOption, codes, if◌then◌else◌, refl, sym, ap, ap₂, ◌∙◌}
 use Rattle.std.specs.List.{list_all, AllZip}
 use Rattle.std.proofs.lemmas.Bool.{and_parts}
-use Rattle.std.proofs.lemmas.List.Sums.{sum_by-cons}
 use Rattle.toml.specs.Data.{Members}
 use Rattle.addr_rules.specs.Texts.{bit_count}
 use Rattle.addr_rules.specs.declared.rules.Rule.{Rule}
@@ -15,10 +14,10 @@ use Rattle.settings_spec.specs.Settings.{top_names, value_keys, int_key, service
 use Rattle.plan_spec.specs.Signalling.{table_packets}
 use Rattle.settings_spec.specs.Changes.{ChangeValues, without_rules, changes_by, with_changes}
 use Rattle.settings_spec.specs.Settings.{services_of}
-use Rattle.settings_spec.specs.Refusal.{AreRules, AreRuleLists, IsSpelledChange, IsPlan, HasNoRule, Fails, whole_checks, IsFirst, NoneFails, IsRefusedTable}
+use Rattle.settings_spec.specs.Refusal.{AreRules, AreRuleLists, IsSpelledChange, AreSpelled, IsPlan, HasNoRule, Fails, whole_checks, IsFirst, NoneFails, IsRefusedTable}
 use Rattle.plan_spec.specs.Valid.{is_valid_rule, has_valid_values, is_valid_service, is_in_range, is_consistent, is_plan_of_settings, is_plan}
 use Rattle.plan.specs.Parts.{service_seen, services_seen}
-use Rattle.service_plan.specs.Drafts.{rules_seen, HaveRulesOf}
+use Rattle.service_plan.specs.Drafts.{rules_seen}
 use Rattle.service_plan.specs.Plans.{parts_fault, draft_seen, IsDraftOf}
 use Rattle.plan_law.proofs.Alone.{rules_alone, packets_alone, right_alone, whole_alone}
 use Rattle.service_plan.specs.Order.{first_met, whole_fault}
@@ -144,11 +143,14 @@ unchanged_plan top rules none =
 draft_is : (top : Members) (draft : Draft) → IsDraftOf top draft → draft_seen draft ≡ with_changes (with_rules (plan_of top) (rules_seen draft.services)) []
 draft_is top draft is = is.seen ∙ sym (unchanged_plan top (rules_seen draft.services) is.unchanged)
 
+draft_spelled : (top : Members) (draft : Draft) → IsDraftOf top draft → draft.spelled ≡ true → AreSpelled top (rules_seen draft.services) []
+draft_spelled top draft is spelled = record { of_services = is.rules.all spelled; of_changes = are_no_changes (changes_at top) is.unchanged }
+
 draft_gives : (top : Members) (draft : Draft) → IsDraftOf top draft → draft.spelled ≡ true → IsPlan top (draft_seen draft)
 draft_gives top draft is spelled = record {
   rules = rules_seen draft.services;
   changes = [];
-  spelled = record { of_services = is.rules.all spelled; of_changes = are_no_changes (changes_at top) is.unchanged };
+  spelled = draft_spelled top draft is spelled;
   values = draft_is top draft is;
 }
 
@@ -171,7 +173,7 @@ no_rule_tells top draft is = by_spelled draft.spelled refl
     unspelled off rules changes are = let h = sym off ∙ (is.rules.only rules are.of_services).0 in cc
 
     right : draft.spelled ≡ true → has_wrong_count (rule_lists (draft_seen draft)) ≡ false → ¬ Fails top wrong_rules
-    right spelled off (inl none) = none (rules_seen draft.services) [] (draft_gives top draft is spelled).spelled
+    right spelled off (inl none) = none (rules_seen draft.services) [] (draft_spelled top draft is spelled)
     right spelled off (inr wrong) =
         let same : wrong.0 ≡ draft_seen draft = one_plan top draft is wrong.0 wrong.1 in
         let h = sym off ∙ sym counted ∙ rw same at wrong.2 in cc

@@ -1,34 +1,30 @@
 -- A table of settings without unknown keys has no `change`, as long as that is one.
-use Rattle.std.proofs.Common.{◌≡◌, ℕ, Bool, true, false, ◌&&◌, List, [], ◌∷◌, map, Option, Some, None, bytes_eq, codes, cond, refl, sym, ap, ◌∙◌}
-use Rattle.std.specs.Prelude.{Ordering, Less, Equal, Greater, is_some}
+use Rattle.std.proofs.Common.{◌≡◌, ℕ, Bool, true, false, List, [], map, Option, Some, None, Ordering, Less, Equal, Greater, bytes_eq, codes, cond, refl, sym, ap, ◌∙◌}
 use Rattle.std.specs.List.{list_any, filter_map}
 use Rattle.std.specs.Cmp.Lexicographic.{slice_cmp}
-use Rattle.core.specs.Ordering.{nat_cmp, match_ordering}
+use Rattle.std.specs.Ordering.{nat_cmp, match_ordering}
 use Rattle.std.proofs.lemmas.Map.Lookups.{exact_bytes}
 use Rattle.std.proofs.lemmas.Bool.{and_parts}
-use Rattle.toml.specs.Data.{Data, Members, no_members, member, get_member, as_table}
+use Rattle.toml.specs.Data.{Members, no_members, member, get_member, as_table}
 use Rattle.settings_spec.specs.Keys.{SettingsFault, unknown_key, keys_of, are_known, unknown_fault, key_fault, tables_at, first_of}
 use Rattle.settings_spec.specs.Changes.{change_values}
-use Rattle.settings_spec.specs.Settings.{int_key, top_names, change_key, changes_fault, changes_at}
+use Rattle.settings_spec.specs.Settings.{top_names, change_key, changes_fault, changes_at}
 use Rattle.settings_keys.proofs.KeyLemmas.{no_fault_absent, items_absent}
 
 -- a key that is not known is not there
 absent : (known : List (List ℕ)) (key : List ℕ) → list_any (bytes_eq key) known ≡ false → (m : Members) → are_known known (keys_of m) ≡ true → get_member key m ≡ None
 absent known key other no_members all = refl
-absent known key other (member name d rest) all = by_order (slice_cmp nat_cmp key name) refl
+absent known key other (member name d rest) all =
+    let parts = and_parts (list_any (bytes_eq name) known) (are_known known (keys_of rest)) all in
+    by_order (slice_cmp nat_cmp key name) refl parts.0 (absent known key other rest parts.1)
   where
-    parts : (list_any (bytes_eq name) known ≡ true) × (are_known known (keys_of rest) ≡ true)
-    parts = and_parts (list_any (bytes_eq name) known) (are_known known (keys_of rest)) all
-
-    later : get_member key rest ≡ None
-    later = absent known key other rest parts.1
-
-    by_order : (o : Ordering) → slice_cmp nat_cmp key name ≡ o → match_ordering o (get_member key rest) (Some d) (get_member key rest) ≡ None
-    by_order Less is = later
-    by_order Greater is = later
-    by_order Equal is =
+    by_order : (o : Ordering) → slice_cmp nat_cmp key name ≡ o → list_any (bytes_eq name) known ≡ true → get_member key rest ≡ None
+        → match_ordering o (get_member key rest) (Some d) (get_member key rest) ≡ None
+    by_order Less is first later = later
+    by_order Greater is first later = later
+    by_order Equal is first later =
         let same : key ≡ name = exact_bytes key name is in
-        let both : true ≡ false = sym parts.0 ∙ ap (λ (k : List ℕ). list_any (bytes_eq k) known) (sym same) ∙ other in
+        let both : true ≡ false = sym first ∙ ap (λ (k : List ℕ). list_any (bytes_eq k) known) (sym same) ∙ other in
         absurd (cc)
 
 passes : (b : Bool) → cond b None (Some unknown_key) ≡ None → b ≡ true

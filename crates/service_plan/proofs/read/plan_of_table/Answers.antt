@@ -6,12 +6,12 @@ returns-in-Err-clause-refused c = refused_tables _ _ c.in-Err.ensures.read
 
 pub invariant_of-result : goal.invariant_of-result
 invariant_of-result c = record {
-  valid = passed_is_plan _ c.in-Ok.draft c.in-Ok.ensures.read.1 c.in-Ok-check_whole.ensures.read.0;
-  whole = passed_is_whole _ c.in-Ok.draft c.in-Ok.ensures.read.1 c.in-Ok-check_whole.ensures.read.0;
+  valid = rw c.new.ensures.written (passed_is_plan _ c.in-Ok.draft c.in-Ok.ensures.read.1 c.in-Ok-check_whole.ensures.read.0);
+  whole = rw c.new.ensures.written (passed_is_whole _ c.in-Ok.draft c.in-Ok.ensures.read.1 c.in-Ok-check_whole.ensures.read.0);
 }
 
 pub returns-in-Ok-check_whole-clause-read : goal.returns-in-Ok-check_whole-clause-read
-returns-in-Ok-check_whole-clause-read c = accepted_table _ c.in-Ok.draft c.in-Ok.ensures.read.1 c.in-Ok.ensures.read.0 c.in-Ok-check_whole.ensures.read.0
+returns-in-Ok-check_whole-clause-read c = rw c.new.ensures.written (accepted_table _ c.in-Ok.draft c.in-Ok.ensures.read.1 c.in-Ok.ensures.read.0 c.in-Ok-check_whole.ensures.read.0)
 
 pub returns-in-Err-check_whole-clause-refused : goal.returns-in-Err-check_whole-clause-refused
 returns-in-Err-check_whole-clause-refused c = refused_table _ c.in-Ok.draft _ c.in-Ok.ensures.read.1 c.in-Ok.ensures.read.0 c.in-Err-check_whole.ensures.read
