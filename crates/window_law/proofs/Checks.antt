@@ -110,7 +110,7 @@ module _ (plan : PlanFields) (accepted : is_plan plan ≡ true) where
       let top : has_valid_top plan ≡ true = (both (has_valid_top plan) (list_all (is_valid_service order.0) plan.services) order.1).0 in
       at_least 1 1000000 plan.packet_rate
       (both (is_between 1 1000000 plan.packet_rate) (is_between 100 1000000 plan.cycle && (is_valid_frame_size plan.frame_bytes
-      && (is_valid_int plan.table && is_between 1 (most_services (is_baseband plan)) (length plan.services)))) top).0
+      && (is_valid_int plan.table && (is_between 1 (most_services (is_baseband plan)) (length plan.services) && leb plan.version 31)))) top).0
 
   -- the checks on sliced services
   pub checks : (needs_stamps plan ≡ false) × (has_wrong_window (table_packets plan) plan ≡ false) × (has_short_gap plan ≡ false) × (has_long_cycle plan ≡ false)
