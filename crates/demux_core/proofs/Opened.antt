@@ -46,8 +46,9 @@ few_by false n e = omega (arith, leb-true n 64 (both (nat_le 1 n) (nat_le n 64) 
 pub few_services : (plan : PlanFields) → is_plan plan ≡ true → length plan.services ≤ 64
 unfolding has_valid_top
 few_services plan valid =
-    few_by (is_baseband plan) (length plan.services) (both (is_valid_int plan.table) _ (both (is_valid_frame_size plan.frame_bytes) _
-    (both (is_between 100 1000000 plan.cycle) _ (both (is_between 1 1000000 plan.packet_rate) _ (top_and_whole plan valid).0).1).1).1).1
+    few_by (is_baseband plan) (length plan.services) (both (is_between 1 (most_services (is_baseband plan)) (length plan.services)) _
+    (both (is_valid_int plan.table) _ (both (is_valid_frame_size plan.frame_bytes) _
+    (both (is_between 100 1000000 plan.cycle) _ (both (is_between 1 1000000 plan.packet_rate) _ (top_and_whole plan valid).0).1).1).1).1).0
 
 pub pids_differ : (plan : PlanFields) → is_plan plan ≡ true → has_same_pid plan ≡ false
 unfolding is_consistent

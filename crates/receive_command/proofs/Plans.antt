@@ -40,8 +40,9 @@ count_by false n e = (leb-true 1 n (both (nat_le 1 n) (nat_le n 64) e).0, leb-tr
 pub services_count : (plan : PlanFields) → is_plan plan ≡ true → (0 < length plan.services) × (length plan.services ≤ 64)
 unfolding has_valid_top
 services_count plan valid =
-    count_by (is_baseband plan) (length plan.services) (both (is_valid_int plan.table) _ (both (is_valid_frame_size plan.frame_bytes) _
-    (both (is_between 100 1000000 plan.cycle) _ (both (is_between 1 1000000 plan.packet_rate) _ (ranges plan valid).top).1).1).1).1
+    count_by (is_baseband plan) (length plan.services) (both (is_between 1 (most_services (is_baseband plan)) (length plan.services)) _
+    (both (is_valid_int plan.table) _ (both (is_valid_frame_size plan.frame_bytes) _
+    (both (is_between 100 1000000 plan.cycle) _ (both (is_between 1 1000000 plan.packet_rate) _ (ranges plan valid).top).1).1).1).1).0
 
 -- The names.
 
