@@ -2,7 +2,8 @@
 use Rattle.std.proofs.Common.{◌≡◌, ◌≤◌, List, ℕ, length, ap, refl, arith, Option, None, Some, IfSome}
 use Rattle.ipe_io.specs.Counts.{longest_file}
 use Rattle.plan_spec.specs.Plan.{PlanFields}
-use Rattle.settings_spec.specs.Refusal.{IsAccepted}
+use Rattle.settings_spec.specs.Keys.{SettingsFault}
+use Rattle.settings_spec.specs.Refusal.{IsAccepted, IsRefused}
 use Rattle.settings_spec.proofs.OneAnswer.{refusal_is_one, acceptance_is_no_refusal}
 use Rattle.settings_load.specs.Settings.{Refusal, too_long, refused, IsRefusedFile, IsAcceptedFile}
 
@@ -23,3 +24,11 @@ gives_a_plan None loaded bytes plan refusal told short accepted is refuses = cc
 gives_a_plan (Some x) loaded bytes plan refusal told short accepted is refuses =
     let same : bytes ≡ loaded = cc in
     not_both bytes plan refusal (record { short = rw same short; accepted = rw same accepted }) refuses
+
+-- what was loaded is refused for a fault, so the file is refused for it alone
+pub gives_its_fault : (file : Option (List ℕ)) (loaded bytes : List ℕ) (fault : SettingsFault) (refusal : Refusal) → IfSome file (λ told. loaded ≡ told)
+    → length loaded ≤ longest_file → IsRefused loaded fault → file ≡ Some bytes → IsRefusedFile bytes refusal → refused fault ≡ refusal
+gives_its_fault None loaded bytes fault refusal told short refuses is other = absurd (cc)
+gives_its_fault (Some x) loaded bytes fault refusal told short refuses is other =
+    let same : bytes ≡ loaded = cc in
+    one_refusal bytes (refused fault) refusal (rw same short, rw same refuses) other

@@ -1,8 +1,17 @@
+use Rattle.std.proofs.Common.{ap, inl, Some}
+use Rattle.settings_keys.specs.Keys.{fault_seen}
+use Rattle.settings_load.specs.Settings.{Refusal}
 use Rattle.plan.specs.PlanView.{plan_fields}
-use Rattle.settings_load.proofs.Answers.{gives_a_plan}
+use Rattle.settings_load.proofs.Answers.{gives_a_plan, gives_its_fault}
 use Rattle.settings_load.proofs.load.load_plan.Goals as goal
 
 pub returns-in-Ok-read_plan-clause-fails : goal.returns-in-Ok-read_plan-clause-fails
 returns-in-Ok-read_plan-clause-fails g c = λ bytes refusal is refuses.
     gives_a_plan ((g.S.Shelf.told c.args.shelf.now).file c.args.name.now) c.in-Ok.bytes.items bytes (plan_fields c.in-Ok-read_plan.plan) refusal
     c.in-Ok.ensures.read c.in-Ok.ensures.short (rw (← c.deref.ensures.value) c.in-Ok-read_plan.ensures.read) is refuses
+
+pub returns-in-Err-Fault-clause-fails : goal.returns-in-Err-Fault-clause-fails
+returns-in-Err-Fault-clause-fails g c = λ bytes refusal is refuses.
+    let refused_for = rw c.in-Err-Fault.field-0-is at c.in-Err-Fault.ensures.refused in
+    inl (ap (λ (r : Refusal). Some r) (gives_its_fault ((g.S.Shelf.told c.args.shelf.now).file c.args.name.now) c.in-Ok.bytes.items bytes (fault_seen c.in-Err-Fault.fault) refusal
+    c.in-Ok.ensures.read c.in-Ok.ensures.short (rw (← c.deref.ensures.value) refused_for) is refuses))
