@@ -3,3 +3,4 @@ pub mod Buffers
 pub mod MemFiles
 pub mod MemShelves
 pub mod Lent
+pub mod Behind

@@ -2,11 +2,11 @@
 ghost use Rattle.std.specs.Prelude.{◌≡◌, ◌<◌, ◌≤◌, ℕ, vec_len, OnOk, OnErr};
 ghost use Rattle.wire_spec.specs.Causes.{RoseBy};
 
-use crate::outside::BUFFER;
+use crate::write_behind::WriteBehind;
 use crate::{AddFault, Failed, Rack};
 use std::alloc::Global;
 use std::fs;
-use std::io::{BufWriter, ErrorKind, Write};
+use std::io::{ErrorKind, Write};
 use std::marker::Model;
 use std::rt::Files;
 
@@ -15,7 +15,7 @@ use std::rt::Files;
 #[derive(Drop)]
 pub struct FileRack<R: Files + Drop> {
     system: R,
-    files: Vec<BufWriter<R::File>>,
+    files: Vec<WriteBehind<R::File>>,
     faults: u64,
 }
 
@@ -54,7 +54,7 @@ impl<R: Files + Drop> FileRack<R> {
 }
 
 // Flushes each file, and answers how many flushes failed.
-fn flush_each<W: Write + Drop>(files: &mut [BufWriter<W>]) -> u64 {
+fn flush_each<W: Write + Drop>(files: &mut [WriteBehind<W>]) -> u64 {
     let mut failed: u64 = 0;
     for file in files {
         if file.flush().is_err() {
@@ -83,7 +83,7 @@ impl<R: Files + Drop> Rack for FileRack<R> {
                 return Err(AddFault::Failed);
             }
         };
-        let Ok(file) = BufWriter::with_capacity(alloc, BUFFER, file) else {
+        let Ok(file) = WriteBehind::new(alloc, file) else {
             return Err(AddFault::OutOfMemory);
         };
         match self.files.push(file) {
@@ -94,8 +94,8 @@ impl<R: Files + Drop> Rack for FileRack<R> {
 
     fn write(&mut self, at: u32, piece: &[u8]) -> Result<usize, Failed> {
         match self.files[at as usize].write(piece) {
-            Ok(count) if count > 0 || piece.is_empty() => Ok(count),
-            _ => {
+            Ok(count) => Ok(count),
+            Err(Failed) => {
                 self.faults = self.faults.saturating_add(1);
                 Err(Failed)
             }

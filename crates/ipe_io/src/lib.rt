@@ -21,6 +21,7 @@ mod std_sink;
 mod std_source;
 #[cfg(test)]
 mod tests;
+mod write_behind;
 
 pub use faults::{AddFault, Failed, LoadFault, RecordFault, Recording};
 pub use file_rack::FileRack;

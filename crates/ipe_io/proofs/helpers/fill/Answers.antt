@@ -1,4 +1,4 @@
-use Rattle.std.proofs.Common.{◌-◌, length, take, arith, rules, ap, ◌∙◌}
+use Rattle.std.proofs.Common.{◌-◌, length, take, rules, ap, ◌∙◌}
 use Rattle.std.proofs.KnownBytes.{Consumes-trans}
 use Rattle.wire_spec.specs.Causes.{raised}
 use Rattle.ipe_io.proofs.Told.{raised-raised, goes_on}

@@ -1,4 +1,4 @@
-use Rattle.std.proofs.Common.{◌-◌, ◌∙◌, length, take, drop, arith, rules}
+use Rattle.std.proofs.Common.{◌-◌, ◌∙◌, length, take, drop, rules}
 use Rattle.std.proofs.KnownBytes.{Appends-trans}
 use Rattle.ipe_io.proofs.Told.{stays-trans}
 use Rattle.ipe_io.proofs.Buffers.{take-more}

@@ -1,4 +1,4 @@
-use Rattle.std.proofs.Common.{◌+◌, ◌-◌, length, take, drop, arith, rules, ◌∙◌}
+use Rattle.std.proofs.Common.{◌+◌, ◌-◌, length, take, drop, rules, ◌∙◌}
 use Rattle.ipe_io.proofs.Told.{changes-trans, is_there}
 use Rattle.ipe_io.proofs.Buffers.{take-more}
 use Rattle.ipe_io.proofs.helpers.put_file.Goals as goal
