@@ -9,6 +9,8 @@ mod failing_calls;
 mod faults;
 mod file_rack;
 mod file_shelf;
+#[cfg(test)]
+mod file_tests;
 mod helpers;
 mod mem_file;
 mod mem_rack;
