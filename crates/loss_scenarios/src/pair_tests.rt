@@ -70,37 +70,68 @@ const NO_LINES: Lines = Lines {
     files: "",
 };
 
-/// Sends all datagrams, lets the loss happen, receives, and compares the captures and the report.
-fn comes_as_told(alloc: Global, loss: &Loss<'_>, lines: &Lines<'_>) -> Result<(), Fail> {
-    let stream = sent(
-        alloc,
-        &settings_of_pair(alloc, loss.form.line, "", lines.sent)?,
-    )?;
-    let recording = damaged(alloc, &stream, loss.form.size, loss.harms)?;
-    let settings = settings_of_pair(alloc, loss.form.line, lines.lecture, lines.files)?;
+/// Sends all datagrams, and lets the loss happen.
+fn recording_of(alloc: Global, loss: &Loss<'_>, lines: &Lines<'_>) -> Result<Vec<u8>, Fail> {
+    let settings = settings_of_pair(alloc, loss.form.line, "", lines.sent)?;
+    let stream = sent(alloc, &settings)?;
+    Ok(damaged(alloc, &stream, loss.form.size, loss.harms)?)
+}
+
+/// What must be left of a loss: the captures and the report.
+#[derive(Drop)]
+struct Due {
+    lecture: Vec<u8>,
+    files: Vec<u8>,
+    report: String,
+}
+
+fn due_of(alloc: Global, loss: &Loss<'_>) -> Result<Due, Fail> {
     let lecture = numbered_capture(alloc, 1, &LECTURE_SIZES, loss.lecture.datagrams)?;
     let files = numbered_capture(alloc, 2, &FILE_SIZES, loss.files.datagrams)?;
     let report = report_of_loss(alloc, loss)?;
+    Ok(Due {
+        lecture,
+        files,
+        report,
+    })
+}
+
+/// Receives a recording, and compares the captures and the report.
+fn gives(
+    alloc: Global,
+    name: &str,
+    settings: &str,
+    recording: &[u8],
+    due: &Due,
+) -> Result<(), Fail> {
     let captures = [
         FileLeft {
             name: "lecture.pcap",
-            bytes: &lecture,
-            flushed: lecture.len(),
+            bytes: &due.lecture,
+            flushed: due.lecture.len(),
         },
         FileLeft {
             name: "files.pcap",
-            bytes: &files,
-            flushed: files.len(),
+            bytes: &due.files,
+            flushed: due.files.len(),
         },
     ];
     let left = Left {
-        output: report.as_bytes(),
-        flushed: report.len(),
+        output: due.report.as_bytes(),
+        flushed: due.report.len(),
         line: "",
         files: &captures,
     };
-    let given = faultless(&["receive", "a.toml"], settings.as_bytes(), &recording);
-    expect(alloc, loss.name, &given, Status::Done, &left)
+    let given = faultless(&["receive", "a.toml"], settings.as_bytes(), recording);
+    expect(alloc, name, &given, Status::Done, &left)
+}
+
+/// What comes of a loss is what must be left of it.
+fn comes_as_told(alloc: Global, loss: &Loss<'_>, lines: &Lines<'_>) -> Result<(), Fail> {
+    let recording = recording_of(alloc, loss, lines)?;
+    let settings = settings_of_pair(alloc, loss.form.line, lines.lecture, lines.files)?;
+    let due = due_of(alloc, loss)?;
+    gives(alloc, loss.name, &settings, &recording, &due)
 }
 
 /// The loss law: each service's datagrams come unchanged, in order, each at most once, and each whose unit arrived whole.

@@ -294,79 +294,117 @@ fn received(alloc: Global, plan: &Plan, given: &Given<'_>) -> Result<Ended, Fail
     Ok(Ended { end, outside })
 }
 
-/// What a reception leaves of a case differs so; an empty text where it does not.
-fn difference(alloc: Global, ended: &Ended, case: &Case<'_>) -> Result<&'static str, Fail> {
-    let capture = small_capture(alloc, 1)?;
+/// What differs from how a reception must end and from what it must leave; an empty text where nothing does.
+fn difference(
+    ended: &Ended,
+    end: Result<(), ReceiveFault>,
+    report: &str,
+    files: &[FileLeft<'_>],
+) -> &'static str {
+    if ended.end != end {
+        return "the end";
+    }
+    ended.outside.difference(&Left {
+        output: report.as_bytes(),
+        flushed: if end == Ok(()) { report.len() } else { 0 },
+        line: "",
+        files,
+    })
+}
+
+/// The files of both services, as far as they are added and hold their capture.
+fn files_of<'a>(
+    alloc: Global,
+    held: &[Held],
+    capture: &'a [u8],
+) -> Result<Vec<FileLeft<'a>>, Fail> {
     let mut files = Vec::new(alloc);
-    for (at, held) in case.files.iter().enumerate() {
+    for (at, held) in held.iter().enumerate() {
         files.push(FileLeft {
             name: if at == 0 { "one.pcap" } else { "two.pcap" },
             bytes: capture.get(..held.bytes).ok_or("no such front")?,
             flushed: held.flushed,
         })?;
     }
-    let report = match &case.report {
-        Some(report) => report_of(alloc, report)?,
-        None => String::new(alloc),
-    };
-    let left = Left {
-        output: report.as_bytes(),
-        flushed: if case.end == Ok(()) { report.len() } else { 0 },
-        line: "",
-        files: &files,
-    };
-    if ended.end != case.end {
-        return Ok("the end");
+    Ok(files)
+}
+
+/// The text of a report, empty where there is none.
+fn text_of(alloc: Global, report: &Option<Report<'_>>) -> Result<String, Fail> {
+    match report {
+        Some(report) => Ok(report_of(alloc, report)?),
+        None => Ok(String::new(alloc)),
     }
-    Ok(ended.outside.difference(&left))
+}
+
+/// What differs from what a case must leave.
+fn difference_of_two(alloc: Global, ended: &Ended, case: &Case<'_>) -> Result<&'static str, Fail> {
+    let capture = small_capture(alloc, 1)?;
+    let files = files_of(alloc, case.files, &capture)?;
+    let report = text_of(alloc, &case.report)?;
+    Ok(difference(ended, case.end, &report, &files))
+}
+
+/// Receives the recording of a case.
+fn two_received(alloc: Global, plan: &Plan, case: &Case<'_>) -> Result<Ended, Fail>
+    requires { are_received (plan_fields plan.now) ≡ true }
+{
+    let input = recording_of_two(alloc, case.section, case.tail)?;
+    received(
+        alloc,
+        plan,
+        &Given {
+            fails: case.fails,
+            ..faultless(&[], &[], &input)
+        },
+    )
 }
 
 #[test]
 fn recordings_are_received_and_each_failing_call_ends_it(rt: HostRuntime) -> Result<(), Fail> {
     let plan = plan_of(rt.alloc())?;
     for case in &CASES {
-        let input = recording_of_two(rt.alloc(), case.section, case.tail)?;
-        let given = Given {
-            fails: case.fails,
-            ..faultless(&[], &[], &input)
-        };
-        let ended = received(rt.alloc(), &plan, &given)?;
-        assert_eq!(rt; difference(rt.alloc(), &ended, case)?, "", "{}", case.name);
+        let ended = two_received(rt.alloc(), &plan, case)?;
+        assert_eq!(rt;
+            difference_of_two(rt.alloc(), &ended, case)?,
+            "",
+            "{}",
+            case.name
+        );
     }
     Ok(())
 }
 
 /// The report of an empty recording has a head and 18 lines.
-#[test]
-fn an_empty_recording_has_a_report(rt: HostRuntime) -> Result<(), Fail> {
-    let plan = ule_plan(rt.alloc(), 256)?;
-    let ended = received(rt.alloc(), &plan, &faultless(&[], &[], &[]))?;
-    let report = Report {
-        records: 0,
-        tail_bytes: 0,
-        unreadable: 0,
-        other: 0,
-        services: &[ServiceReport {
-            name: "ule",
-            numbers: Numbers::NONE,
-        }],
-        table: None,
-    };
-    let report = report_of(rt.alloc(), &report)?;
-    let head = small_capture(rt.alloc(), 0)?;
+const NO_RECORD: Report = Report {
+    records: 0,
+    tail_bytes: 0,
+    unreadable: 0,
+    other: 0,
+    services: &[ServiceReport {
+        name: "ule",
+        numbers: Numbers::NONE,
+    }],
+    table: None,
+};
+
+/// What differs from what must be left of an empty recording.
+fn difference_of_none(alloc: Global, ended: &Ended) -> Result<&'static str, Fail> {
+    let report = report_of(alloc, &NO_RECORD)?;
+    let head = small_capture(alloc, 0)?;
     let files = [FileLeft {
         name: "ule.pcap",
         bytes: &head,
         flushed: 24,
     }];
-    let left = Left {
-        output: report.as_bytes(),
-        flushed: report.len(),
-        line: "",
-        files: &files,
-    };
-    assert_eq!(rt; ended.end, Ok(()));
-    assert_eq!(rt; ended.outside.difference(&left), "");
+    Ok(difference(ended, Ok(()), &report, &files))
+}
+
+#[test]
+fn an_empty_recording_has_a_report(rt: HostRuntime) -> Result<(), Fail> {
+    let plan = ule_plan(rt.alloc(), 256)?;
+    let ended = received(rt.alloc(), &plan, &faultless(&[], &[], &[]))?;
+    assert_eq!(rt; difference_of_none(rt.alloc(), &ended)?, "");
     Ok(())
 }
 
@@ -401,55 +439,60 @@ static ULE_CASES: [UleCase; 4] = [
     },
 ];
 
+/// Receives PID 256.
+fn ule_received(alloc: Global, given: &Given<'_>) -> Result<Ended, Fail> {
+    let mut outside = Outside::new(alloc, given)?;
+    let end = ule(alloc, 256, &mut outside.input, &mut outside.rack);
+    Ok(Ended { end, outside })
+}
+
+/// What differs from what must be left of it.
+fn difference_of_one(
+    alloc: Global,
+    ended: &Ended,
+    end: Result<(), ReceiveFault>,
+    file: Held,
+) -> Result<&'static str, Fail> {
+    let capture = small_capture(alloc, 1)?;
+    let files = [FileLeft {
+        name: "ule.pcap",
+        bytes: capture.get(..file.bytes).ok_or("no such front")?,
+        flushed: file.flushed,
+    }];
+    Ok(difference(ended, end, "", &files))
+}
+
 #[test]
 fn one_pid_is_received_alone(rt: HostRuntime) -> Result<(), Fail> {
     let input = recording_of_two(rt.alloc(), &INT_OF_TWO, 100)?;
-    let capture = small_capture(rt.alloc(), 1)?;
     for case in &ULE_CASES {
         let fails = [case.fails];
         let given = Given {
             fails: &fails,
             ..faultless(&[], &[], &input)
         };
-        let mut outside = Outside::new(rt.alloc(), &given)?;
-        let end = ule(rt.alloc(), 256, &mut outside.input, &mut outside.rack);
-        let files = [FileLeft {
-            name: "ule.pcap",
-            bytes: capture.get(..case.file.bytes).ok_or("no such front")?,
-            flushed: case.file.flushed,
-        }];
-        let left = Left {
-            output: &[],
-            flushed: 0,
-            line: "",
-            files: &files,
-        };
-        assert_eq!(rt; end, case.end);
-        assert_eq!(rt; outside.difference(&left), "");
+        let ended = ule_received(rt.alloc(), &given)?;
+        assert_eq!(rt;
+            difference_of_one(rt.alloc(), &ended, case.end, case.file)?,
+            ""
+        );
     }
     Ok(())
+}
+
+/// Receives PID 256 of a source that lends.
+fn received_from_lent(alloc: Global) -> Result<Ended, Fail> {
+    let recording = recording_of_two(alloc, &INT_OF_TWO, 100)?;
+    let mut input = StdSource::new(alloc, recording.as_slice())?;
+    let mut outside = Outside::new(alloc, &faultless(&[], &[], &[]))?;
+    let end = ule(alloc, 256, &mut input, &mut outside.rack);
+    Ok(Ended { end, outside })
 }
 
 /// Records that are lent out of the input's buffer are received as those that are read.
 #[test]
 fn a_recording_is_received_from_a_source_that_lends(rt: HostRuntime) -> Result<(), Fail> {
-    let recording = recording_of_two(rt.alloc(), &INT_OF_TWO, 100)?;
-    let capture = small_capture(rt.alloc(), 1)?;
-    let mut input = StdSource::new(rt.alloc(), recording.as_slice())?;
-    let mut outside = Outside::new(rt.alloc(), &faultless(&[], &[], &[]))?;
-    let end = ule(rt.alloc(), 256, &mut input, &mut outside.rack);
-    let files = [FileLeft {
-        name: "ule.pcap",
-        bytes: &capture,
-        flushed: capture.len(),
-    }];
-    let left = Left {
-        output: &[],
-        flushed: 0,
-        line: "",
-        files: &files,
-    };
-    assert_eq!(rt; end, Ok(()));
-    assert_eq!(rt; outside.difference(&left), "");
+    let ended = received_from_lent(rt.alloc())?;
+    assert_eq!(rt; difference_of_one(rt.alloc(), &ended, Ok(()), FLUSHED)?, "");
     Ok(())
 }

@@ -112,6 +112,17 @@ fn lent_by(receiver: &Receiver<'_>) -> Lent {
     }
 }
 
+/// Gives a receiver records, and the end; whether it took the end.
+fn give(receiver: &mut Receiver<'_>, parts: &[Part], noted: &mut NotedOutlet) -> bool
+    requires { length receiver.old.plan.services ≤ 8 }
+    ensures { receiver.new.plan ≡ receiver.old.plan }
+{
+    for part in parts {
+        take(receiver, &record_of(part), noted);
+    }
+    !receiver.is_open() || receiver.finish(noted).is_ok()
+}
+
 /// Opens a receiver and gives it records.
 fn ran(alloc: Global, plan: &Plan, parts: &[Part], refuses_from: usize) -> Result<Ended, Fail> {
     let count = plan.services.len();
@@ -121,14 +132,8 @@ fn ran(alloc: Global, plan: &Plan, parts: &[Part], refuses_from: usize) -> Resul
     let arena = Bump::new(alloc);
     let mut noted = NotedOutlet::new(refuses_from);
     let mut receiver = Receiver::open(&arena, plan)?;
-    for part in parts {
-        take(&mut receiver, &record_of(part), &mut noted);
-    }
-    if receiver.is_open() {
-        match receiver.finish(&mut noted) {
-            Ok(()) => {}
-            Err(_) => return Err("finish".into()),
-        }
+    if !give(&mut receiver, parts, &mut noted) {
+        return Err("finish".into());
     }
     Ok(Ended {
         is_open: receiver.is_open(),
