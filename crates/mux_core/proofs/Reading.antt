@@ -72,12 +72,18 @@ behind_head around datagram head at fits after =
     ap (λ (n : ℕ). drop n (unit_with head around datagram)) there
     ∙ drop-append-add (take head around) (datagram ++ take 4 (drop head around)) (at - head)
 
--- those of its datagram
+-- some of those of its datagram
+pub in_datagram : (around datagram : List ℕ) (head at n : ℕ) → head + 4 ≤ length around → head ≤ at → at - head + n ≤ length datagram
+    → take n (drop at (unit_with head around datagram)) ≡ take n (drop (at - head) datagram)
+in_datagram around datagram head at n fits after within =
+    ap (take n) (behind_head around datagram head at fits after ∙ drop-append-le (at - head) datagram (take 4 (drop head around)) (omega (arith, within)))
+    ∙ take-append-le n (drop (at - head) datagram) (take 4 (drop head around)) (omega (arith, length-drop (at - head) datagram, within))
+
+-- all that follow in its datagram
 pub at_datagram : (around datagram : List ℕ) (head at : ℕ) → head + 4 ≤ length around → head ≤ at → at < head + length datagram
     → take (length datagram - (at - head)) (drop at (unit_with head around datagram)) ≡ take (length datagram - (at - head)) (drop (at - head) datagram)
 at_datagram around datagram head at fits after before =
-    ap (take (length datagram - (at - head))) (behind_head around datagram head at fits after ∙ drop-append-le (at - head) datagram (take 4 (drop head around)) (omega (arith, after, before)))
-    ∙ take-append-le (length datagram - (at - head)) (drop (at - head) datagram) (take 4 (drop head around)) (omega (arith, length-drop (at - head) datagram))
+    in_datagram around datagram head at (length datagram - (at - head)) fits after (omega (arith, after, before))
 
 -- those of the CRC-32
 pub at_crc : (around datagram : List ℕ) (head at : ℕ) → head + 4 ≤ length around → head + length datagram ≤ at → at < head + length datagram + 4

@@ -57,7 +57,7 @@ pub(crate) struct UnitBytes {
 }
 
 impl UnitBytes {
-    ghost use Rattle.std.specs.Prelude.{◌≡◌, ◌≤◌, ◌<◌, ◌++◌, true, length, take};
+    ghost use Rattle.std.specs.Prelude.{◌≡◌, ◌≤◌, ◌<◌, ◌++◌, true, false, length, take};
     ghost use Rattle.plan_spec.specs.Built.{is_sent};
     ghost use Rattle.plan.specs.Parts.{kind_seen};
     ghost use Rattle.mux_core.specs.Units.{IsFor};
@@ -109,8 +109,37 @@ impl UnitBytes {
         count
     }
 
-    /// Copies the next bytes to `into`, as many as it has.
-    pub(crate) fn read(&mut self, service: &Service, datagrams: &DatagramList, into: &mut [u8])
+    /// Copies the next bytes to `into`, as many as it has, where all of them lie in one datagram. False: they do not, and nothing changes.
+    fn read_datagram(
+        &mut self,
+        service: &Service,
+        datagrams: &DatagramList,
+        into: &mut [u8],
+    ) -> bool
+        requires reading { IsReading (kind_seen service.now.kind) service.now.unicast datagrams.now self.old }
+        ensures reading { IsReading (kind_seen service.now.kind) service.now.unicast datagrams.now self.new }
+        ensures read { result ≡ true → bytes_left (kind_seen service.now.kind) service.now.unicast datagrams.now self.old
+            ≡ into.new ++ bytes_left (kind_seen service.now.kind) service.now.unicast datagrams.now self.new }
+        ensures unchanged { result ≡ false → (self.new ≡ self.old) × (into.new ≡ into.old) }
+    {
+        if self.out == 0 || self.out < self.head {
+            return false;
+        }
+        let datagram = datagrams.at(self.count);
+        let place = self.out - self.head;
+        if place > datagram.len() || datagram.len() - place < into.len() {
+            return false;
+        }
+        into.copy_from_slice(&datagram[place..place + into.len()]);
+        self.out += into.len();
+        true
+    }
+
+    /// Copies the next bytes to `into`, as many as it has, piece by piece.
+    ///
+    /// It is not inlined, so that `read` saves no registers where it needs one copy.
+    #[inline(never)]
+    fn read_pieces(&mut self, service: &Service, datagrams: &DatagramList, into: &mut [u8])
         requires reading { IsReading (kind_seen service.now.kind) service.now.unicast datagrams.now self.old }
         requires enough { length into.old ≤ length (bytes_left (kind_seen service.now.kind) service.now.unicast datagrams.now self.old) }
         ensures reading { IsReading (kind_seen service.now.kind) service.now.unicast datagrams.now self.new }
@@ -120,6 +149,19 @@ impl UnitBytes {
         let mut done = 0;
         while done < into.len() {
             done += self.read_piece(service, datagrams, &mut into[done..]);
+        }
+    }
+
+    /// Copies the next bytes to `into`, as many as it has.
+    pub(crate) fn read(&mut self, service: &Service, datagrams: &DatagramList, into: &mut [u8])
+        requires reading { IsReading (kind_seen service.now.kind) service.now.unicast datagrams.now self.old }
+        requires enough { length into.old ≤ length (bytes_left (kind_seen service.now.kind) service.now.unicast datagrams.now self.old) }
+        ensures reading { IsReading (kind_seen service.now.kind) service.now.unicast datagrams.now self.new }
+        ensures read { bytes_left (kind_seen service.now.kind) service.now.unicast datagrams.now self.old
+            ≡ into.new ++ bytes_left (kind_seen service.now.kind) service.now.unicast datagrams.now self.new }
+    {
+        if !self.read_datagram(service, datagrams, into) {
+            self.read_pieces(service, datagrams, into);
         }
     }
 }

@@ -2,7 +2,7 @@
 use Rattle.std.proofs.Common.{◌≡◌, ◌≤◌, ◌-◌, ◌++◌, length, take}
 use Rattle.plan.specs.Parts.{kind_seen}
 use Rattle.mux_core.specs.Reading.{IsReading, bytes_left}
-use Rattle.mux_core.proofs.unit_bytes.UnitBytes.read.Given as goal
+use Rattle.mux_core.proofs.unit_bytes.UnitBytes.read_pieces.Given as goal
 
 abbrev pub invariant-loop-done : goal.invariant-loop-done
 invariant-loop-done l = record {

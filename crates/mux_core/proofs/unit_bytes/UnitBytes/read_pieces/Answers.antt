@@ -3,7 +3,7 @@ use Rattle.std.proofs.lemmas.List.{length-append, length-take-le, take_all}
 use Rattle.plan.specs.Parts.{kind_seen}
 use Rattle.mux_core.specs.Reading.{bytes_left}
 use Rattle.mux_core.proofs.Reading.{taken, within_put}
-use Rattle.mux_core.proofs.unit_bytes.UnitBytes.read.Goals as goal
+use Rattle.mux_core.proofs.unit_bytes.UnitBytes.read_pieces.Goals as goal
 
 pub loop-done-init : goal.loop-done-init
 loop-done-init c = record { reading = c.requires.reading; within = omega arith; read = refl }
