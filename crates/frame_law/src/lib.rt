@@ -136,6 +136,7 @@ pub fn datagrams_of_accepted_units_are_recovered()
 
 /// The datagrams of a service through a channel: from the accepted sections of its PID in a span to the frames that were sent on it.
 ///
+/// The numbers are those of the accepted sections, each once and no others.
 /// Frame by frame they are some of those sent in it, in order: those that came in sections of their own at least, and all of them where
 /// it is recoverable from sections that arrived intact. Moments count with time slicing alone: then stamps must survive, and no copy in the
 /// span lack the packet that it is a copy of.
@@ -149,7 +150,8 @@ pub fn datagrams_of_a_service_are_recovered()
         → ((ten : ℕ) → timing ≡ sliced ten → KeepsStamps recording channel × HasNoLoneCopies channel span pid
         × ((n m : ℕ) → n < length units → IsIn (packets_sent pid sent) m (begin n) → (arrival_at (arrivals pid sent) m).moment ≡ moments n))
         → (timing ≡ indexed → AreAcceptedOften rows units frames (IsAccepted channel span section_form pid units begin))
-        → (numbers : List ℕ) × IncludesIntact channel span pid units begin numbers
+        → (numbers : List ℕ) × ((n : ℕ) → Contains numbers n ↔ IsAccepted channel span section_form pid units begin n)
+        × IncludesIntact channel span pid units begin numbers
         × IsRecovered rows units fields frames numbers (ArrivedIntact channel span pid units begin) (delivered_by_frames timing rows (frame_sections rows pid span)) }
 {}
 
