@@ -14,6 +14,7 @@ pub mod Least
 pub mod Starts
 pub mod Walk
 pub mod Datagrams
+pub mod Erasures
 pub mod Numbers
 pub mod Units
 pub mod Accepted

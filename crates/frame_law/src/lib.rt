@@ -23,14 +23,14 @@ ghost use Rattle.slice_spec.specs.Sections.{Timing, indexed, sliced};
 ghost use Rattle.slice_spec.specs.Frames.{HasTiming};
 ghost use Rattle.frame_spec.specs.Sections.{FrameSection, TimedSection, frame_sections, sections_of_unit, times_of};
 ghost use Rattle.frame_spec.specs.Groups.{AreReceivedFrames, all_sections, is_cut_by_table, received_frames};
-ghost use Rattle.frame_spec.specs.Known.{first_told, known_byte, told_byte};
+ghost use Rattle.frame_spec.specs.Known.{IsErasure, first_told, known_byte, told_byte};
 ghost use Rattle.frame_spec.specs.Frame.{FrameFields, table_of, IsSentFrame, AreSentFrames};
 ghost use Rattle.frame_spec.specs.Corrected.{IsCorrection, IsRecoverable, byte_of_row, corrected_byte, corrected_row, lacks_data, unknown_columns};
 ghost use Rattle.frame_spec.specs.Starts.{IsDatagramStart, IsSectionEdge, IsTold, starts_below};
 ghost use Rattle.frame_spec.specs.Delivered.{delivered_by_frames, frame_datagrams};
 ghost use Rattle.frame_spec.specs.Carried.{AreFramesOf};
 ghost use Rattle.frame_law.specs.Kept.{AreAcceptedOften, AreKept, AreKeptOften, accepted_frames, moment_seen};
-ghost use Rattle.frame_law.specs.Recovered.{AreRecovered, IsRecovered, all_datagrams, own_datagrams};
+ghost use Rattle.frame_law.specs.Recovered.{AreRecovered, HasFewErasures, IsRecovered, all_datagrams, own_datagrams};
 ghost use Rattle.frame_law.specs.Summary.{IsSummaryOf, Summary, is_cut_by_summary, no_summary, summary_more};
 
 /// The received frames are the sent ones of which a section was accepted.
@@ -159,6 +159,18 @@ pub fn datagrams_of_a_service_are_recovered()
 pub fn more_sections_recover_more()
     ensures recoverable { (rows : ℕ) (group more : List FrameSection) → ((s : FrameSection) → Contains group s → Contains more s)
         → IsRecoverable rows group → IsRecoverable rows more }
+{}
+
+/// The erasures of a row are its unknown columns, each once. So a frame is recoverable exactly where each row has at most 64 erasures,
+/// and all its datagrams are found then, whatever else was accepted of it.
+pub fn erasures_are_the_unknown_columns()
+    ensures are { (rows : ℕ) (intact : List FrameSection) (r j : ℕ) → r < rows
+        → Contains (unknown_columns rows (known_byte rows intact) r) j ↔ IsErasure rows intact r j }
+    ensures rising { (rows : ℕ) (known : ℕ → Option ℕ) (r : ℕ) → IsRising 0 (unknown_columns rows known r) }
+    ensures few { (rows : ℕ) (intact : List FrameSection) → IsRecoverable rows intact ↔ ((r : ℕ) → r < rows → HasFewErasures rows intact r) }
+    ensures all { (rows : ℕ) (frame : FrameFields) (sections group intact : List FrameSection) → IsSentFrame rows frame sections → IsSubsequence group sections
+        → ((s : FrameSection) → Contains intact s → Contains group s) → ((r : ℕ) → r < rows → HasFewErasures rows intact r)
+        → frame_datagrams rows group ≡ frame.datagrams }
 {}
 
 /// What a table keeps of the sections of the frame under way: a summary tells whether the next one is cut, and each section
