@@ -9,6 +9,7 @@ pub mod OneParting
 pub mod Summary
 pub mod Completions
 pub mod Corrected
+pub mod Parity
 pub mod Runs
 pub mod Least
 pub mod Starts

@@ -6,6 +6,7 @@
 #![tactic(auto)]
 
 ghost use Rattle.std.specs.Prelude.{◌≡◌, ◌↔◌, ℕ, ◌+◌, ◌*◌, ◌<◌, ◌≤◌, Bool, List, [], ◌∷◌, ◌++◌, false, true, length, map, flat_map, slice_index, Contains, Option, None, Some};
+ghost use Rattle.wire_spec.specs.Bytes.{AreBytes};
 ghost use Rattle.wire_spec.specs.Lists.{IsSubsequence};
 ghost use Rattle.ts_spec.specs.Packetized.{IsIn, unit_at};
 ghost use Rattle.ts_spec.specs.Reassembly.{PlacedUnit};
@@ -26,6 +27,7 @@ ghost use Rattle.frame_spec.specs.Groups.{AreReceivedFrames, all_sections, is_cu
 ghost use Rattle.frame_spec.specs.Known.{IsErasure, first_told, known_byte, told_byte};
 ghost use Rattle.frame_spec.specs.Frame.{FrameFields, table_of, IsSentFrame, AreSentFrames};
 ghost use Rattle.frame_spec.specs.Corrected.{IsCorrection, IsRecoverable, byte_of_row, corrected_byte, corrected_row, lacks_data, unknown_columns};
+ghost use Rattle.frame_spec.specs.Sender.{row_parity};
 ghost use Rattle.frame_spec.specs.Starts.{IsDatagramStart, IsSectionEdge, IsTold, starts_below};
 ghost use Rattle.frame_spec.specs.Delivered.{delivered_by_frames, frame_datagrams};
 ghost use Rattle.frame_spec.specs.Carried.{AreFramesOf};
@@ -61,6 +63,12 @@ pub fn a_corrected_row_is_the_codeword_that_agrees()
     ensures agrees { (rows : ℕ) (known : ℕ → Option ℕ) (r : ℕ) (code : List ℕ) → corrected_row rows known r ≡ Some code ↔ IsCorrection rows known r code }
     ensures bytes { (rows : ℕ) (known : ℕ → Option ℕ) (r j : ℕ) → r < rows
         → corrected_byte rows known (j * rows + r) ≡ byte_of_row (corrected_row rows known r) j (known (j * rows + r)) }
+{}
+
+/// Parity is found for any 191 bytes: with it they are a codeword, and with nothing else.
+pub fn rows_have_parity()
+    ensures codeword { (row : List ℕ) → length row ≡ 191 → AreBytes row → IsCodeword (row ++ row_parity row) }
+    ensures only { (row parity : List ℕ) → length row ≡ 191 → IsCodeword (row ++ parity) → parity ≡ row_parity row }
 {}
 
 /// Each byte of the corrected rows is that of the sent table too; where no row has more than 64 unknown bytes, all bytes are known.
