@@ -6,6 +6,7 @@ pub mod Within
 pub mod Between
 pub mod Parting
 pub mod OneParting
+pub mod ClosedFrames
 pub mod Summary
 pub mod Completions
 pub mod Corrected

@@ -5,7 +5,8 @@
 //! Begin with `frames_stay_apart` and `datagrams_of_frames_are_recovered`.
 #![tactic(auto)]
 
-ghost use Rattle.std.specs.Prelude.{◌≡◌, ◌↔◌, ℕ, ◌+◌, ◌*◌, ◌<◌, ◌≤◌, Bool, List, [], ◌∷◌, ◌++◌, false, true, length, map, flat_map, slice_index, Contains, Option, None, Some};
+ghost use Rattle.std.specs.Prelude.{◌≡◌, ◌↔◌, ℕ, ◌+◌, ◌*◌, ◌<◌, ◌≤◌, Bool, List, [], ◌∷◌, ◌++◌, false, true, length, map, flat_map, slice_index, if◌then◌else◌, Contains, Option, None, Some};
+ghost use Rattle.std.specs.List.{list_any};
 ghost use Rattle.wire_spec.specs.Bytes.{AreBytes};
 ghost use Rattle.wire_spec.specs.Lists.{IsSubsequence};
 ghost use Rattle.ts_spec.specs.Packetized.{IsIn, unit_at};
@@ -22,8 +23,8 @@ ghost use Rattle.fec_spec.specs.Row.{Agrees, IsCorrectable};
 ghost use Rattle.section_spec.specs.Mpe.{MpeFields};
 ghost use Rattle.slice_spec.specs.Sections.{Timing, indexed, sliced};
 ghost use Rattle.slice_spec.specs.Frames.{HasTiming};
-ghost use Rattle.frame_spec.specs.Sections.{FrameSection, TimedSection, frame_sections, sections_of_unit, times_of};
-ghost use Rattle.frame_spec.specs.Groups.{AreReceivedFrames, all_sections, is_cut_by_table, received_frames};
+ghost use Rattle.frame_spec.specs.Sections.{FrameSection, TimedSection, ends_frame, frame_sections, sections_of, sections_of_unit, times_of};
+ghost use Rattle.frame_spec.specs.Groups.{AreReceivedFrames, all_sections, closed_frames, is_cut_by_table, received_frames};
 ghost use Rattle.frame_spec.specs.Known.{IsErasure, first_told, known_byte, told_byte};
 ghost use Rattle.frame_spec.specs.Frame.{FrameFields, table_of, IsSentFrame, AreSentFrames};
 ghost use Rattle.frame_spec.specs.Corrected.{IsCorrection, IsRecoverable, byte_of_row, corrected_byte, corrected_row, lacks_data, unknown_columns};
@@ -50,6 +51,16 @@ pub fn received_frames_part_the_sections()
     ensures parted { (timing : Timing) (rows : ℕ) (sections : List TimedSection) → AreReceivedFrames timing rows sections (received_frames timing rows sections) }
     ensures only { (timing : Timing) (rows : ℕ) (sections : List TimedSection) (frames : List (List TimedSection)) → AreReceivedFrames timing rows sections frames
         → received_frames timing rows sections ≡ frames }
+{}
+
+/// When no more sections can come all received frames are closed; until then all but the last, and it too where it has frame_boundary.
+/// Frames that are closed stay so when a section comes.
+pub fn closed_frames_stay_closed()
+    ensures ended { (frames : List (List TimedSection)) → closed_frames true frames ≡ frames }
+    ensures under_way { (frames : List (List TimedSection)) (last : List TimedSection)
+        → closed_frames false (frames ++ last ∷ []) ≡ (if list_any ends_frame (sections_of last) then frames ++ last ∷ [] else frames) }
+    ensures more { (timing : Timing) (rows : ℕ) (section : TimedSection) (sections : List TimedSection) → (others : List (List TimedSection))
+        × (closed_frames false (received_frames timing rows (sections ++ section ∷ [])) ≡ closed_frames false (received_frames timing rows sections) ++ others) }
 {}
 
 /// A byte that accepted sections of a frame tell is that of the sent table.
