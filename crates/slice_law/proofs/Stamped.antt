@@ -31,7 +31,8 @@ m2ts_stamp-written n packet = ap (λ (m : ℕ). m % 2 ^ 30) (four_bytes (n % 107
 one_more : (before n stamp : ℕ) → stamp ≡ n % 1073741824 → before ≤ n → n < before + 1073741824 → before + (stamp + 1073741824 - before % 1073741824) % 1073741824 ≡ n
 one_more before n stamp is le less = omega (arith, is, le, less)
 
-module _ (rate : ℕ) (above : 0 < rate) (piece : ℕ → List ℕ) (stamps : (s : ℕ) → m2ts_stamp (piece s) ≡ moment_of m2ts rate s % 2 ^ 30) where
+module _ (rate : ℕ) (above : 0 < rate) (piece : ℕ → List ℕ) (slots : ℕ)
+    (stamps : (s : ℕ) → s < slots → m2ts_stamp (piece s) ≡ moment_of m2ts rate s % 2 ^ 30) where
   -- from slot to slot the moments of an m2ts recording do not fall, and rise by a second at most
   near : (s : ℕ) → (moment_of m2ts rate s ≤ moment_of m2ts rate (s + 1)) × (moment_of m2ts rate (s + 1) < moment_of m2ts rate s + 2 ^ 30)
   near s =
@@ -40,15 +41,15 @@ module _ (rate : ℕ) (above : 0 < rate) (piece : ℕ → List ℕ) (stamps : (s
       let most : (s + 1) * 27000000 / rate ≤ s * 27000000 / rate + 27000000 = within_time 27000000 rate 27000000 s 1 (s + 1) above (omega (arith, above)) (omega arith) in
       (omega (arith, up), omega (arith, most))
 
-  next_is : (s : ℕ) → moment_behind (Some (moment_of m2ts rate s)) (m2ts_stamp (piece (s + 1))) ≡ moment_of m2ts rate (s + 1)
-  next_is s = one_more (moment_of m2ts rate s) (moment_of m2ts rate (s + 1)) (m2ts_stamp (piece (s + 1))) (stamps (s + 1)) (near s).0 (near s).1
+  next_is : (s : ℕ) → s + 1 < slots → moment_behind (Some (moment_of m2ts rate s)) (m2ts_stamp (piece (s + 1))) ≡ moment_of m2ts rate (s + 1)
+  next_is s within = one_more (moment_of m2ts rate s) (moment_of m2ts rate (s + 1)) (m2ts_stamp (piece (s + 1))) (stamps (s + 1) within) (near s).0 (near s).1
 
-  later : (n s : ℕ) → map (λ (r : Record). r.moment) (m2ts_records (Some (moment_of m2ts rate s)) (map piece (range_with_len (s + 1) n)))
+  later : (n s : ℕ) → s + 1 + n ≤ slots → map (λ (r : Record). r.moment) (m2ts_records (Some (moment_of m2ts rate s)) (map piece (range_with_len (s + 1) n)))
       ≡ map (λ (t : ℕ). Some (moment_of m2ts rate t)) (range_with_len (s + 1) n)
-  later zero s = refl
-  later (suc n) s =
-      ap (λ (m : ℕ). Some m ∷ map (λ (r : Record). r.moment) (m2ts_records (Some m) (map piece (range_with_len (s + 1 + 1) n)))) (next_is s)
-      ∙ ap (λ (moments : List (Option ℕ)). Some (moment_of m2ts rate (s + 1)) ∷ moments) (later n (s + 1))
+  later zero s within = refl
+  later (suc n) s within =
+      ap (λ (m : ℕ). Some m ∷ map (λ (r : Record). r.moment) (m2ts_records (Some m) (map piece (range_with_len (s + 1 + 1) n)))) (next_is s (omega (arith, within)))
+      ∙ ap (λ (moments : List (Option ℕ)). Some (moment_of m2ts rate (s + 1)) ∷ moments) (later n (s + 1) (omega (arith, within)))
 
   none_first : moment_of m2ts rate 0 ≡ 0
   none_first =
@@ -56,25 +57,28 @@ module _ (rate : ℕ) (above : 0 < rate) (piece : ℕ → List ℕ) (stamps : (s
       let same : 0 * 27000000 ≡ 0 * rate + 0 = omega (arith, none) in
       ap (λ (m : ℕ). m / rate) same ∙ div-mul-add 0 rate 0 above
 
-  first_is : m2ts_stamp (piece 0) ≡ moment_of m2ts rate 0
-  first_is = let none : moment_of m2ts rate 0 ≡ 0 = none_first in omega (arith, stamps 0, none)
+  first_is : 0 < slots → m2ts_stamp (piece 0) ≡ moment_of m2ts rate 0
+  first_is some = let none : moment_of m2ts rate 0 ≡ 0 = none_first in omega (arith, stamps 0 some, none)
 
-  pub m2ts_moments : (n : ℕ) → map (λ (r : Record). r.moment) (records_of m2ts (map piece (range_with_len 0 n)))
+  moments_within : (n : ℕ) → n ≤ slots → map (λ (r : Record). r.moment) (records_of m2ts (map piece (range_with_len 0 n)))
       ≡ map (λ (s : ℕ). Some (moment_of m2ts rate s)) (range_with_len 0 n)
-  m2ts_moments zero = refl
-  m2ts_moments (suc n) =
-      ap (λ (m : ℕ). Some m ∷ map (λ (r : Record). r.moment) (m2ts_records (Some m) (map piece (range_with_len 1 n)))) first_is
-      ∙ ap (λ (moments : List (Option ℕ)). Some (moment_of m2ts rate 0) ∷ moments) (later n 0)
+  moments_within zero within = refl
+  moments_within (suc n) within =
+      ap (λ (m : ℕ). Some m ∷ map (λ (r : Record). r.moment) (m2ts_records (Some m) (map piece (range_with_len 1 n)))) (first_is (omega (arith, within)))
+      ∙ ap (λ (moments : List (Option ℕ)). Some (moment_of m2ts rate 0) ∷ moments) (later n 0 (omega (arith, within)))
+
+  pub m2ts_moments : map (λ (r : Record). r.moment) (records_of m2ts (map piece (range_with_len 0 slots))) ≡ map (λ (s : ℕ). Some (moment_of m2ts rate s)) (range_with_len 0 slots)
+  m2ts_moments = moments_within slots (omega arith)
 
 pub stamped_moments : (rate : ℕ) (piece : ℕ → List ℕ) (n from : ℕ)
-    → ((s : ℕ) → s < from + n → (microseconds (piece s) ≡ moment_of stamped rate s) × (moment_of stamped rate s < 2 ^ 62))
+    → ((s : ℕ) → from ≤ s → s < from + n → (microseconds (piece s) ≡ moment_of stamped rate s) × (moment_of stamped rate s < 2 ^ 62))
     → map (λ (r : Record). r.moment) (records_of stamped (map piece (range_with_len from n))) ≡ map (λ (s : ℕ). Some (moment_of stamped rate s)) (range_with_len from n)
 stamped_moments rate piece zero from each = refl
 stamped_moments rate piece (suc n) from each =
-    ap₂ (λ (m : Option ℕ) (others : List (Option ℕ)). m ∷ others) moment_is (stamped_moments rate piece n (from + 1) (λ s less. each s (omega (arith, less))))
+    ap₂ (λ (m : Option ℕ) (others : List (Option ℕ)). m ∷ others) moment_is (stamped_moments rate piece n (from + 1) (λ s low less. each s (omega (arith, low)) (omega (arith, less))))
   where
     early : (microseconds (piece from) ≡ moment_of stamped rate from) × (moment_of stamped rate from < 2 ^ 62)
-    early = each from (omega arith)
+    early = each from (omega arith) (omega arith)
 
     moment_is : (stamped_record (piece from)).moment ≡ Some (moment_of stamped rate from)
     moment_is =
