@@ -55,23 +55,24 @@ module _ (cycle table : ℕ) (windows : List OwnedWindow) (sizes : ℕ → List 
           self : ltb table table ≡ false
           self = grind arith
 
-  -- a slot is kept for no service without a window
-  pub keeps_none_of : (k : ℕ) → ((o n : ℕ) → owner_of windows o ≡ Some (k, n) → ⊥) → (s p : ℕ) → kept_for_bursts cycle table windows sizes s ≡ Some (of_service k p) → ⊥
-  keeps_none_of k never s p e = by_table (ltb (s % cycle) table) (owner_of windows (s % cycle)) refl e
-    where
-      service_in : Option Slot → ℕ
-      service_in None = 0
-      service_in (Some (of_table n)) = 0
-      service_in (Some (of_service j n)) = j
-      service_in (Some empty) = 0
+-- a slot is kept for no service without a window
+pub keeps_none_of : (cycle table : ℕ) (windows : List OwnedWindow) (sizes : ℕ → List ℕ) (k : ℕ) → ((o n : ℕ) → owner_of windows o ≡ Some (k, n) → ⊥)
+    → (s p : ℕ) → kept_for_bursts cycle table windows sizes s ≡ Some (of_service k p) → ⊥
+keeps_none_of cycle table windows sizes k never s p e = by_table (ltb (s % cycle) table) (owner_of windows (s % cycle)) refl e
+  where
+    service_in : Option Slot → ℕ
+    service_in None = 0
+    service_in (Some (of_table n)) = 0
+    service_in (Some (of_service j n)) = j
+    service_in (Some empty) = 0
 
-      by_held : (j n : ℕ) → owner_of windows (s % cycle) ≡ Some (j, n) → (more : Bool)
-          → cond more (Some (of_service j (out_before (sizes j) (s / cycle) + n))) None ≡ Some (of_service k p) → ⊥
-      by_held j n is false e2 = absurd (cc)
-      by_held j n is true e2 = let same : j ≡ k = ap service_in e2 in never (s % cycle) n (is ∙ ap (λ (i : ℕ). Some (i, n)) same)
+    by_held : (j n : ℕ) → owner_of windows (s % cycle) ≡ Some (j, n) → (more : Bool)
+        → cond more (Some (of_service j (out_before (sizes j) (s / cycle) + n))) None ≡ Some (of_service k p) → ⊥
+    by_held j n is false e2 = absurd (cc)
+    by_held j n is true e2 = let same : j ≡ k = ap service_in e2 in never (s % cycle) n (is ∙ ap (λ (i : ℕ). Some (i, n)) same)
 
-      by_table : (early : Bool) (owner : Option (ℕ × ℕ)) → owner_of windows (s % cycle) ≡ owner
-          → option_or (cond early (Some (of_table (s % cycle))) None) (of_owner sizes (s / cycle) owner) ≡ Some (of_service k p) → ⊥
-      by_table true owner is e2 = absurd (cc)
-      by_table false None is e2 = absurd (cc)
-      by_table false (Some owner) is e2 = by_held owner.0 owner.1 is (ltb owner.1 (slice_index (sizes owner.0) (s / cycle))) e2
+    by_table : (early : Bool) (owner : Option (ℕ × ℕ)) → owner_of windows (s % cycle) ≡ owner
+        → option_or (cond early (Some (of_table (s % cycle))) None) (of_owner sizes (s / cycle) owner) ≡ Some (of_service k p) → ⊥
+    by_table true owner is e2 = absurd (cc)
+    by_table false None is e2 = absurd (cc)
+    by_table false (Some owner) is e2 = by_held owner.0 owner.1 is (ltb owner.1 (slice_index (sizes owner.0) (s / cycle))) e2

@@ -30,6 +30,5 @@ pub fn bursts_leave_slots()
         → (s : ℕ) → (free : ℕ) × (s ≤ free) × (kept_for_bursts plan.cycle (table_packets plan) (windows_of plan) sizes free ≡ None) }
     ensures over { (plan : PlanFields) → is_plan plan ≡ true → (sizes : ℕ → List ℕ) (cycles : ℕ) → AreWithin cycles sizes
         → (s : ℕ) (slot : Slot) → cycles * plan.cycle ≤ s → kept_for_bursts plan.cycle (table_packets plan) (windows_of plan) sizes s ≡ Some slot → is_of_service slot ≡ false }
-    ensures unsliced { (plan : PlanFields) → is_plan plan ≡ true → (sizes : ℕ → List ℕ) (cycles : ℕ) → AreWithin cycles sizes
-        → (k : ℕ) → sliced_of (kind_at plan k) ≡ None → (s n : ℕ) → kept_for_bursts plan.cycle (table_packets plan) (windows_of plan) sizes s ≡ Some (of_service k n) → ⊥ }
+    ensures unsliced { (plan : PlanFields) → is_plan plan ≡ true → (sizes : ℕ → List ℕ) (k : ℕ) → sliced_of (kind_at plan k) ≡ None → (s n : ℕ) → kept_for_bursts plan.cycle (table_packets plan) (windows_of plan) sizes s ≡ Some (of_service k n) → ⊥ }
 {}

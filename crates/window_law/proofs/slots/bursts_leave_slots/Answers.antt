@@ -18,6 +18,6 @@ pub returns-clause-over : goal.returns-clause-over
 returns-clause-over c = λ plan accepted sizes cycles are. keeps_none plan.cycle (table_packets plan) (windows_of plan) sizes cycles are (shorter plan accepted)
 
 pub returns-clause-unsliced : goal.returns-clause-unsliced
-returns-clause-unsliced c = λ plan accepted sizes cycles are k none.
-    keeps_none_of plan.cycle (table_packets plan) (windows_of plan) sizes cycles are (shorter plan accepted) k
+returns-clause-unsliced c = λ plan accepted sizes k none.
+    keeps_none_of plan.cycle (table_packets plan) (windows_of plan) sizes k
     (λ o n e. not_both (owner_is plan accepted o k n e).0 (sliced_of (kind_at plan k)) (owner_is plan accepted o k n e).1 none)
