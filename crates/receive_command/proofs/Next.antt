@@ -41,6 +41,7 @@ given_next plan first input mid now rack mid_rack now_rack reader now_reader rec
       record {
         form = read.form ∙ given.form;
         stands = read.stands;
+        unended = read.has_ended ∙ given.unended;
         consumed = consumed_more input.left mid.left now.left pieces read.piece given.consumed read.takes.bytes_are;
         taken = taken_more (record_size plan.recording) input.taken mid.taken now.taken pieces read.piece size given.taken read.takes.rose;
         going = λ e. going (given.going e);

@@ -78,6 +78,7 @@ pub record ReadsToStop (plan : PlanFields) (left now : Option (List ℕ)) (old n
 pub record HasGiven (plan : PlanFields) (first : ℕ) (input now : InputTold) (rack now_rack : RackTold) (reader : ReaderState) (receiver : ReceiverState) (pieces : List (List ℕ)) : Type 0 where
   pub form : reader.form ≡ plan.recording
   pub stands : ReaderOf reader pieces
+  pub unended : reader.has_ended ≡ false
   pub consumed : Consumes input.left now.left (joined pieces)
   pub taken : now.taken ≡ raised input.taken (record_size plan.recording * length pieces)
   pub going : input.ended ≡ false → now.ended ≡ false

@@ -38,6 +38,7 @@ reads_piece reader now_reader left now_left taken now_taken pieces piece stamp p
       };
       form = refl;
       tail = refl;
+      has_ended = refl;
     })
 
 -- a stamp and a packet were filled

@@ -23,21 +23,23 @@ record_seen r = record { moment = r.moment; bytes = r.bytes }
 abbrev pub lent_seen : lent.LentRecord → Record
 lent_seen r = record { moment = r.moment; bytes = r.bytes.now }
 
--- a reader: how many records were read, the moment of the last, the bytes left over at the end, whether it may be asked
+-- a reader: how many records were read, the moment of the last, the bytes left over at the end, whether it has seen the end,
+-- whether it may be asked
 pub record ReaderState : Type 0 where
   pub form : RecordingForm
   pub count : ℕ
   pub before : Option ℕ
   pub tail : ℕ
+  pub has_ended : Bool
   pub is_open : Bool
 
 -- the same reader after a fault
 abbrev pub closed : ReaderState → ReaderState
-closed reader = record { form = reader.form; count = reader.count; before = reader.before; tail = reader.tail; is_open = false }
+closed reader = record { form = reader.form; count = reader.count; before = reader.before; tail = reader.tail; has_ended = reader.has_ended; is_open = false }
 
 -- the same reader after one record more, of this moment
 abbrev pub stepped : ReaderState → Option ℕ → ReaderState
-stepped reader moment = record { form = reader.form; count = reader.count + 1; before = moment; tail = reader.tail; is_open = reader.is_open }
+stepped reader moment = record { form = reader.form; count = reader.count + 1; before = moment; tail = reader.tail; has_ended = reader.has_ended; is_open = reader.is_open }
 
 -- the moment of the last record, where it has one
 abbrev pub last_moment : Option ℕ → List Record → Option ℕ
@@ -65,6 +67,7 @@ pub record ReadsRecord (reader now_reader : ReaderState) (left now_left : Option
   pub stands : ReaderOf now_reader (pieces ++ piece ∷ [])
   pub form : now_reader.form ≡ reader.form
   pub tail : now_reader.tail ≡ reader.tail
+  pub has_ended : now_reader.has_ended ≡ reader.has_ended
 
 -- the next record was lent: one piece more was taken, and it gives this record, and the source neither ended nor failed;
 -- where none was lent, all is as it was
@@ -83,6 +86,7 @@ pub record ReadsEnd (reader now_reader : ReaderState) (left now_left : Option (L
   pub stands : ReaderOf now_reader pieces
   pub form : now_reader.form ≡ reader.form
   pub tail : now_reader.tail ≡ length bytes
+  pub has_ended : now_reader.has_ended ≡ true
 
 -- the moment that a record of a piece has after one with the moment before
 abbrev pub moment_in : RecordingForm → Option ℕ → List ℕ → Option ℕ

@@ -1,5 +1,5 @@
 //! The reader of records: it takes one record's bytes at a time, and keeps the last moment.
-ghost use Rattle.std.specs.Prelude.{◌≡◌, ◌↔◌, ℕ, ◌^◌, ◌<◌, ◌≤◌, true, false, List, [], Ok, IfOk, IfSome, IfNone, OnOk, OnErr, IsErrOf, IsTrue, length};
+ghost use Rattle.std.specs.Prelude.{◌≡◌, ◌↔◌, ℕ, ◌^◌, ◌<◌, ◌≤◌, true, false, List, [], None, Ok, IfOk, IfSome, IfNone, OnOk, OnErr, IsErrOf, IsTrue, length};
 ghost use Rattle.wire_spec.specs.Causes.{Rose};
 ghost use Rattle.ts_spec.specs.Recording.{record_size, stamp_size as size_of_stamp};
 ghost use Rattle.ts_record.specs.Reading.{form_of, record_seen, moment_in, stepped, ReaderOf, TakesBytes, ReadsRecord, ReadsEnd, closed};
@@ -32,19 +32,20 @@ pub struct RecordReader {
     count: u64,
     before: Option<u64>,
     tail: u32,
+    has_ended: bool,
     is_open: bool,
 }
 
 impl Model for RecordReader {
-    ghost use Rattle.std.specs.Prelude.{ℕ, ◌+◌, ◌*◌, ◌≤◌, ◌^◌};
+    ghost use Rattle.std.specs.Prelude.{ℕ, ◌+◌, ◌*◌, ◌≡◌, ◌<◌, ◌≤◌, ◌^◌, true};
     ghost use Rattle.std.specs.Option.{ForSome};
     ghost use Rattle.ts_record.specs.Reading.{ReaderState, form_of};
 
     ghost Value = { ReaderState };
 
-    ghost view = { λ r. record { form = form_of r.recording; count = r.count; before = r.before; tail = r.tail; is_open = r.is_open } };
+    ghost view = { λ r. record { form = form_of r.recording; count = r.count; before = r.before; tail = r.tail; has_ended = r.has_ended; is_open = r.is_open } };
 
-    ghost invariant = { λ r. (r.count ≤ 2 ^ 32) × ForSome r.before (λ m. m ≤ 2 ^ 62 + r.count * 2 ^ 30) };
+    ghost invariant = { λ r. (r.count ≤ 2 ^ 32) × (r.has_ended ≡ true → r.count < 2 ^ 32) × ForSome r.before (λ m. m ≤ 2 ^ 62 + r.count * 2 ^ 30) };
 }
 
 impl RecordReader {
@@ -53,17 +54,21 @@ impl RecordReader {
         ensures form { result.form ≡ form_of recording }
         ensures stands { ReaderOf result [] }
         ensures tail { result.tail ≡ 0 }
+        ensures unended { result.has_ended ≡ false }
     {
         RecordReader {
             recording,
             count: 0,
             before: None,
             tail: 0,
+            has_ended: false,
             is_open: true,
         }
     }
 
     /// Reads the next record, or None at the end of the input, where fewer bytes than a record may be left over.
+    ///
+    /// After None it answers None again: it reads nothing more, also from a source that would go on, and the tail stays.
     ///
     /// `Failed`: the source failed, where fewer than 2^32 records were read before. `TooLong`: so many were read before;
     /// nothing is taken from the source.
@@ -74,11 +79,12 @@ impl RecordReader {
             → IfOk result (λ it. IfSome it (λ r.
             ReadsRecord self.old self.new (S.told source.old).left (S.told source.new).left
             (S.told source.old).taken (S.told source.new).taken pieces (record_seen r))) }
-        ensures end { (pieces : List (List ℕ)) → ReaderOf self.old pieces
+        ensures end { (pieces : List (List ℕ)) → ReaderOf self.old pieces → self.old.has_ended ≡ false
             → IfOk result (λ it. IfNone it (
             ReadsEnd self.old self.new (S.told source.old).left (S.told source.new).left
             (S.told source.old).taken (S.told source.new).taken pieces)) }
-        ensures ended { IfOk result (λ it. IfNone it ((S.told source.new).ended ≡ true)) }
+        ensures ended { self.old.has_ended ≡ false → IfOk result (λ it. IfNone it ((S.told source.new).ended ≡ true)) }
+        ensures again { self.old.has_ended ≡ true → (result ≡ Ok None) × (self.new ≡ self.old) × (source.new ≡ source.old) }
         ensures unended { IfOk result (λ it. IfSome it (λ r. (S.told source.old).ended ≡ false → (S.told source.new).ended ≡ false)) }
         ensures few { OnOk result (self.old.count < 2 ^ 32) }
         ensures too_long { IsErrOf result RecordFault.TooLong ↔ (self.old.count ≡ 2 ^ 32) }
@@ -117,10 +123,11 @@ impl RecordReader {
         ensures read { (pieces : List (List ℕ)) → ReaderOf self.old pieces → result ≡ Ok true
             → ReadsRecord self.old self.new (S.told source.old).left (S.told source.new).left
             (S.told source.old).taken (S.told source.new).taken pieces (record_seen into.new) }
-        ensures end { (pieces : List (List ℕ)) → ReaderOf self.old pieces → result ≡ Ok false
+        ensures end { (pieces : List (List ℕ)) → ReaderOf self.old pieces → self.old.has_ended ≡ false → result ≡ Ok false
             → ReadsEnd self.old self.new (S.told source.old).left (S.told source.new).left
             (S.told source.old).taken (S.told source.new).taken pieces }
-        ensures ended { result ≡ Ok false → (S.told source.new).ended ≡ true }
+        ensures ended { self.old.has_ended ≡ false → result ≡ Ok false → (S.told source.new).ended ≡ true }
+        ensures again { self.old.has_ended ≡ true → (result ≡ Ok false) × (self.new ≡ self.old) × (source.new ≡ source.old) }
         ensures unended { result ≡ Ok true → (S.told source.old).ended ≡ false → (S.told source.new).ended ≡ false }
         ensures few { OnOk result (self.old.count < 2 ^ 32) }
         ensures too_long { IsErrOf result RecordFault.TooLong ↔ (self.old.count ≡ 2 ^ 32) }
@@ -136,6 +143,9 @@ impl RecordReader {
         ensures kept { ¬ IsErrOf result RecordFault.Failed → (S.told source.new).faults ≡ (S.told source.old).faults }
         ensures closed { OnErr result (self.new ≡ closed self.old) }
     {
+        if self.has_ended {
+            return Ok(false);
+        }
         if !self.has_room() {
             self.is_open = false;
             return Err(RecordFault::TooLong);
@@ -148,6 +158,7 @@ impl RecordReader {
         };
         if count < stamp.len() + PACKET {
             self.tail = count as u32;
+            self.has_ended = true;
             return Ok(false);
         }
         into.moment = self.step(stamp);
@@ -161,6 +172,13 @@ impl RecordReader {
         stamp_size(self.recording) + PACKET
     }
 
+    /// Whether it has seen the end of the input.
+    pub(crate) fn has_ended(&self) -> bool
+        ensures { result ≡ self.now.has_ended }
+    {
+        self.has_ended
+    }
+
     /// Whether fewer than 2^32 records were read.
     pub(crate) fn has_room(&self) -> bool
         ensures { IsTrue result ↔ (self.now.count < 2 ^ 32) }
@@ -172,6 +190,7 @@ impl RecordReader {
     pub(crate) fn step(&mut self, stamp: &[u8]) -> Option<u64>
         requires size { length stamp.now ≡ size_of_stamp self.old.form }
         requires few { self.old.count < 2 ^ 32 }
+        requires unended { self.old.has_ended ≡ false }
         ensures moment { result ≡ moment_in self.old.form self.old.before stamp.now }
         ensures stepped { self.new ≡ stepped self.old result }
     {

@@ -74,6 +74,11 @@ fn records_have_moments_and_the_rest_is_the_tail(rt: HostRuntime) -> Result<(), 
             "{recording:?}"
         );
         assert_eq!(rt; reader.tail() as usize, tail, "{recording:?}");
+        // asked again it reads nothing, also of a source that has a record more
+        let mut more = MemSource::new(alloc, &[0; 196], 100, &[])?;
+        assert!(rt; reader.is_open());
+        assert!(rt; matches!(reader.next(&mut more), Ok(None)), "{recording:?}");
+        assert_eq!(rt; reader.tail() as usize, tail, "{recording:?}");
     }
     Ok(())
 }

@@ -54,7 +54,7 @@ returns-then-not-branch-clause-all g c = λ plan before files pieces given e.
     let ended = ap (λ more. Ok more) c.if-not-branch.true in
     given_all plan c.args.first before (g.I.Source.told c.lend_record.follows.lender-at-none) (g.I.Source.told c.next_into.new.source) files (g.R.Rack.told c.args.rack.now)
     c.lend_record.new.reader c.next_into.new.self c.args.receiver.now pieces still c.in_ok-next_into.ensures.few
-    (c.in_ok-next_into.ensures.end pieces still.stands ended) (c.in_ok-next_into.ensures.ended ended) (c.in_ok-next_into.ensures.kept (λ e. false≢true (sym (ap is_ok e))))
+    (c.in_ok-next_into.ensures.end pieces still.stands still.unended ended) (c.in_ok-next_into.ensures.ended still.unended ended) (c.in_ok-next_into.ensures.kept (λ e. false≢true (sym (ap is_ok e))))
 
 pub returns-in_err-next_into-clause-source : goal.returns-in_err-next_into-clause-source
 returns-in_err-next_into-clause-source g c = λ plan before files pieces given e.

@@ -12,5 +12,5 @@ returns g c =
         λ pieces stands. lends_piece c.args.reader.now _ _ _ pieces c.in_ok-piece.piece.now c.in-Some.stamp.now c.in-Some.bytes.now c.step-moment.result
             (c.in_ok-piece.ensures.size ∙ c.record_size.ensures) c.in-Some.ensures.cases.0 c.in-Some.ensures.cases.1 c.step-moment.ensures.moment c.step-moment.ensures.stepped stands lent,
       ),
-      record { few = search rules; none = tt; after_borrow = tt },
+      record { few = search rules; unended = search rules; none = tt; after_borrow = tt },
     )
