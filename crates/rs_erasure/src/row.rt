@@ -3,6 +3,7 @@
 ghost use Rattle.fec_spec.specs.Codeword.{IsCodeword};
 ghost use Rattle.fec_spec.specs.Row.{Agrees, HasCodeword, IsCorrectable, IsCorrected, is_among};
 ghost use Rattle.std.specs.List.{All};
+ghost use Rattle.std.specs.List.Sorted.{IsStrictlyIncreasing};
 ghost use Rattle.std.specs.Prelude.{◌<◌, ◌≡◌, ◌≢◌, ◌≤◌, ◌↔◌, ℕ, if◌then◌else◌, length, slice_index};
 
 use crate::values::{has_zeros, values_of};
@@ -33,9 +34,12 @@ fn cleared(row: &[u8; 255], unknown: &[u8]) -> [u8; 255]
     clear
 }
 
-/// Fills the unknown places of a row, each 0 to 254, by the one codeword that agrees with the others (EN 301 192 clause 9).
+/// Fills the unknown places of a row by the one codeword that agrees with the others (EN 301 192 clause 9).
+///
+/// The places rise, each 0 to 254: each is listed once, so that their number is that of the unknown bytes.
 pub fn decode_row(row: &mut [u8; 255], unknown: &ArrayVec<u8, 255>) -> RowAnswer
-    requires { All (λ p. p < 255) unknown.now.items }
+    requires rising { IsStrictlyIncreasing unknown.now.items }
+    requires low { All (λ p. p < 255) unknown.now.items }
     ensures too_many { result ≡ RowAnswer.TooMany ↔ (64 < length unknown.now.items) }
     ensures done { result ≡ RowAnswer.Done → IsCodeword row.new × Agrees unknown.now.items row.old row.new }
     ensures inconsistent { result ≡ RowAnswer.Inconsistent ↔ ((length unknown.now.items ≤ 64) × (HasCodeword unknown.now.items row.old → ⊥)) }

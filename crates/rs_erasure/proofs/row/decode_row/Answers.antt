@@ -48,7 +48,7 @@ returns-else-has_zeros-clause-inconsistent c =
         few,
         λ h.
             let same : c.filled-full.result ≡ h.0 =
-            filled_is c.args.row.now c.cleared-clear.result c.filled-full.result c.args.unknown.now.items h.0 (λ m. get_or c.values_of-values.result m 0) is c.requires few h.1 h.2 in
+            filled_is c.args.row.now c.cleared-clear.result c.filled-full.result c.args.unknown.now.items h.0 (λ m. get_or c.values_of-values.result m 0) is c.requires.low few h.1 h.2 in
             worse.2 (ap (λ r. row_value (field_power 2 worse.0) r) same ∙ h.1.zeros worse.0 worse.1),
       ),
       λ p. refl,
