@@ -34,6 +34,7 @@ impl<'c, 'f, 'o, K: UnitReader, T: Outlet> Listener for ServiceListener<'c, 'f, 
         (record { counts = new.counts.now; filter = new.filter.now; number = new.service; outlet = new.outlet.now; went = new.result })
         × (new.counts.ghost_name ≡ old.counts.ghost_name) × (new.outlet.ghost_name ≡ old.outlet.ghost_name) };
 
+    #[inline(always)]
     fn hear(&mut self, event: &JoinEvent<'_>) {
         self.counts.count_event(event);
         if let JoinEvent::Unit { moment: _, bytes } = event {
