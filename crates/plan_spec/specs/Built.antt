@@ -1,4 +1,4 @@
--- What is built so far, for each direction: a kind may be sent before it can be received; and what settings may have. Profile: all of it.
+-- What is built so far, for each direction: a kind may be sent before it can be received. Profile: all of it.
 use Rattle.std.specs.Prelude.{Bool, true, false}
 use Rattle.std.specs.List.{list_all}
 use Rattle.plan_spec.specs.Plan.{KindFields, ule, mpe, fec, gse, PlanFields, kinds}
@@ -23,7 +23,3 @@ are_sent plan = list_all is_sent (kinds plan)
 
 abbrev pub are_received : PlanFields → Bool
 are_received plan = list_all is_received (kinds plan)
-
--- settings may have what changes a plan
-abbrev pub reads_changes : Bool
-reads_changes = false

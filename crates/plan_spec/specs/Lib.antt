@@ -2,6 +2,7 @@ pub mod Plan
 pub mod Checks
 pub mod Signalling
 pub mod Changes
+pub mod Bytes
 pub mod Valid
 pub mod Wholes
 pub mod InForce
