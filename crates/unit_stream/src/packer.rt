@@ -186,14 +186,34 @@ impl<F: UnitForm> Packer<F> {
         ensures on_way { (ends : List ℕ) → IsOnWay result ends }
         ensures kept { (result.pid ≡ pid) × (result.packing ≡ packing) × (result.counter ≡ 0) }
     {
+        Packer::with_counter(pid, packing, 0)
+    }
+
+    /// A packer whose first packet has this counter, 0 to 15, as where a PID goes on; the PID is 0 to 8191.
+    pub fn with_counter(pid: u16, packing: bool, counter: u8) -> Packer<F>
+        requires pid { pid ≤ 8191 }
+        requires counter { counter ≤ 15 }
+        ensures begins { (bytes ends : List ℕ) → packets_left F.form result bytes ends
+            ≡ packetized F.form packing pid counter (units_of bytes ends) }
+        ensures on_way { (ends : List ℕ) → IsOnWay result ends }
+        ensures kept { (result.pid ≡ pid) × (result.packing ≡ packing) × (result.counter ≡ counter) }
+    {
         Packer {
             pid,
             packing,
-            counter: 0,
+            counter,
             begun: 0,
             at: 0,
             form: PhantomData,
         }
+    }
+
+    /// The counter of the next packet, 0 to 15.
+    pub fn counter(&self) -> u8
+        ensures read { result ≡ self.now.counter }
+        ensures below { result ≤ 15 }
+    {
+        self.counter
     }
 
     /// How many bytes of all units are out.
