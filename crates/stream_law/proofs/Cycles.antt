@@ -7,12 +7,7 @@ use Rattle.std.proofs.lemmas.Grind.{flat_map-append}
 use Rattle.std.proofs.lemmas.Nat.{mod-mul-add, div-mul-add, div-add-mod'}
 use Rattle.std.proofs.Math.Nat.{add-mul, add-div_right, mod-lt}
 use Rattle.stream_law.specs.Words.{begun_cycles}
-
-range_append : (a m n b : ℕ) → b ≡ a + m → range_with_len a (m + n) ≡ range_with_len a m ++ range_with_len b n
-range_append a zero n b e = let same : b ≡ a = omega (arith, e) in let none : 0 + n ≡ n = omega arith in ap (range_with_len a) none ∙ ap (λ (i : ℕ). range_with_len i n) (sym same)
-range_append a (suc m) n b e =
-    let next : suc m + n ≡ suc (m + n) = omega arith in
-    ap (range_with_len a) next ∙ ap (λ (t : List ℕ). a ∷ t) (range_append (a + 1) m n b (omega (arith, e)))
+use Rattle.stream_law.proofs.Ranges.{range_append}
 
 module _ {X : Type 0} (cycle table : ℕ) (less : table < cycle) (item : ℕ → ℕ → X) where
   -- what slot s gives: an item of its cycle, in one of the first slots

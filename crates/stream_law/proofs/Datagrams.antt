@@ -8,7 +8,7 @@ use Rattle.ip_datagram.specs.declared.address.IpAddress.TheVariants.{V4, V6}
 use Rattle.addr_rules.specs.Macs.{broadcast_mac, ipv4_group_mac, ipv6_group_mac, is_ipv4_group, mac_of_address}
 use Rattle.ts_spec.specs.Chain.{chain_end, datagram_at}
 use Rattle.stream_spec.specs.Units.{mac_for}
-use Rattle.stream_law.specs.Words.{IsMac}
+use Rattle.plan_spec.specs.Bytes.{IsMac}
 
 so_eqb : (a b : ℕ) → a ≡ b → eqb a b ≡ true
 so_eqb a b e = grind (arith, e)

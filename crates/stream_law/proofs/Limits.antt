@@ -1,8 +1,9 @@
 -- A stream of what a capture gives has a moment in each slot.
-use Rattle.std.proofs.Common.{◌≡◌, ℕ, zero, suc, ◌+◌, ◌-◌, ◌*◌, ◌/◌, ◌<◌, ◌≤◌, Bool, true, false, cond, eqb, get_or, List, [], ◌∷◌, ◌++◌, length, map, drop, refl, ap, ◌∙◌, arith, Option, Some, None}
+use Rattle.std.proofs.Common.{◌≡◌, ℕ, zero, suc, ◌+◌, ◌-◌, ◌*◌, ◌/◌, ◌%◌, ◌<◌, ◌≤◌, Bool, true, false, cond, eqb, get_or, List, [], ◌∷◌, ◌++◌, length, map, drop, refl, ap, ◌∙◌, arith, Option, Some, None}
 use Rattle.std.specs.Prelude.{filter, slice_index_or, All, sum_by}
 use Rattle.std.specs.Int.{w32, to_be_bytes}
 use Rattle.std.proofs.lemmas.List.{length-append, length-map}
+use Rattle.std.proofs.lemmas.Nat.{div-add-mod', mul-le}
 use Rattle.std.proofs.Math.Nat.{add-mul, div-le_self}
 use Rattle.ts_spec.specs.Form.{UnitForm}
 use Rattle.ts_spec.specs.Packet.{PacketFields}
@@ -18,16 +19,24 @@ use Rattle.int_spec.specs.Table.{table_bytes, IsRule}
 use Rattle.plan_spec.specs.Plan.{KindFields, ule, mpe, fec, gse, ServiceFields, IntFields, PlanFields, rule_lists}
 use Rattle.plan_spec.specs.Signalling.{table_of, packets_of_table, table_packets}
 use Rattle.plan_spec.specs.Valid.{is_plan}
-use Rattle.plan_spec.specs.Offered.{datagrams as datagrams_of, service_of_datagram, is_offered_to, offered}
+use Rattle.plan_spec.specs.Changes.{plan_in, records_of_version}
+use Rattle.plan_spec.specs.Wholes.{is_whole_plan}
+use Rattle.plan_spec.specs.Offered.{datagrams as datagrams_of, service_of_datagram, is_offered_to, offered_in}
 use Rattle.stream_spec.specs.Services.{kind_at}
 use Rattle.stream_spec.specs.Slots.{IsSlotCount}
 use Rattle.stream_spec.specs.Units.{mac_for, sndu_of, section_of, packets_of_kind}
 use Rattle.wire_spec.specs.Datagram.{ether_type_of}
-use Rattle.stream_spec.specs.Stream.{service_packets, packet_counts, slot_in}
-use Rattle.stream_law.specs.Words.{IsMac, IsOfBytes, IsByteDatagram, IsWithinLimits, HasMoment}
+use Rattle.stream_spec.specs.Parts.{PartFields, service_packets, packet_counts, slot_in}
+use Rattle.stream_spec.specs.Stream.{part_of, is_last, whole_cycles, IsPartCount}
+use Rattle.plan_spec.specs.Bytes.{IsMac, IsOfBytes, AreOfBytes}
+use Rattle.stream_law.specs.Words.{IsByteDatagram, IsWithinLimits, HasMoment, HaveMoments, records_before}
 use Rattle.stream_law.proofs.Datagrams.{mac_for_is}
 use Rattle.stream_law.proofs.Ends.{total}
-use Rattle.stream_law.proofs.Units.{IsTaken, AreTaken, packets_at, offered_taken}
+use Rattle.stream_law.proofs.Ranges.{sum_most}
+use Rattle.stream_law.proofs.Sent.{packets_at}
+use Rattle.stream_law.proofs.Units.{IsTaken, AreTaken}
+use Rattle.stream_law.proofs.Versions.{limits_of_version, taken_in_version}
+use Rattle.stream_law.proofs.Wholes.{few_changes, version_accepted}
 use Rattle.stream_law.proofs.OnPid.{length-packets_from}
 use Rattle.stream_law.proofs.Plans.{at_most, at_least, ranges, sendable, few_services, few_rules}
 use Rattle.stream_law.proofs.TableSizes.{table_size}
@@ -87,17 +96,17 @@ module _ (unicast : List ℕ) (is_mac : IsMac unicast) where
   units_size kind unit each [] taken = omega arith
   units_size kind unit each (datagram ∷ datagrams) taken = omega (arith, each datagram taken.0, units_size kind unit each datagrams taken.1)
 
-  kind_most : (kind : KindFields) (datagrams : List (List ℕ)) → AreTaken kind datagrams → length (packets_of_kind kind unicast datagrams) ≤ byte_count datagrams + 16 * length datagrams
-  kind_most (ule pid address packing) datagrams taken =
+  kind_most : (kind : KindFields) (counter : ℕ) (datagrams : List (List ℕ)) → AreTaken kind datagrams → length (packets_of_kind kind unicast counter datagrams) ≤ byte_count datagrams + 16 * length datagrams
+  kind_most (ule pid address packing) counter datagrams taken =
       omega (
         arith,
-        packets_most sndu_form packing pid 0 (map (sndu_of address unicast) datagrams),
+        packets_most sndu_form packing pid counter (map (sndu_of address unicast) datagrams),
         units_size (ule pid address packing) (sndu_of address unicast) (of_sndu (ule pid address packing) address) datagrams taken,
       )
-  kind_most (mpe pid) datagrams taken =
-      omega (arith, packets_most section_form true pid 0 (map (section_of unicast) datagrams), units_size (mpe pid) (section_of unicast) (of_section (mpe pid)) datagrams taken)
-  kind_most (fec pid rows parity window) datagrams taken = omega arith
-  kind_most (gse isi address) datagrams taken = omega arith
+  kind_most (mpe pid) counter datagrams taken =
+      omega (arith, packets_most section_form true pid counter (map (section_of unicast) datagrams), units_size (mpe pid) (section_of unicast) (of_section (mpe pid)) datagrams taken)
+  kind_most (fec pid rows parity window) counter datagrams taken = omega arith
+  kind_most (gse isi address) counter datagrams taken = omega arith
 
 -- some of the datagrams are not more than all
 filtered_most : (test : List ℕ → Bool) (datagrams : List (List ℕ)) → (byte_count (filter test datagrams) ≤ byte_count datagrams) × (length (filter test datagrams) ≤ length datagrams)
@@ -138,45 +147,83 @@ few_packets plan services rules all = omega (arith, unfolding_table plan, of_tab
         few : (n : ℕ) → n ≤ 3730 → (1 + n + 183) / 184 ≤ 21
         few n le = omega (arith, le)
 
-module _ (plan : PlanFields) (accepted : is_plan plan ≡ true) (of_bytes : IsOfBytes plan) (gives : List (Option (List ℕ))) (are : All IsByteDatagram (datagrams_of gives))
-    (limits : IsWithinLimits (datagrams_of gives)) (slots : ℕ) (count : IsSlotCount (slot_in plan (service_packets plan (offered plan gives))) slots) where
+-- One part: each service has no more datagrams than a capture.
+module _ (part : PartFields) (accepted : is_plan part.plan ≡ true) (of_bytes : IsOfBytes part.plan) (taken : (k : ℕ) → AreTaken (kind_at part.plan k) (part.datagrams k))
+    (few : (k : ℕ) → byte_count (part.datagrams k) + 16 * length (part.datagrams k) ≤ 335544320) (least : ℕ) (count : IsSlotCount (slot_in part) least) where
   -- of each service
-  service_most : (k : ℕ) → k < length (service_packets plan (offered plan gives)) → length (slice_index_or (service_packets plan (offered plan gives)) k []) ≤ 335544320
+  service_most : (k : ℕ) → k < length (service_packets part) → length (slice_index_or (service_packets part) k []) ≤ 335544320
   service_most k less =
-      let known : k < length plan.services = omega (arith, less, length-packets_from (offered plan gives) 0 plan.services) in
-      let is : slice_index_or (service_packets plan (offered plan gives)) k []
-      ≡ packets_of_kind (kind_at plan k) (get_or (map (λ (service : ServiceFields). service.unicast) plan.services) k []) (offered plan gives k)
-      = packets_at (offered plan gives) plan.services 0 k k (omega arith) known in
-      let most : length (packets_of_kind (kind_at plan k) (get_or (map (λ (service : ServiceFields). service.unicast) plan.services) k []) (offered plan gives k))
-      ≤ byte_count (offered plan gives k) + 16 * length (offered plan gives k)
-      = kind_most (get_or (map (λ (service : ServiceFields). service.unicast) plan.services) k [])
-      (of_bytes.unicast k [] (omega (arith, known, length-map plan.services (λ (service : ServiceFields). service.unicast))))
-      (kind_at plan k) (offered plan gives k) (offered_taken plan gives k are) in
-      let some : (byte_count (offered plan gives k) ≤ byte_count (datagrams_of gives)) × (length (offered plan gives k) ≤ length (datagrams_of gives))
-      = filtered_most (λ datagram. is_offered_to plan (service_of_datagram plan datagram) k datagram) (datagrams_of gives) in
-      omega (arith, ap length is, most, some.0, some.1, limits.count, limits.size)
+      let known : k < length part.plan.services = omega (arith, less, length-packets_from part.packets_before part.datagrams 0 part.plan.services) in
+      let is : slice_index_or (service_packets part) k []
+      ≡ packets_of_kind (kind_at part.plan k) (get_or (map (λ (service : ServiceFields). service.unicast) part.plan.services) k []) (part.packets_before k % 16) (part.datagrams k)
+      = packets_at part.packets_before part.datagrams part.plan.services 0 k k (omega arith) known in
+      let most : length (packets_of_kind (kind_at part.plan k) (get_or (map (λ (service : ServiceFields). service.unicast) part.plan.services) k []) (part.packets_before k % 16) (part.datagrams k))
+      ≤ byte_count (part.datagrams k) + 16 * length (part.datagrams k)
+      = kind_most (get_or (map (λ (service : ServiceFields). service.unicast) part.plan.services) k [])
+      (of_bytes.unicast k [] (omega (arith, known, length-map part.plan.services (λ (service : ServiceFields). service.unicast))))
+      (kind_at part.plan k) (part.packets_before k % 16) (part.datagrams k) (taken k) in
+      omega (arith, ap (λ (l : List PacketFields). length l) is, most, few k)
 
-  slots_below : slots ≤ 42950672960
-  slots_below =
-      let services : length (service_packets plan (offered plan gives)) ≤ 64 = omega (arith, length-packets_from (offered plan gives) 0 plan.services, few_services plan accepted) in
-      let all : total (packet_counts (service_packets plan (offered plan gives))) ≤ length (service_packets plan (offered plan gives)) * 335544320
-      = total_most (service_packets plan (offered plan gives)) 335544320 service_most in
-      let table : table_packets plan ≤ 21 = few_packets plan (few_services plan accepted) (few_rules plan accepted) of_bytes.rules in
-      let long : 100 ≤ plan.cycle = at_least 100 1000000 plan.cycle (ranges plan accepted).cycle in
-      let short : plan.cycle ≤ 1000000 = at_most 100 1000000 plan.cycle (ranges plan accepted).cycle in
+  pub least_below : least ≤ 42950672960
+  least_below =
+      let services : length (service_packets part) ≤ 64 = omega (arith, length-packets_from part.packets_before part.datagrams 0 part.plan.services, few_services part.plan accepted) in
+      let all : total (packet_counts (service_packets part)) ≤ length (service_packets part) * 335544320 = total_most (service_packets part) 335544320 service_most in
+      let table : table_packets part.plan ≤ 21 = few_packets part.plan (few_services part.plan accepted) (few_rules part.plan accepted) of_bytes.rules in
+      let long : 100 ≤ part.plan.cycle = at_least 100 1000000 part.plan.cycle (ranges part.plan accepted).cycle in
+      let short : part.plan.cycle ≤ 1000000 = at_most 100 1000000 part.plan.cycle (ranges part.plan accepted).cycle in
       omega (
         arith,
         services,
         all,
         short,
-        slots_most plan.cycle (table_packets plan) (sendable plan accepted).leaves (packet_counts (service_packets plan (offered plan gives))) slots count
+        slots_most part.plan.cycle (table_packets part.plan) (sendable part.plan accepted).leaves (packet_counts (service_packets part)) least count
             (omega (arith, table, long)),
       )
 
-  pub in_time : (s : ℕ) → s < slots → HasMoment plan.recording plan.packet_rate s
-  in_time s less = by_form plan.recording
+-- All parts, at most 32.
+module _ (plan : PlanFields) (whole : is_whole_plan plan ≡ true) (of_bytes : AreOfBytes plan) (gives : List (Option (List ℕ))) (are : All IsByteDatagram (datagrams_of gives))
+    (limits : IsWithinLimits (datagrams_of gives)) (slots : ℕ → ℕ) (each : (version : ℕ) → version ≤ length plan.changes → IsPartCount plan (offered_in plan gives) slots version) where
+  few_offered : (version k : ℕ) → byte_count (offered_in plan gives version k) + 16 * length (offered_in plan gives version k) ≤ 335544320
+  few_offered version k =
+      let some : (byte_count (offered_in plan gives version k) ≤ byte_count (datagrams_of (records_of_version plan version gives)))
+      × (length (offered_in plan gives version k) ≤ length (datagrams_of (records_of_version plan version gives)))
+      = filtered_most (λ datagram. is_offered_to (plan_in plan version) (service_of_datagram (plan_in plan version) datagram) k datagram) (datagrams_of (records_of_version plan version gives)) in
+      let within : IsWithinLimits (datagrams_of (records_of_version plan version gives)) = limits_of_version plan version gives limits in
+      omega (arith, some.0, some.1, within.count, within.size)
+
+  slots_below : (version : ℕ) → version ≤ length plan.changes → slots version ≤ 42951672960
+  slots_below version within = by_count (each version within)
     where
-      by_form : (form : RecordingForm) → HasMoment form plan.packet_rate s
+      accepted : is_plan (plan_in plan version) ≡ true
+      accepted = version_accepted plan whole version within
+
+      short : plan.cycle ≤ 1000000
+      short = at_most 100 1000000 plan.cycle (ranges (plan_in plan version) accepted).cycle
+
+      by_count : IsPartCount plan (offered_in plan gives) slots version → slots version ≤ 42951672960
+      by_count it = by_last (is_last plan (offered_in plan gives) version) it.slots_are
+        where
+          below : it.least ≤ 42950672960
+          below =
+              least_below (part_of plan (offered_in plan gives) slots version) accepted (of_bytes version within) (λ k. taken_in_version plan version gives k are) (λ k. few_offered version k) it.least it.count
+
+          cycles_below : whole_cycles plan.cycle it.least ≤ it.least + plan.cycle
+          cycles_below = omega (arith, div-add-mod' (it.least + plan.cycle - 1) plan.cycle)
+
+          by_last : (last : Bool) → slots version ≡ cond last it.least (whole_cycles plan.cycle it.least) → slots version ≤ 42951672960
+          by_last true e = omega (arith, e, below)
+          by_last false e = omega (arith, e, below, cycles_below, short)
+
+  pub in_time : HaveMoments plan slots
+  in_time version s within less = by_form plan.recording
+    where
+      early : records_before slots version + s < 32 * 42951672960
+      early =
+          let before : records_before slots version ≤ version * 42951672960 = sum_most slots 42951672960 0 version (λ v below. slots_below v (omega (arith, below, within))) in
+          let few : version * 42951672960 ≤ 31 * 42951672960 = mul-le version 42951672960 31 42951672960 (omega (arith, within, few_changes plan whole)) (omega arith) in
+          omega (arith, before, few, slots_below version within, less)
+
+      by_form : (form : RecordingForm) → HasMoment form plan.packet_rate (records_before slots version + s)
       by_form plain = tt
-      by_form stamped = omega (arith, div-le_self (s * 1000000) plan.packet_rate, slots_below, less)
+      by_form stamped = omega (arith, div-le_self ((records_before slots version + s) * 1000000) plan.packet_rate, early)
       by_form m2ts = tt

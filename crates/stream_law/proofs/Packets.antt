@@ -1,9 +1,10 @@
 -- The packets of a packetization are ones that can be written, of one PID.
-use Rattle.std.proofs.Common.{◌≡◌, ℕ, zero, suc, ◌+◌, ◌-◌, ◌%◌, ◌<◌, ◌≤◌, Bool, true, false, cond, ◌&&◌, ◌||◌, leb, eqb, List, [], ◌∷◌, ◌++◌, length, map, take, drop, replicate, Some, refl, arith, length-take}
+use Rattle.std.proofs.Common.{◌≡◌, ℕ, zero, suc, ◌+◌, ◌-◌, ◌%◌, ◌<◌, ◌≤◌, Bool, true, false, cond, ◌&&◌, ◌||◌, leb, eqb, List, [], ◌∷◌, ◌++◌, length, map, take, drop, replicate, Some, refl, sym, ◌∙◌, arith, length-take}
 use Rattle.std.proofs.lemmas.List.{length-replicate, length-append}
 use Rattle.ts_spec.specs.Form.{UnitForm}
 use Rattle.ts_spec.specs.Packet.{PacketFields}
 use Rattle.ts_spec.specs.Packetized.{packet_at}
+use Rattle.unit_stream.proofs.Written.{length-numbered}
 use Rattle.unit_stream.specs.Packing.{stuffed, behind_unit, filled, Piece, may_begin, begin_piece, middle_piece, pieces, byte_count, numbered, packetized}
 use Rattle.ts_spec.specs.Sndu.{sndu_form}
 use Rattle.section_spec.specs.Section.{section_form}
@@ -99,10 +100,59 @@ packetized_on form packing pid counter units le n less =
     numbered_on pid counter (pieces (byte_count units) form.start packing [] units) le (full_pieces (byte_count units) form.start packing [] units) n less
 
 -- the packets of a service
-pub kind_on : (kind : KindFields) (unicast : List ℕ) (datagrams : List (List ℕ)) (n : ℕ) → n < length (packets_of_kind kind unicast datagrams)
-    → (pid : ℕ) × (pid_of kind ≡ Some pid) × IsOn pid (packet_at (packets_of_kind kind unicast datagrams) n)
-kind_on (ule pid address packing) unicast datagrams n less =
-    (pid, refl, packetized_on sndu_form packing pid 0 (map (sndu_of address unicast) datagrams) (omega arith) n less)
-kind_on (mpe pid) unicast datagrams n less = (pid, refl, packetized_on section_form true pid 0 (map (section_of unicast) datagrams) (omega arith) n less)
-kind_on (fec pid rows parity window) unicast datagrams n less = absurd (omega arith)
-kind_on (gse isi address) unicast datagrams n less = absurd (omega arith)
+pub kind_on : (kind : KindFields) (unicast : List ℕ) (counter : ℕ) (datagrams : List (List ℕ)) → counter ≤ 15 → (n : ℕ) → n < length (packets_of_kind kind unicast counter datagrams)
+    → (pid : ℕ) × (pid_of kind ≡ Some pid) × IsOn pid (packet_at (packets_of_kind kind unicast counter datagrams) n)
+kind_on (ule pid address packing) unicast counter datagrams le n less =
+    (pid, refl, packetized_on sndu_form packing pid counter (map (sndu_of address unicast) datagrams) le n less)
+kind_on (mpe pid) unicast counter datagrams le n less = (pid, refl, packetized_on section_form true pid counter (map (section_of unicast) datagrams) le n less)
+kind_on (fec pid rows parity window) unicast counter datagrams le n less = absurd (omega arith)
+kind_on (gse isi address) unicast counter datagrams le n less = absurd (omega arith)
+
+-- Their number, which the first counter does not change.
+
+length-packetized : (form : UnitForm) (packing : Bool) (pid counter : ℕ) (units : List (List ℕ))
+    → length (packetized form packing pid counter units) ≡ length (pieces (byte_count units) form.start packing [] units)
+length-packetized form packing pid counter units = length-numbered pid counter (pieces (byte_count units) form.start packing [] units)
+
+pub length-packets_of_kind : (kind : KindFields) (unicast : List ℕ) (counter : ℕ) (datagrams : List (List ℕ))
+    → length (packets_of_kind kind unicast counter datagrams) ≡ length (packets_of_kind kind unicast 0 datagrams)
+length-packets_of_kind (ule pid address packing) unicast counter datagrams =
+    length-packetized sndu_form packing pid counter (map (sndu_of address unicast) datagrams) ∙ sym (length-packetized sndu_form packing pid 0 (map (sndu_of address unicast) datagrams))
+length-packets_of_kind (mpe pid) unicast counter datagrams =
+    length-packetized section_form true pid counter (map (section_of unicast) datagrams) ∙ sym (length-packetized section_form true pid 0 (map (section_of unicast) datagrams))
+length-packets_of_kind (fec pid rows parity window) unicast counter datagrams = refl
+length-packets_of_kind (gse isi address) unicast counter datagrams = refl
+
+-- Their counters.
+
+-- the counters go on after so many packets of the PID
+pub record GoOn (before : ℕ) (packets : List PacketFields) : Type 0 where
+  pub counter : (i : ℕ) → i < length packets → (packet_at packets i).counter ≡ (before + i) % 16
+  pub broken : (i : ℕ) → i < length packets → (packet_at packets i).broken ≡ false
+
+pub none_go_on : (before : ℕ) → GoOn before []
+none_go_on before = record { counter = λ i less. absurd (omega (arith, less)); broken = λ i less. absurd (omega (arith, less)) }
+
+counter_at : (pid counter : ℕ) (ps : List Piece) → counter ≤ 15 → (i : ℕ) → i < length (numbered pid counter ps) → (packet_at (numbered pid counter ps) i).counter ≡ (counter + i) % 16
+counter_at pid counter [] le i less = absurd (omega arith)
+counter_at pid counter (piece ∷ behind) le zero less = omega (arith, le)
+counter_at pid counter (piece ∷ behind) le (suc i) less =
+    counter_at pid ((counter + 1) % 16) behind (omega arith) i (omega arith) ∙ goes_on counter i
+  where
+    goes_on : (n j : ℕ) → ((n + 1) % 16 + j) % 16 ≡ (n + suc j) % 16
+    goes_on n j = omega arith
+
+pub packetized_go_on : (form : UnitForm) (packing : Bool) (pid before : ℕ) (units : List (List ℕ)) → GoOn before (packetized form packing pid (before % 16) units)
+packetized_go_on form packing pid before units = record {
+  counter = λ i less. counter_at pid (before % 16) (pieces (byte_count units) form.start packing [] units) (omega arith) i less ∙ after before i;
+  broken = λ i less. (packetized_on form packing pid (before % 16) units (omega arith) i less).broken;
+}
+  where
+    after : (n i : ℕ) → (n % 16 + i) % 16 ≡ (n + i) % 16
+    after n i = omega arith
+
+pub kind_go_on : (kind : KindFields) (unicast : List ℕ) (before : ℕ) (datagrams : List (List ℕ)) → GoOn before (packets_of_kind kind unicast (before % 16) datagrams)
+kind_go_on (ule pid address packing) unicast before datagrams = packetized_go_on sndu_form packing pid before (map (sndu_of address unicast) datagrams)
+kind_go_on (mpe pid) unicast before datagrams = packetized_go_on section_form true pid before (map (section_of unicast) datagrams)
+kind_go_on (fec pid rows parity window) unicast before datagrams = none_go_on before
+kind_go_on (gse isi address) unicast before datagrams = none_go_on before

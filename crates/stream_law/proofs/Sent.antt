@@ -8,11 +8,11 @@ use Rattle.ts_spec.specs.Received.{is_of}
 use Rattle.ts_packet.specs.Fields.{written_fields}
 use Rattle.section_spec.specs.Section.{section_form}
 use Rattle.int_spec.specs.Table.{table_bytes}
-use Rattle.plan_spec.specs.Plan.{mpe, ServiceFields, IntFields, PlanFields, pid_of, table_pids}
+use Rattle.plan_spec.specs.Plan.{mpe, ServiceFields, IntFields, pid_of, table_pids}
 use Rattle.plan_spec.specs.Signalling.{table_of, table_packets}
 use Rattle.stream_spec.specs.Units.{packets_of_kind}
 use Rattle.stream_spec.specs.Slots.{Slot}
-use Rattle.stream_spec.specs.Stream.{packets_from, int_packets, written}
+use Rattle.stream_spec.specs.Parts.{PartFields, packets_from, int_packets, written}
 use Rattle.stream_law.specs.Words.{number_of}
 use Rattle.stream_law.proofs.Packets.{IsOn, packetized_on, kind_on}
 use Rattle.stream_law.proofs.Records.{read_of}
@@ -56,18 +56,28 @@ none_behind (packet ∷ packets) zero le = absurd (omega arith)
 none_behind (packet ∷ packets) (suc n) le = none_behind packets n (omega arith)
 
 -- the packets of the service at a place
-pub place_on : (datagrams : ℕ → List (List ℕ)) (services : List ServiceFields) (i j n : ℕ) → n < length (slice_index_or (packets_from i services datagrams) j [])
+pub packets_at : (before : ℕ → ℕ) (datagrams : ℕ → List (List ℕ)) (services : List ServiceFields) (i k at : ℕ) → at ≡ i + k → k < length services
+    → slice_index_or (packets_from i services before datagrams) k []
+    ≡ packets_of_kind (get_or (map (λ (service : ServiceFields). service.kind) services) k (mpe 0)) (get_or (map (λ (service : ServiceFields). service.unicast) services) k [])
+    (before at % 16) (datagrams at)
+packets_at before datagrams [] i k at e less = absurd (omega arith)
+packets_at before datagrams (service ∷ services) i zero at e less =
+    let here : i ≡ at = omega (arith, e) in ap (λ (n : ℕ). packets_of_kind service.kind service.unicast (before n % 16) (datagrams n)) here
+packets_at before datagrams (service ∷ services) i (suc k) at e less = packets_at before datagrams services (i + 1) k at (omega (arith, e)) (omega arith)
+
+-- each of them is one of its PID
+pub place_on : (before : ℕ → ℕ) (datagrams : ℕ → List (List ℕ)) (services : List ServiceFields) (i j n : ℕ) → n < length (slice_index_or (packets_from i services before datagrams) j [])
     → (pid : ℕ) × (pid_of (get_or (map (λ (service : ServiceFields). service.kind) services) j (mpe 0)) ≡ Some pid)
-    × IsOn pid (packet_at (slice_index_or (packets_from i services datagrams) j []) n) × (j < length services)
-place_on datagrams [] i j n less = absurd (omega arith)
-place_on datagrams (service ∷ services) i zero n less =
-    let here : (pid : ℕ) × (pid_of service.kind ≡ Some pid) × IsOn pid (packet_at (packets_of_kind service.kind service.unicast (datagrams i)) n)
-    = kind_on service.kind service.unicast (datagrams i) n less in
+    × IsOn pid (packet_at (slice_index_or (packets_from i services before datagrams) j []) n) × (j < length services)
+place_on before datagrams [] i j n less = absurd (omega arith)
+place_on before datagrams (service ∷ services) i zero n less =
+    let here : (pid : ℕ) × (pid_of service.kind ≡ Some pid) × IsOn pid (packet_at (packets_of_kind service.kind service.unicast (before i % 16) (datagrams i)) n)
+    = kind_on service.kind service.unicast (before i % 16) (datagrams i) (omega arith) n less in
     (here.0, here.1, here.2, omega arith)
-place_on datagrams (service ∷ services) i (suc j) n less =
+place_on before datagrams (service ∷ services) i (suc j) n less =
     let there : (pid : ℕ) × (pid_of (get_or (map (λ (s : ServiceFields). s.kind) services) j (mpe 0)) ≡ Some pid)
-    × IsOn pid (packet_at (slice_index_or (packets_from (i + 1) services datagrams) j []) n) × (j < length services)
-    = place_on datagrams services (i + 1) j n less in
+    × IsOn pid (packet_at (slice_index_or (packets_from (i + 1) services before datagrams) j []) n) × (j < length services)
+    = place_on before datagrams services (i + 1) j n less in
     (there.0, there.1, there.2, omega (arith, there.3))
 
 -- with the laws of packets that are written
@@ -112,18 +122,18 @@ module _ (readable : (pid : ℕ) (starts : Bool) (counter : ℕ) (payload : List
       by_test false e = refl
 
   -- a slot of the INT gives nothing on another PID
-  pub read_table : (pid : ℕ) (plan : PlanFields) (table : Option IntFields) (cycle n : ℕ)
+  pub read_table : (pid : ℕ) (part : PartFields) (table : Option IntFields) (cycle n : ℕ)
       → ((other : ℕ) → table_pids table ≡ other ∷ [] → (other ≤ 8191) × (eqb other pid ≡ false))
-      → read_of pid (written (packet_at (int_packets plan table cycle) n) ∷ []) ≡ []
-  read_table pid plan None cycle n apart = read_none pid
-  read_table pid plan (Some int) cycle n apart = by_place (ltb n (length packets)) refl
+      → read_of pid (written (packet_at (int_packets part table cycle) n) ∷ []) ≡ []
+  read_table pid part None cycle n apart = read_none pid
+  read_table pid part (Some int) cycle n apart = by_place (ltb n (length packets)) refl
     where
       packets : List PacketFields
-      packets = int_packets plan (Some int) cycle
+      packets = int_packets part (Some int) cycle
 
-      by_place : (within : Bool) → ltb n (length packets) ≡ within → read_of pid (written (packet_at (int_packets plan (Some int) cycle) n) ∷ []) ≡ []
+      by_place : (within : Bool) → ltb n (length packets) ≡ within → read_of pid (written (packet_at (int_packets part (Some int) cycle) n) ∷ []) ≡ []
       by_place true e =
           read_other pid int.pid (packet_at packets n) (apart int.pid refl).0 (apart int.pid refl).1
-          (packetized_on section_form true int.pid (cycle * table_packets plan % 16) (table_bytes (table_of plan int) ∷ []) (omega arith) n (grind (arith, e)))
+          (packetized_on section_form true int.pid ((part.table_before + cycle * table_packets part.plan) % 16) (table_bytes (table_of part.plan int) ∷ []) (omega arith) n (grind (arith, e)))
       by_place false e =
           ap (λ (p : PacketFields). read_of pid (written p ∷ [])) (none_behind packets n (grind (arith, e))) ∙ read_none pid

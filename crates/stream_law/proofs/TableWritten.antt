@@ -12,7 +12,7 @@ use Rattle.plan_spec.specs.Plan.{KindFields, ule, mpe, fec, gse, ServiceFields, 
 use Rattle.plan_spec.specs.Checks.{is_between, is_row_count, has_pair, leaves_cycle, is_too_short, is_too_long, is_wrong_window, overlaps}
 use Rattle.plan_spec.specs.Signalling.{frame_size, burst_duration, slices_of, entry_of, table_of, table_packets}
 use Rattle.plan_spec.specs.Valid.{is_valid_window, is_valid_kind, is_valid_service, is_valid_int, is_plan}
-use Rattle.stream_law.specs.Words.{IsOfBytes}
+use Rattle.plan_spec.specs.Bytes.{IsOfBytes}
 use Rattle.stream_law.proofs.Pids.{neither}
 use Rattle.stream_law.proofs.Plans.{both, at_most, has_ranges, ranges, checks, few_services, few_rules}
 use Rattle.stream_law.proofs.TableSizes.{table_size}

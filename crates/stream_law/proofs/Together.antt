@@ -7,7 +7,8 @@ use Rattle.unit_stream.proofs.Numbers.{ltb_true, ltb_false}
 use Rattle.ts_spec.specs.Form.{UnitForm, IsLawful, IsUnit}
 use Rattle.ts_spec.specs.Packet.{PacketFields, continues, pointer}
 use Rattle.ts_spec.specs.Packetized.{packet_at, unit_at, joined_payloads, edge, IsIn, IsStuffed, IsFirstIn, Packetizes}
-use Rattle.stream_law.proofs.Places.{size, joined_both, edge_low, edge_high, edge_high_next, length-both, packet_low, packet_high, in_both, in_first, behind_in, in_behind, not_behind, not_first, stuffed_low, stuffed_high}
+use Rattle.carriage_spec.specs.Carried.{HoldsPart}
+use Rattle.stream_law.proofs.Places.{size, joined_both, edge_low, edge_most, edge_high, edge_high_next, length-both, packet_low, packet_high, in_both, in_first, behind_in, in_behind, not_behind, not_first, stuffed_low, stuffed_high}
 
 module _ (form : UnitForm) (lawful : IsLawful form) (us vs : List (List ℕ)) (ps qs : List PacketFields) (b c : ℕ → ℕ) (first : Packetizes form us ps b) (second : Packetizes form vs qs c)
     (goes_on : 1 ≤ length ps → 1 ≤ length qs → continues (packet_at ps (length ps - 1)) (packet_at qs 0) ≡ true) where
@@ -263,3 +264,45 @@ module _ (form : UnitForm) (lawful : IsLawful form) (us vs : List (List ℕ)) (p
       enough = enough;
     },
   )
+
+  -- a packet that holds a part of a unit of the first is one of theirs, and one that holds a part of another unit is behind them
+  pub held : (n m : ℕ) → n < length (us ++ vs) → HoldsPart (us ++ vs) (ps ++ qs) appended.0 n m
+      → ((n < length us) × (m < length ps)) ⊎ ((length us ≤ n) × (length ps ≤ m) × HoldsPart vs qs c (n - length us) (m - length ps))
+  unfolding appended
+  held n m less part = by_place (cases_lt n (length us)) (cases_lt m (length ps))
+    where
+      by_place : (n < length us) ⊎ (length us ≤ n) → (m < length ps) ⊎ (length ps ≤ m)
+          → ((n < length us) × (m < length ps)) ⊎ ((length us ≤ n) × (length ps ≤ m) × HoldsPart vs qs c (n - length us) (m - length ps))
+      by_place (inl low) (inl front) = inl (low, front)
+      by_place (inl low) (inr behind) =
+          let at : m ≡ length ps + (m - length ps) = omega (arith, behind) in
+          absurd (omega (
+            arith,
+            part.not_over,
+            begin_low n low,
+            ap (λ (u : List ℕ). length u) (unit_low n low),
+            unit_within n low,
+            ap (edge (ps ++ qs)) at,
+            edge_high ps qs (m - length ps),
+          ))
+      by_place (inr high) (inl front) =
+          absurd (omega (arith, part.begun, begin_high n (n - known) (omega (arith, high)), edge_low ps qs (m + 1) (omega (arith, front)), edge_most ps qs (m + 1)))
+      by_place (inr high) (inr behind) =
+          let at : m ≡ length ps + (m - length ps) = omega (arith, behind) in
+          let after : m + 1 ≡ length ps + (m - length ps) + 1 = omega (arith, behind) in
+          inr (
+            high,
+            behind,
+            record {
+              within = omega (arith, part.within, length-both ps qs, behind);
+              begun = omega (arith, part.begun, begin_high n (n - known) (omega (arith, high)), ap (edge (ps ++ qs)) after, edge_high_next ps qs (m - length ps));
+              not_over = omega (
+                arith,
+                part.not_over,
+                begin_high n (n - known) (omega (arith, high)),
+                ap (λ (u : List ℕ). length u) (unit_high n (n - known) (omega (arith, high))),
+                ap (edge (ps ++ qs)) at,
+                edge_high ps qs (m - length ps),
+              );
+            },
+          )

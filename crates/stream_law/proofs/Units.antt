@@ -1,28 +1,25 @@
 -- The units of a service carry the datagrams that it takes.
-use Rattle.std.proofs.Common.{◌≡◌, ℕ, zero, suc, ◌+◌, ◌<◌, ◌≤◌, Bool, true, false, cond, ◌&&◌, leb, eqb, get_or, List, [], ◌∷◌, ◌++◌, length, map, refl, sym, ap, subst, ◌∙◌, arith, Option, Some, None}
-use Rattle.std.specs.Prelude.{◌↔◌, filter, slice_index_or, flat_map, option_to_list, option_map, All}
+use Rattle.std.proofs.Common.{◌≡◌, ℕ, zero, suc, ◌<◌, ◌≤◌, Bool, true, false, cond, ◌&&◌, leb, eqb, List, [], ◌∷◌, ◌++◌, length, map, refl, sym, ap, ◌∙◌, arith, Option, Some, None}
+use Rattle.std.specs.Prelude.{◌↔◌, filter, flat_map, option_to_list, option_map, All}
 use Rattle.wire_spec.specs.Bytes.{AreBytes}
 use Rattle.wire_spec.specs.Datagram.{IsDatagram, ether_type_of}
 use Rattle.ts_spec.specs.Form.{UnitForm, IsLawful, IsUnit}
-use Rattle.ts_spec.specs.Recording.{Record}
-use Rattle.ts_spec.specs.Packet.{PacketFields}
 use Rattle.ts_spec.specs.Packetized.{unit_at, Packetizes}
 use Rattle.ts_spec.specs.Sndu.{sndu_form, is_sndu, sndu_bytes, sndu_fields, SnduFields}
 use Rattle.ts_spec.specs.Chain.{chain_end, datagram_at}
 use Rattle.section_spec.specs.Section.{section_form, section_fields}
 use Rattle.section_spec.specs.Mpe.{MpeFields, IsWritableMpe, mpe_to_write, mpe_bytes, mpe_of}
 use Rattle.unit_stream.specs.Packing.{packetized}
-use Rattle.carriage_spec.specs.Carried.{packets_sent}
 use Rattle.carriage_spec.specs.Delivered.{carried_by_sndu}
 use Rattle.ule_unit.specs.Writable.{IsAddress, IsWritable}
-use Rattle.plan_spec.specs.Plan.{KindFields, ule, mpe, fec, gse, ServiceFields, PlanFields}
+use Rattle.plan_spec.specs.Plan.{KindFields, ule, mpe, fec, gse, PlanFields}
 use Rattle.plan_spec.specs.Route.{longest_of}
-use Rattle.stream_spec.specs.Units.{mac_for, sndu_of, section_of, packets_of_kind}
-use Rattle.stream_spec.specs.Stream.{packets_from}
-use Rattle.stream_spec.specs.Services.{carried_by_section, carried_by_unit, form_of_kind, CarriesOn}
+use Rattle.stream_spec.specs.Units.{mac_for, sndu_of, section_of, unit_of, packets_of_kind}
+use Rattle.stream_spec.specs.Services.{carried_by_section, carried_by_unit, form_of_kind}
 use Rattle.plan_spec.specs.Offered.{datagrams as datagrams_of, service_of_datagram, is_offered_to, offered}
 use Rattle.stream_spec.specs.Services.{kind_at}
-use Rattle.stream_law.specs.Words.{IsMac, IsByteDatagram}
+use Rattle.plan_spec.specs.Bytes.{IsMac}
+use Rattle.stream_law.specs.Words.{IsByteDatagram}
 use Rattle.plan_spec.specs.Built.{is_sent}
 use Rattle.stream_law.proofs.Datagrams.{type_below, chain_gives, mac_for_is}
 
@@ -35,15 +32,6 @@ pub record IsTaken (kind : KindFields) (datagram : List ℕ) : Type 0 where
 abbrev pub AreTaken : KindFields → List (List ℕ) → Type 0
 AreTaken kind [] = Unit {0}
 AreTaken kind (datagram ∷ datagrams) = IsTaken kind datagram × AreTaken kind datagrams
-
--- the packets of the service at a place
-pub packets_at : (datagrams : ℕ → List (List ℕ)) (services : List ServiceFields) (i k at : ℕ) → at ≡ i + k → k < length services
-    → slice_index_or (packets_from i services datagrams) k []
-    ≡ packets_of_kind (get_or (map (λ (service : ServiceFields). service.kind) services) k (mpe 0)) (get_or (map (λ (service : ServiceFields). service.unicast) services) k []) (datagrams at)
-packets_at datagrams [] i k at e less = absurd (omega arith)
-packets_at datagrams (service ∷ services) i zero at e less =
-    let here : i ≡ at = omega (arith, e) in ap (λ (n : ℕ). packets_of_kind service.kind service.unicast (datagrams n)) here
-packets_at datagrams (service ∷ services) i (suc k) at e less = packets_at datagrams services (i + 1) k at (omega (arith, e)) (omega arith)
 
 -- with the laws of packetization, of SNDUs and of datagram_sections
 module _ (packetizes : (form : UnitForm) (packing : Bool) (pid counter : ℕ) (units : List (List ℕ)) → IsLawful form → ((n : ℕ) → n < length units → IsUnit form (unit_at units n))
@@ -103,35 +91,25 @@ module _ (packetizes : (form : UnitForm) (packing : Bool) (pid counter : ℕ) (u
       ap (λ (t : List (List ℕ)). datagram ∷ t) (are_carried kind unit each datagrams taken.1)
       ∙ ap (λ (t : List (List ℕ)). t ++ flat_map (carried_by_unit kind) (map unit datagrams)) (sym (each datagram taken.0))
 
-  carries_units : (kind : KindFields) (pid counter : ℕ) (packing : Bool) (unit : List ℕ → List ℕ) (sent : List Record) (datagrams : List (List ℕ)) → IsLawful (form_of_kind kind)
-      → ((datagram : List ℕ) → IsTaken kind datagram → IsUnit (form_of_kind kind) (unit datagram))
-      → ((datagram : List ℕ) → IsTaken kind datagram → carried_by_unit kind (unit datagram) ≡ datagram ∷ [])
-      → AreTaken kind datagrams → (own : ℕ) → packets_sent pid sent ≡ packetized (form_of_kind kind) packing own counter (map unit datagrams)
-      → CarriesOn kind pid sent datagrams
-  carries_units kind pid counter packing unit sent datagrams lawful is_unit carries taken own sent_are =
-      let found : (begin : ℕ → ℕ) × Packetizes (form_of_kind kind) (map unit datagrams) (packetized (form_of_kind kind) packing own counter (map unit datagrams)) begin
-      = packetizes (form_of_kind kind) packing own counter (map unit datagrams) lawful (are_units (form_of_kind kind) kind unit is_unit datagrams taken) in
-      record {
-        units = map unit datagrams;
-        begin = found.0;
-        packetized = subst (λ (ps : List PacketFields). Packetizes (form_of_kind kind) (map unit datagrams) ps found.0) (sym sent_are) found.1;
-        carried = are_carried kind unit carries datagrams taken;
-      }
+  -- a service of a kind that is sent: its units in its packets, and its datagrams in its units
+  pub units_packetized : (kind : KindFields) (counter : ℕ) (datagrams : List (List ℕ)) → is_sent kind ≡ true → AreTaken kind datagrams
+      → (begin : ℕ → ℕ) × Packetizes (form_of_kind kind) (map (unit_of kind unicast) datagrams) (packets_of_kind kind unicast counter datagrams) begin
+  units_packetized (ule own address packing) counter datagrams built taken =
+      packetizes sndu_form packing own counter (map (sndu_of address unicast) datagrams) sndu_lawful
+      (are_units sndu_form (ule own address packing) (sndu_of address unicast) (λ datagram of_it. sndu_unit address datagram of_it.is of_it.bytes of_it.size) datagrams taken)
+  units_packetized (mpe own) counter datagrams built taken =
+      packetizes section_form true own counter (map (section_of unicast) datagrams) section_lawful
+      (are_units section_form (mpe own) (section_of unicast) (λ datagram of_it. mpe_unit (mpe_to_write (mac_for unicast datagram) None datagram) (can_write datagram of_it.is of_it.bytes of_it.size)) datagrams taken)
+  units_packetized (fec own rows parity window) counter datagrams built taken = absurd (cc)
+  units_packetized (gse isi address) counter datagrams built taken = absurd (cc)
 
-  pub carries_on : (kind : KindFields) (pid : ℕ) (sent : List Record) (datagrams : List (List ℕ)) → is_sent kind ≡ true → AreTaken kind datagrams
-      → packets_sent pid sent ≡ packets_of_kind kind unicast datagrams → CarriesOn kind pid sent datagrams
-  carries_on (ule own address packing) pid sent datagrams built taken sent_are =
-      carries_units (ule own address packing) pid 0 packing (sndu_of address unicast) sent datagrams sndu_lawful
-      (λ datagram of_it. sndu_unit address datagram of_it.is of_it.bytes of_it.size)
-      (λ datagram of_it. sndu_carries address datagram of_it.is of_it.bytes of_it.size)
-      taken own sent_are
-  carries_on (mpe own) pid sent datagrams built taken sent_are =
-      carries_units (mpe own) pid 0 true (section_of unicast) sent datagrams section_lawful
-      (λ datagram of_it. mpe_unit (mpe_to_write (mac_for unicast datagram) None datagram) (can_write datagram of_it.is of_it.bytes of_it.size))
-      (λ datagram of_it. section_carries datagram of_it.is of_it.bytes of_it.size)
-      taken own sent_are
-  carries_on (fec own rows parity window) pid sent datagrams built taken sent_are = absurd (cc)
-  carries_on (gse isi address) pid sent datagrams built taken sent_are = absurd (cc)
+  pub units_carry : (kind : KindFields) (datagrams : List (List ℕ)) → is_sent kind ≡ true → AreTaken kind datagrams
+      → datagrams ≡ flat_map (carried_by_unit kind) (map (unit_of kind unicast) datagrams)
+  units_carry (ule own address packing) datagrams built taken =
+      are_carried (ule own address packing) (sndu_of address unicast) (λ datagram of_it. sndu_carries address datagram of_it.is of_it.bytes of_it.size) datagrams taken
+  units_carry (mpe own) datagrams built taken = are_carried (mpe own) (section_of unicast) (λ datagram of_it. section_carries datagram of_it.is of_it.bytes of_it.size) datagrams taken
+  units_carry (fec own rows parity window) datagrams built taken = absurd (cc)
+  units_carry (gse isi address) datagrams built taken = absurd (cc)
 
 -- What is offered to a service is what it takes.
 taken_of : (kind : KindFields) (test : List ℕ → Bool) → ((datagram : List ℕ) → test datagram ≡ true → length datagram ≤ longest_of kind)

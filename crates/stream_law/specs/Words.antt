@@ -1,11 +1,17 @@
 -- Words of the laws of a sender's stream.
-use Rattle.std.specs.Prelude.{◌≡◌, ◌≢◌, Bool, true, false, length, map, All, ℕ, ◌+◌, ◌-◌, ◌*◌, ◌/◌, ◌^◌, ◌<◌, ◌≤◌, List, ◌==◌, if◌then◌else◌, Option, Some, None}
+use Rattle.std.specs.Prelude.{◌≡◌, ◌≢◌, length, flat_map, replicate, sum_by, slice_index_or, ℕ, ◌+◌, ◌-◌, ◌*◌, ◌/◌, ◌^◌, ◌<◌, ◌≤◌, List, [], ◌==◌, if◌then◌else◌, Option, Some, None}
+use Rattle.std.specs.List.{range_with_len}
 use Rattle.wire_spec.specs.Bytes.{AreBytes}
 use Rattle.wire_spec.specs.Datagram.{IsDatagram}
-use Rattle.int_spec.specs.Table.{IsRule}
+use Rattle.int_spec.specs.Table.{table_bytes}
 use Rattle.unit_stream.specs.Packing.{byte_count}
-use Rattle.plan_spec.specs.Plan.{KindFields, ule, mpe, fec, gse, ServiceFields, PlanFields, rule_lists}
+use Rattle.ts_spec.specs.Packet.{PacketFields}
+use Rattle.plan_spec.specs.Plan.{IntFields, PlanFields}
+use Rattle.plan_spec.specs.Signalling.{table_of}
+use Rattle.plan_spec.specs.Changes.{plan_in, pid_in, has_pid}
 use Rattle.ts_spec.specs.Recording.{RecordingForm, plain, stamped, m2ts}
+use Rattle.stream_spec.specs.Parts.{PartFields, service_packets, int_packets}
+use Rattle.stream_spec.specs.Stream.{earlier, part_of}
 use Rattle.stream_spec.specs.Slots.{Slot, of_table, of_service, empty, kept_for_table, turns_at, slot_at}
 
 -- what slot s carries, where the INT has so many packets in each cycle and the services have so many in all
@@ -24,26 +30,45 @@ HasMoment plain rate s = Unit {0}
 HasMoment stamped rate s = s * 1000000 / rate < 2 ^ 62
 HasMoment m2ts rate s = Unit {0}
 
--- What the law that datagrams are carried says of its premises.
+-- the one part of a stream of a plan that nothing changes
+abbrev pub only_part : PlanFields → (ℕ → List (List ℕ)) → PartFields
+only_part plan datagrams = record { plan = plan; slots_before = 0; table_before = 0; packets_before = λ k. 0; datagrams = datagrams }
 
--- an address of six bytes
-pub record IsMac (mac : List ℕ) : Type 0 where
-  pub size : length mac ≡ 6
-  pub bytes : AreBytes mac
+-- What the laws of a stream say of its parts, where these have so many slots, one number for each version.
 
--- a datagram, of bytes
-pub record IsByteDatagram (datagram : List ℕ) : Type 0 where
-  pub is : IsDatagram datagram
-  pub bytes : AreBytes datagram
+-- before the part of a version stand so many records
+abbrev pub records_before : (ℕ → ℕ) → ℕ → ℕ
+records_before slots version = sum_by slots (earlier version)
+
+-- each record has a moment
+abbrev pub HaveMoments : PlanFields → (ℕ → ℕ) → Type 0
+HaveMoments plan slots = (version s : ℕ) → version ≤ length plan.changes → s < slots version
+    → HasMoment plan.recording plan.packet_rate (records_before slots version + s)
 
 -- so many slots are whole cycles and a begun one
 abbrev pub begun_cycles : ℕ → ℕ → ℕ
 begun_cycles cycle slots = (slots + cycle - 1) / cycle
 
--- the values of a plan are bytes: an address in a rule has as many as its version, that of a service's receivers has six
-pub record IsOfBytes (plan : PlanFields) : Type 0 where
-  pub rules : All (All IsRule) (rule_lists plan)
-  pub unicast : All IsMac (map (λ (service : ServiceFields). service.unicast) plan.services)
+-- the packets of service k on a PID in the part of a version: none, where the version gives it another PID
+abbrev pub packets_on : PlanFields → (ℕ → ℕ → List (List ℕ)) → (ℕ → ℕ) → ℕ → ℕ → ℕ → List PacketFields
+packets_on plan datagrams slots k pid version =
+    if has_pid (pid_in plan version k) pid then slice_index_or (service_packets (part_of plan datagrams slots version)) k [] else []
+
+-- those of the INT, in each cycle that the part begins
+abbrev pub packets_of_int : PlanFields → (ℕ → ℕ → List (List ℕ)) → (ℕ → ℕ) → IntFields → ℕ → List PacketFields
+packets_of_int plan datagrams slots int version =
+    flat_map (int_packets (part_of plan datagrams slots version) (Some int)) (range_with_len 0 (begun_cycles plan.cycle (slots version)))
+
+-- the section of the INT of a version, once in each cycle that the part begins
+abbrev pub sections_of_int : PlanFields → (ℕ → ℕ) → IntFields → ℕ → List (List ℕ)
+sections_of_int plan slots int version = replicate (begun_cycles plan.cycle (slots version)) (table_bytes (table_of (plan_in plan version) int))
+
+-- What the law that datagrams are carried says of its premises.
+
+-- a datagram, of bytes
+pub record IsByteDatagram (datagram : List ℕ) : Type 0 where
+  pub is : IsDatagram datagram
+  pub bytes : AreBytes datagram
 
 -- no more datagrams and bytes than the records of a capture have
 pub record IsWithinLimits (datagrams : List (List ℕ)) : Type 0 where

@@ -6,11 +6,12 @@ ghost use Rattle.ts_spec.specs.Recording.{records_of};
 ghost use Rattle.pcap_file.specs.Told.{Tells};
 ghost use Rattle.pcap_file.specs.declared.faults.CaptureFault.{CaptureFault};
 ghost use Rattle.plan_spec.specs.Plan.{PlanFields, kinds};
-ghost use Rattle.plan_spec.specs.Valid.{is_plan};
-ghost use Rattle.plan_spec.specs.Offered.{datagrams as datagrams_of, offered};
+ghost use Rattle.plan_spec.specs.Wholes.{is_whole_plan};
+ghost use Rattle.plan_spec.specs.Offered.{datagrams as datagrams_of, offered_in};
 ghost use Rattle.stream_spec.specs.Stream.{IsStream};
-ghost use Rattle.stream_spec.specs.Services.{Carries};
-ghost use Rattle.stream_law.specs.Words.{IsOfBytes, IsByteDatagram, IsWithinLimits};
+ghost use Rattle.stream_spec.specs.Services.{datagrams_on, Carries};
+ghost use Rattle.plan_spec.specs.Bytes.{AreOfBytes};
+ghost use Rattle.stream_law.specs.Words.{IsByteDatagram, IsWithinLimits};
 ghost use Rattle.plan_spec.specs.Built.{is_sent};
 ghost use Rattle.stream_law.specs.Captures.{given_by};
 
@@ -28,12 +29,12 @@ pub fn a_capture_gives_datagrams()
 }
 
 /// For all settings that are accepted, of services of SNDUs and datagram_sections, and all captures:
-/// the stream carries of each service what was offered to it.
+/// the stream carries what was offered, by service and PID.
 pub fn a_capture_is_carried()
-    ensures carries { (plan : PlanFields) → is_plan plan ≡ true → IsOfBytes plan → list_all is_sent (kinds plan) ≡ true
+    ensures carries { (plan : PlanFields) → is_whole_plan plan ≡ true → AreOfBytes plan → list_all is_sent (kinds plan) ≡ true
         → (capture : List ℕ) (told : List (List ℕ)) (fault : Option CaptureFault) → AreBytes capture → Tells capture told fault
-        → (records : List (List ℕ)) → IsStream plan (offered plan (given_by capture told)) records
-        → Carries plan (records_of plan.recording records) (offered plan (given_by capture told)) }
+        → (records : List (List ℕ)) → IsStream plan (offered_in plan (given_by capture told)) records
+        → Carries plan (records_of plan.recording records) (datagrams_on plan (offered_in plan (given_by capture told))) }
 {
     a_capture_gives_datagrams();
     a_stream_carries_what_was_offered();

@@ -1,13 +1,15 @@
 //! Datagrams: the stream carries what was offered.
-ghost use Rattle.std.specs.Prelude.{◌≡◌, ℕ, List, Option, true, All};
+ghost use Rattle.std.specs.Prelude.{◌≡◌, ℕ, ◌<◌, List, length, flat_map, Option, Some, true, All};
 ghost use Rattle.std.specs.List.{list_all};
 ghost use Rattle.ts_spec.specs.Recording.{records_of};
-ghost use Rattle.plan_spec.specs.Plan.{PlanFields, kinds};
-ghost use Rattle.plan_spec.specs.Valid.{is_plan};
-ghost use Rattle.plan_spec.specs.Offered.{datagrams as datagrams_of, offered};
+ghost use Rattle.plan_spec.specs.Plan.{PlanFields, pid_of, kinds};
+ghost use Rattle.plan_spec.specs.Changes.{pids_in, versions};
+ghost use Rattle.plan_spec.specs.Wholes.{is_whole_plan};
+ghost use Rattle.plan_spec.specs.Offered.{datagrams as datagrams_of, offered_in};
 ghost use Rattle.stream_spec.specs.Stream.{IsStream};
-ghost use Rattle.stream_spec.specs.Services.{Carries};
-ghost use Rattle.stream_law.specs.Words.{IsOfBytes, IsByteDatagram, IsWithinLimits};
+ghost use Rattle.stream_spec.specs.Services.{kind_at, datagrams_on, Carries};
+ghost use Rattle.plan_spec.specs.Bytes.{AreOfBytes};
+ghost use Rattle.stream_law.specs.Words.{IsByteDatagram, IsWithinLimits};
 ghost use Rattle.plan_spec.specs.Built.{is_sent};
 
 use crate::stream::{records_have_moments, the_packets_of_a_service_are_on_its_pid};
@@ -16,14 +18,14 @@ use section_codec::sections_are_lawful;
 use ule_unit::{a_written_sndu_reads_back, sndus_are_lawful, sndus_are_units};
 use unit_stream::packetized_units_are_carried;
 
-/// The stream of a plan whose services are of SNDUs and datagram_sections carries of each service what was offered to it.
+/// The stream of a plan whose services are of SNDUs and datagram_sections carries what was offered, by service and PID.
 ///
 /// For all settings that are accepted, all that a capture can give, and each form of recording.
 pub fn a_stream_carries_what_was_offered()
-    ensures carries { (plan : PlanFields) → is_plan plan ≡ true → IsOfBytes plan → list_all is_sent (kinds plan) ≡ true
+    ensures carries { (plan : PlanFields) → is_whole_plan plan ≡ true → AreOfBytes plan → list_all is_sent (kinds plan) ≡ true
         → (gives : List (Option (List ℕ))) → All IsByteDatagram (datagrams_of gives) → IsWithinLimits (datagrams_of gives)
-        → (records : List (List ℕ)) → IsStream plan (offered plan gives) records
-        → Carries plan (records_of plan.recording records) (offered plan gives) }
+        → (records : List (List ℕ)) → IsStream plan (offered_in plan gives) records
+        → Carries plan (records_of plan.recording records) (datagrams_on plan (offered_in plan gives)) }
 {
     records_have_moments();
     the_packets_of_a_service_are_on_its_pid();
@@ -35,3 +37,10 @@ pub fn a_stream_carries_what_was_offered()
     a_written_datagram_section_reads_back();
     an_address_or_parameters_can_be_written();
 }
+
+/// The datagrams on the PIDs of a service, one PID after another, are those of all versions.
+pub fn the_pids_of_a_service_have_all_datagrams()
+    ensures all { (plan : PlanFields) (datagrams : ℕ → ℕ → List (List ℕ)) (k pid : ℕ) → is_whole_plan plan ≡ true → k < length plan.services
+        → pid_of (kind_at plan k) ≡ Some pid
+        → flat_map (datagrams_on plan datagrams k) (pids_in plan k) ≡ flat_map (λ version. datagrams version k) (versions plan) }
+{}

@@ -8,19 +8,22 @@ mod appended;
 mod captures;
 mod carried;
 mod slots;
+mod standing;
 mod stream;
 mod table;
 
 pub use appended::packetizations_go_on;
 pub use captures::{a_capture_gives_datagrams, a_capture_is_carried};
-pub use carried::a_stream_carries_what_was_offered;
+pub use carried::{a_stream_carries_what_was_offered, the_pids_of_a_service_have_all_datagrams};
 pub use slots::{
     a_transmission_ends_where_all_packets_are_out, packets_go_out_in_order_and_each_once,
     there_is_one_slot_count,
 };
+pub use standing::a_stream_stands_in_parts;
 pub use stream::{
     a_stream_is_cut_into_its_records, records_have_moments,
     the_packets_of_a_service_are_on_its_pid, there_is_one_stream,
+    without_changes_a_stream_has_one_part,
 };
 pub use table::{
     a_cycle_carries_the_table, a_stream_carries_the_table, a_table_goes_out_in_each_cycle,

@@ -1,7 +1,10 @@
--- Small transmissions, to try the definitions on: cycles of five slots, of which the first is the INT's.
-use Rattle.std.specs.Prelude.{ℕ, List, [], ◌∷◌, map}
+-- Small transmissions, to try the definitions on: cycles of five slots, of which the first is the INT's; and a plan that changes.
+use Rattle.std.specs.Prelude.{ℕ, zero, suc, List, [], ◌∷◌, ◌++◌, map, replicate}
 use Rattle.std.specs.List.{range_with_len}
+use Rattle.plan_spec.specs.Examples.{plan_that_changes}
 use Rattle.stream_spec.specs.Slots.{Slot, kept_for_table, slot_at}
+use Rattle.stream_spec.specs.Parts.{PartFields}
+use Rattle.stream_spec.specs.Stream.{part_of}
 
 -- two services of three and one packets
 abbrev pub small_packets : List ℕ
@@ -16,3 +19,19 @@ small_slots = map small_slot (range_with_len 0 8)
 -- a service without packets
 abbrev pub idle_slot : ℕ → Slot
 idle_slot s = slot_at (kept_for_table 5 1) (0 ∷ []) s
+
+-- a datagram of 100 bytes to 239.2.2.2
+abbrev pub datagram_of_100 : List ℕ
+datagram_of_100 = (0x45 ∷ 0 ∷ 0 ∷ 100 ∷ 0 ∷ 0 ∷ 0 ∷ 0 ∷ 64 ∷ 17 ∷ 0 ∷ 0 ∷ 10 ∷ 0 ∷ 0 ∷ 1 ∷ 239 ∷ 2 ∷ 2 ∷ 2 ∷ []) ++ replicate 80 0
+
+-- two of them in each version of a plan in which files move from PID 513 to 514, in cycles of 100 slots
+abbrev pub two_of_each : ℕ → ℕ → List (List ℕ)
+two_of_each version k = datagram_of_100 ∷ datagram_of_100 ∷ []
+
+-- the slots of the parts, and the part of version 1
+abbrev pub slots_of_files : ℕ → ℕ
+slots_of_files zero = 100
+slots_of_files (suc version) = 3
+
+abbrev pub second_part : PartFields
+second_part = part_of plan_that_changes two_of_each slots_of_files 1

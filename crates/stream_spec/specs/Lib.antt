@@ -1,5 +1,7 @@
 pub mod Units
 pub mod Slots
+pub mod Parts
 pub mod Stream
 pub mod Services
+pub mod Standing
 pub mod Examples

@@ -1,5 +1,5 @@
 -- What the units of a service carry, and how a stream carries the datagrams of a plan's services.
-use Rattle.std.specs.Prelude.{◌≡◌, ℕ, ◌<◌, List, [], length, slice_index_or, flat_map, option_to_list, option_map, Some}
+use Rattle.std.specs.Prelude.{◌≡◌, ℕ, ◌<◌, List, [], length, slice_index_or, flat_map, option_to_list, option_map, if◌then◌else◌, Contains}
 use Rattle.ts_spec.specs.Form.{UnitForm}
 use Rattle.ts_spec.specs.Recording.{Record}
 use Rattle.ts_spec.specs.Packetized.{Packetizes}
@@ -8,7 +8,8 @@ use Rattle.section_spec.specs.Section.{section_form, section_fields}
 use Rattle.section_spec.specs.Mpe.{MpeFields, mpe_of}
 use Rattle.carriage_spec.specs.Carried.{packets_sent}
 use Rattle.carriage_spec.specs.Delivered.{carried_by_sndu}
-use Rattle.plan_spec.specs.Plan.{KindFields, ule, mpe, fec, gse, PlanFields, kinds, pid_of}
+use Rattle.plan_spec.specs.Plan.{KindFields, ule, mpe, fec, gse, PlanFields, kinds}
+use Rattle.plan_spec.specs.Changes.{pid_in, pids_in, has_pid, versions}
 
 -- the datagram that a section carries, as a list of at most one
 abbrev pub carried_by_section : List ℕ → List (List ℕ)
@@ -31,14 +32,20 @@ carried_by_unit (mpe pid) unit = carried_by_section unit
 carried_by_unit (fec pid rows parity window) unit = []
 carried_by_unit (gse isi address) unit = []
 
--- the readable packets of a PID carry units of this kind, and these carry the datagrams; begin n is the place of unit n
--- among the joined payloads
-pub record CarriesOn (kind : KindFields) (pid : ℕ) (sent : List Record) (datagrams : List (List ℕ)) : Type 0 where
-  pub units : List (List ℕ)
-  pub begin : ℕ → ℕ
-  pub packetized : Packetizes (form_of_kind kind) units (packets_sent pid sent) begin
-  pub carried : datagrams ≡ flat_map (carried_by_unit kind) units
+-- service k has this PID in a version
+pub record IsPidOf (plan : PlanFields) (k pid : ℕ) : Type 0 where
+  pub service : k < length plan.services
+  pub own : Contains (pids_in plan k) pid
 
--- the stream carries these datagrams of each service that has a PID
-pub record Carries (plan : PlanFields) (sent : List Record) (datagrams : ℕ → List (List ℕ)) : Type 0 where
-  pub each : (k pid : ℕ) → k < length plan.services → pid_of (kind_at plan k) ≡ Some pid → CarriesOn (kind_at plan k) pid sent (datagrams k)
+-- the datagrams of service k on a PID: those of the versions that give it this PID, where they are given by version and service
+abbrev pub datagrams_on : PlanFields → (ℕ → ℕ → List (List ℕ)) → ℕ → ℕ → List (List ℕ)
+datagrams_on plan datagrams k pid =
+    flat_map (λ version. if has_pid (pid_in plan version k) pid then datagrams version k else []) (versions plan)
+
+-- the stream carries these datagrams, by service and PID: on each PID of each service the readable packets carry units of its kind, and
+-- these the datagrams; begin k pid n is the place of unit n among the joined payloads
+pub record Carries (plan : PlanFields) (sent : List Record) (datagrams : ℕ → ℕ → List (List ℕ)) : Type 0 where
+  pub units : ℕ → ℕ → List (List ℕ)
+  pub begin : ℕ → ℕ → ℕ → ℕ
+  pub packetized : (k pid : ℕ) → IsPidOf plan k pid → Packetizes (form_of_kind (kind_at plan k)) (units k pid) (packets_sent pid sent) (begin k pid)
+  pub carried : (k pid : ℕ) → IsPidOf plan k pid → datagrams k pid ≡ flat_map (carried_by_unit (kind_at plan k)) (units k pid)

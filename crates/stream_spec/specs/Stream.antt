@@ -1,67 +1,65 @@
--- The sender's stream: the record of each slot.
-use Rattle.std.specs.Prelude.{◌≡◌, ℕ, ◌+◌, ◌*◌, ◌/◌, ◌%◌, ◌^◌, true, List, [], ◌∷◌, ◌++◌, length, map, slice_index_or, Option, Some, None}
-use Rattle.std.specs.List.{range_with_len}
-use Rattle.std.specs.Int.{w32, w64, to_be_bytes}
-use Rattle.ts_spec.specs.Packet.{PacketFields, packet_bytes, null_packet}
-use Rattle.ts_spec.specs.Packetized.{packet_at}
-use Rattle.ts_spec.specs.Recording.{RecordingForm, plain, stamped, m2ts}
-use Rattle.section_spec.specs.Section.{section_form}
-use Rattle.int_spec.specs.Table.{table_bytes}
-use Rattle.unit_stream.specs.Packing.{packetized}
-use Rattle.plan_spec.specs.Plan.{IntFields, ServiceFields, PlanFields}
-use Rattle.plan_spec.specs.Signalling.{table_of, table_packets}
+-- The sender's stream: one part for each version of the plan, in order.
+-- Profile: a part begins a cycle, and one without datagrams has no slots; the last one with datagrams ends with its last packet of a
+-- service, each other with the cycle of that packet.
+use Rattle.std.specs.Prelude.{◌≡◌, ℕ, ◌+◌, ◌-◌, ◌*◌, ◌/◌, ◌≤◌, Bool, false, not, List, length, sum_by, flat_map, nat_lt, if◌then◌else◌, Option, Some, None}
+use Rattle.std.specs.List.{range_with_len, list_any}
+use Rattle.plan_spec.specs.Plan.{PlanFields}
+use Rattle.plan_spec.specs.Changes.{plan_in, service_in, pid_in, has_pid, versions}
+use Rattle.plan_spec.specs.Signalling.{table_packets}
 use Rattle.stream_spec.specs.Units.{packets_of}
-use Rattle.stream_spec.specs.Slots.{Slot, of_table, of_service, empty, kept_for_table, slot_at, IsSlotCount}
+use Rattle.stream_spec.specs.Slots.{IsSlotCount}
+use Rattle.stream_spec.specs.Parts.{PartFields, slot_in, records_of_slots}
 
--- the packets of all services, of the datagrams that each takes; k is the first of them
-abbrev pub packets_from : ℕ → List ServiceFields → (ℕ → List (List ℕ)) → List (List PacketFields)
-packets_from k [] datagrams = []
-packets_from k (service ∷ services) datagrams = packets_of service (datagrams k) ∷ packets_from (k + 1) services datagrams
+-- The datagrams are those of each version and, in it, of each service by its place: datagrams version k.
 
-abbrev pub service_packets : PlanFields → (ℕ → List (List ℕ)) → List (List PacketFields)
-service_packets plan datagrams = packets_from 0 plan.services datagrams
+-- how many packets service k has in a version
+abbrev pub packet_count : PlanFields → (ℕ → ℕ → List (List ℕ)) → ℕ → ℕ → ℕ
+packet_count plan datagrams k version = length (packets_of (service_in plan version k) 0 (datagrams version k))
 
--- the packets of the INT in a cycle: its section is packetized anew in each, and the counter goes on
-abbrev pub int_packets : PlanFields → Option IntFields → ℕ → List PacketFields
-int_packets plan None cycle = []
-int_packets plan (Some int) cycle =
-    packetized section_form true int.pid (cycle * table_packets plan % 16) (table_bytes (table_of plan int) ∷ [])
+-- of these, those on the PID that it has in another version
+abbrev pub shares_pid : Option ℕ → Option ℕ → Bool
+shares_pid None other = false
+shares_pid (Some pid) other = has_pid other pid
 
--- the packet as it is written
-abbrev pub written : PacketFields → List ℕ
-written packet = packet_bytes packet.pid packet.starts packet.counter packet.payload
+abbrev pub packet_count_on : PlanFields → (ℕ → ℕ → List (List ℕ)) → ℕ → ℕ → ℕ → ℕ
+packet_count_on plan datagrams k other version =
+    if shares_pid (pid_in plan other k) (pid_in plan version k) then packet_count plan datagrams k version else 0
 
--- the packet that a slot of a cycle carries, where the services have these
-abbrev pub packet_in : PlanFields → List (List PacketFields) → ℕ → Slot → List ℕ
-packet_in plan services cycle (of_table n) = written (packet_at (int_packets plan plan.table cycle) n)
-packet_in plan services cycle (of_service k n) = written (packet_at (slice_index_or services k []) n)
-packet_in plan services cycle empty = null_packet
+-- the versions before one
+abbrev pub earlier : ℕ → List ℕ
+earlier version = range_with_len 0 version
 
--- what stands before it: nothing, microseconds, or time at 27 MHz modulo 2^30 with copy permission 0
-abbrev pub stamp_bytes : RecordingForm → ℕ → ℕ → List ℕ
-stamp_bytes plain rate s = []
-stamp_bytes stamped rate s = to_be_bytes w64 (s * 1000000 / rate)
-stamp_bytes m2ts rate s = to_be_bytes w32 (s * 27000000 / rate % 2 ^ 30)
+-- the part of a version, where the parts have so many slots, those before it whole cycles
+abbrev pub part_of : PlanFields → (ℕ → ℕ → List (List ℕ)) → (ℕ → ℕ) → ℕ → PartFields
+part_of plan datagrams slots version = record {
+  plan = plan_in plan version;
+  slots_before = sum_by slots (earlier version);
+  table_before = sum_by (λ v. slots v / plan.cycle * table_packets (plan_in plan v)) (earlier version);
+  packets_before = λ k. sum_by (packet_count_on plan datagrams k version) (earlier version);
+  datagrams = datagrams version;
+}
 
--- how many packets each service has
-abbrev pub packet_counts : List (List PacketFields) → List ℕ
-packet_counts services = map (λ packets. length packets) services
+-- a service has a datagram in the version
+abbrev pub has_datagrams : PlanFields → (ℕ → ℕ → List (List ℕ)) → ℕ → Bool
+has_datagrams plan datagrams version = list_any (λ k. nat_lt 0 (length (datagrams version k))) (range_with_len 0 (length plan.services))
 
--- what slot s carries
-abbrev pub slot_in : PlanFields → List (List PacketFields) → ℕ → Slot
-slot_in plan services s = slot_at (kept_for_table plan.cycle (table_packets plan)) (packet_counts services) s
+-- none has one in a version after it
+abbrev pub is_last : PlanFields → (ℕ → ℕ → List (List ℕ)) → ℕ → Bool
+is_last plan datagrams version = not (list_any (has_datagrams plan datagrams) (range_with_len (version + 1) (length plan.changes - version)))
 
--- the record of slot s
-abbrev pub record_of_slot : PlanFields → List (List PacketFields) → ℕ → List ℕ
-record_of_slot plan services s =
-    stamp_bytes plan.recording plan.packet_rate s ++ packet_in plan services (s / plan.cycle) (slot_in plan services s)
+-- so many slots, up to the end of the last cycle that they begin
+abbrev pub whole_cycles : ℕ → ℕ → ℕ
+whole_cycles cycle slots = (slots + cycle - 1) / cycle * cycle
 
--- the records of a transmission of so many slots
-abbrev pub records_of_slots : PlanFields → List (List PacketFields) → ℕ → List (List ℕ)
-records_of_slots plan services slots = map (record_of_slot plan services) (range_with_len 0 slots)
+-- a part ends with its last packet of a service, or with the cycle of that packet where datagrams follow in another part. So one without
+-- packets has no slots
+pub record IsPartCount (plan : PlanFields) (datagrams : ℕ → ℕ → List (List ℕ)) (slots : ℕ → ℕ) (version : ℕ) : Type 0 where
+  pub least : ℕ
+  pub count : IsSlotCount (slot_in (part_of plan datagrams slots version)) least
+  pub slots_are : slots version ≡ (if is_last plan datagrams version then least else whole_cycles plan.cycle least)
 
 -- the records, one after another, are the stream of these datagrams
-pub record IsStream (plan : PlanFields) (datagrams : ℕ → List (List ℕ)) (records : List (List ℕ)) : Type 0 where
-  pub slots : ℕ
-  pub count : IsSlotCount (slot_in plan (service_packets plan datagrams)) slots
-  pub records_are : records ≡ records_of_slots plan (service_packets plan datagrams) slots
+pub record IsStream (plan : PlanFields) (datagrams : ℕ → ℕ → List (List ℕ)) (records : List (List ℕ)) : Type 0 where
+  pub slots : ℕ → ℕ
+  pub each : (version : ℕ) → version ≤ length plan.changes → IsPartCount plan datagrams slots version
+  pub records_are : records ≡ flat_map (λ version. records_of_slots (part_of plan datagrams slots version) (slots version)) (versions plan)

@@ -30,12 +30,12 @@ unit_of (mpe pid) unicast datagram = section_of unicast datagram
 unit_of (fec pid rows parity window) unicast datagram = []
 unit_of (gse isi address) unicast datagram = []
 
--- the packets of a service's datagrams, with counters from 0
-abbrev pub packets_of_kind : KindFields → List ℕ → List (List ℕ) → List PacketFields
-packets_of_kind (ule pid address packing) unicast datagrams = packetized sndu_form packing pid 0 (map (sndu_of address unicast) datagrams)
-packets_of_kind (mpe pid) unicast datagrams = packetized section_form true pid 0 (map (section_of unicast) datagrams)
-packets_of_kind (fec pid rows parity window) unicast datagrams = []
-packets_of_kind (gse isi address) unicast datagrams = []
+-- the packets of a service's datagrams, with counters from one on
+abbrev pub packets_of_kind : KindFields → List ℕ → ℕ → List (List ℕ) → List PacketFields
+packets_of_kind (ule pid address packing) unicast counter datagrams = packetized sndu_form packing pid counter (map (sndu_of address unicast) datagrams)
+packets_of_kind (mpe pid) unicast counter datagrams = packetized section_form true pid counter (map (section_of unicast) datagrams)
+packets_of_kind (fec pid rows parity window) unicast counter datagrams = []
+packets_of_kind (gse isi address) unicast counter datagrams = []
 
-abbrev pub packets_of : ServiceFields → List (List ℕ) → List PacketFields
-packets_of service datagrams = packets_of_kind service.kind service.unicast datagrams
+abbrev pub packets_of : ServiceFields → ℕ → List (List ℕ) → List PacketFields
+packets_of service counter datagrams = packets_of_kind service.kind service.unicast counter datagrams

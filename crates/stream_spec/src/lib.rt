@@ -7,8 +7,10 @@
 ghost use Rattle.std.specs.Prelude.{◌≡◌, [], ◌∷◌};
 ghost use Rattle.ts_spec.specs.Recording.{m2ts};
 ghost use Rattle.stream_spec.specs.Slots.{of_table, of_service, empty, IsSlotCount};
-ghost use Rattle.stream_spec.specs.Stream.{stamp_bytes};
-ghost use Rattle.stream_spec.specs.Examples.{small_slot, small_slots, idle_slot};
+ghost use Rattle.stream_spec.specs.Parts.{stamp_bytes};
+ghost use Rattle.plan_spec.specs.Examples.{plan_that_changes};
+ghost use Rattle.stream_spec.specs.Stream.{IsPartCount};
+ghost use Rattle.stream_spec.specs.Examples.{small_slot, small_slots, idle_slot, two_of_each, slots_of_files, second_part};
 
 /// Two services in rotation, the table at the head of each cycle, and null packets after the last.
 pub fn small_transmissions()
@@ -22,4 +24,13 @@ pub fn stamps_of_m2ts()
     ensures early { stamp_bytes m2ts 10000 1201 ≡ 0x00 ∷ 0x31 ∷ 0x7A ∷ 0xCC ∷ [] }
     ensures last { stamp_bytes m2ts 10000 397682 ≡ 0x3F ∷ 0xFF ∷ 0xFE ∷ 0x58 ∷ [] }
     ensures behind { stamp_bytes m2ts 10000 397683 ≡ 0x00 ∷ 0x00 ∷ 0x08 ∷ 0xE4 ∷ [] }
+{}
+
+/// Files that move from PID 513 to 514 after two of four datagrams: a whole cycle, and three slots.
+pub fn parts_of_a_stream()
+    ensures first { IsPartCount plan_that_changes two_of_each slots_of_files 0 }
+    ensures second { IsPartCount plan_that_changes two_of_each slots_of_files 1 }
+    ensures slots { second_part.slots_before ≡ 100 }
+    ensures table { second_part.table_before ≡ 1 }
+    ensures counter { second_part.packets_before 0 ≡ 0 }
 {}

@@ -1,0 +1,79 @@
+-- What no version changes of a service.
+use Rattle.std.proofs.Common.{◌≡◌, ℕ, zero, suc, get_or, List, [], ◌∷◌, map, refl, sym, ap, ◌∙◌}
+use Rattle.std.proofs.Math.ListN.{get_or-map}
+use Rattle.plan_spec.specs.Plan.{KindFields, ule, mpe, fec, gse, ServiceFields, MovedFields, PlanFields, pid_of}
+use Rattle.plan_spec.specs.Changes.{with_pid, no_service, services_in, plan_in, service_in, pid_in}
+use Rattle.plan_spec.specs.Built.{is_sent}
+use Rattle.plan_law.proofs.Kept.{kept}
+use Rattle.stream_spec.specs.Units.{unit_of}
+use Rattle.stream_spec.specs.Services.{kind_at, form_of_kind, carried_by_unit}
+
+-- the kind of service k in a version, and its PID there
+pub kind_of_version : (plan : PlanFields) (version k : ℕ) → kind_at (plan_in plan version) k ≡ (service_in plan version k).kind
+kind_of_version plan version k = get_or-map (λ (service : ServiceFields). service.kind) (services_in plan version) k no_service
+
+pub unicast_of_version : (plan : PlanFields) (version k : ℕ)
+    → get_or (map (λ (service : ServiceFields). service.unicast) (plan_in plan version).services) k [] ≡ (service_in plan version k).unicast
+unicast_of_version plan version k = get_or-map (λ (service : ServiceFields). service.unicast) (services_in plan version) k no_service
+
+pub pid_of_version : (plan : PlanFields) (version k : ℕ) → pid_in plan version k ≡ pid_of (kind_at (plan_in plan version) k)
+unfolding pid_in
+pid_of_version plan version k = ap pid_of (sym (kind_of_version plan version k))
+
+-- what the PID does not change of a kind
+pub part_kept : {X : Type 0} (part : KindFields → X) → ((kind : KindFields) (pid : ℕ) → part (with_pid kind pid) ≡ part kind)
+    → (plan : PlanFields) (version k : ℕ) → part (kind_at (plan_in plan version) k) ≡ part (kind_at plan k)
+part_kept {X} part stays plan version k =
+    of_list (services_in plan version) k
+    ∙ ap (λ (l : List X). get_or l k (part (mpe 0)))
+    (kept (λ (service : ServiceFields). part service.kind) (record { same = λ (service : ServiceFields) (moved : MovedFields). stays service.kind moved.pid }) plan version)
+    ∙ sym (of_list plan.services k)
+  where
+    of_list : (services : List ServiceFields) (j : ℕ)
+        → part (get_or (map (λ (service : ServiceFields). service.kind) services) j (mpe 0)) ≡ get_or (map (λ (service : ServiceFields). part service.kind) services) j (part (mpe 0))
+    of_list [] j = refl
+    of_list (service ∷ services) zero = refl
+    of_list (service ∷ services) (suc j) = of_list services j
+
+pub form_kept : (plan : PlanFields) (version k : ℕ) → form_of_kind (kind_at (plan_in plan version) k) ≡ form_of_kind (kind_at plan k)
+form_kept plan version k = part_kept form_of_kind stays plan version k
+  where
+    stays : (kind : KindFields) (pid : ℕ) → form_of_kind (with_pid kind pid) ≡ form_of_kind kind
+    stays (ule old address packing) pid = refl
+    stays (mpe old) pid = refl
+    stays (fec old rows parity window) pid = refl
+    stays (gse isi address) pid = refl
+
+pub carried_kept : (plan : PlanFields) (version k : ℕ) (unit : List ℕ) → carried_by_unit (kind_at (plan_in plan version) k) unit ≡ carried_by_unit (kind_at plan k) unit
+carried_kept plan version k unit = part_kept (λ kind. carried_by_unit kind unit) stays plan version k
+  where
+    stays : (kind : KindFields) (pid : ℕ) → carried_by_unit (with_pid kind pid) unit ≡ carried_by_unit kind unit
+    stays (ule old address packing) pid = refl
+    stays (mpe old) pid = refl
+    stays (fec old rows parity window) pid = refl
+    stays (gse isi address) pid = refl
+
+pub sent_kept : (plan : PlanFields) (version k : ℕ) → is_sent (kind_at (plan_in plan version) k) ≡ is_sent (kind_at plan k)
+sent_kept plan version k = part_kept is_sent stays plan version k
+  where
+    stays : (kind : KindFields) (pid : ℕ) → is_sent (with_pid kind pid) ≡ is_sent kind
+    stays (ule old address packing) pid = refl
+    stays (mpe old) pid = refl
+    stays (fec old rows parity window) pid = refl
+    stays (gse isi address) pid = refl
+
+pub unit_kept : (plan : PlanFields) (version k : ℕ) (mac datagram : List ℕ) → unit_of (kind_at (plan_in plan version) k) mac datagram ≡ unit_of (kind_at plan k) mac datagram
+unit_kept plan version k mac datagram = part_kept (λ kind. unit_of kind mac datagram) stays plan version k
+  where
+    stays : (kind : KindFields) (pid : ℕ) → unit_of (with_pid kind pid) mac datagram ≡ unit_of kind mac datagram
+    stays (ule old address packing) pid = refl
+    stays (mpe old) pid = refl
+    stays (fec old rows parity window) pid = refl
+    stays (gse isi address) pid = refl
+
+-- nor the address of its receivers
+pub unicast_kept : (plan : PlanFields) (version k : ℕ)
+    → get_or (map (λ (service : ServiceFields). service.unicast) (plan_in plan version).services) k [] ≡ get_or (map (λ (service : ServiceFields). service.unicast) plan.services) k []
+unicast_kept plan version k =
+    ap (λ (l : List (List ℕ)). get_or l k [])
+    (kept (λ (service : ServiceFields). service.unicast) (record { same = λ (service : ServiceFields) (moved : MovedFields). refl }) plan version)
