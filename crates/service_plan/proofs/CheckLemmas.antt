@@ -1,10 +1,12 @@
 -- Services against each other.
-use Rattle.std.proofs.Common.{◌≡◌, sum_by, option_map, not, if◌then◌else◌, ℕ, ◌+◌, ◌<◌, ◌≤◌, Bool, true, false, ◌||◌, ◌&&◌, ◌==◌, nat_le, ◌++◌, List, [], ◌∷◌, length, map, get_or, drop, Option, Some, None, nat_lt, is_some, refl, ap, sym, ◌∙◌, arith}
+use Rattle.std.proofs.Common.{◌≡◌, sum_by, option_map, not, if◌then◌else◌, ℕ, ◌+◌, ◌<◌, ◌≤◌, Bool, true, false, ◌||◌, ◌&&◌, ◌==◌, nat_le, ◌++◌, List, [], ◌∷◌, length, map, get_or, drop, Option, Some, None, nat_lt, is_some, refl, ap, ap₂, sym, ◌∙◌, arith}
 use Rattle.std.specs.List.{list_any, list_all, filter_map, cons_option}
 use Rattle.std.proofs.lemmas.List.{drop_more, drop_all}
 use Rattle.std.proofs.lemmas.Bool.Decides.{nat_tests}
 use Rattle.plan_spec.specs.Plan.{KindFields, ServiceFields, IntFields, PlanFields, SlicedFields, sliced_of, pid_of, isi_of, table_pids}
-use Rattle.plan_spec.specs.Checks.{has_pair, is_wrong_window, overlaps, is_gse, is_plain, is_between}
+use Rattle.plan_spec.specs.Checks.{has_pair, is_wrong_window, overlaps, is_gse, is_plain, has_no_rule, has_too_many_rules}
+use Rattle.plan_spec.specs.Changes.{no_service}
+use Rattle.plan_law.proofs.Lists.{neither}
 use Rattle.settings_spec.specs.Keys.{holds}
 use Rattle.plan.specs.Parts.{kind_seen, int_seen, services_seen}
 use Rattle.service_plan.specs.Wholes.{has_slices, ids_seen, int_shares, is_small_gap}
@@ -12,9 +14,7 @@ use Rattle.plan.specs.declared.service.Service.{Service}
 use Rattle.plan.specs.declared.plan.IntPlan.{IntPlan}
 use Rattle.ts_spec.specs.Recording.{RecordingForm}
 use Rattle.addr_rules.specs.declared.rules.Rule.{Rule}
-use Rattle.plan_spec.specs.Valid.{has_valid_top}
 use Rattle.std.proofs.lemmas.List.Sums.{sum_by-cons}
-use Rattle.std.proofs.lemmas.Bool.{and_parts}
 
 abbrev pub kinds_seen : List Service → List KindFields
 kinds_seen services = map (λ (s : ServiceFields). s.kind) (services_seen services)
@@ -118,39 +118,65 @@ pub packets_checked : (frame : Option ℕ) (table : Option IntPlan) (form : Reco
     → r ≡ (if is_some frame then (not (list_all is_gse (kinds_seen services)) || (is_some (option_map int_seen table) || not (is_plain form))) else list_any is_gse (kinds_seen services))
 packets_checked frame table form services r ts any = rw (← ts, any_kind is_gse services) any
 
--- the rules
-abbrev pub lists_seen : List Service → List (List Rule)
-lists_seen services = map (λ (s : ServiceFields). s.rules) (services_seen services)
+-- The rules of services, one after another.
 
-any_rules : (services : List Service) → list_any (λ rules. length rules == 0) (lists_seen services) ≡ list_any (λ (s : Service). length s.rules == 0) services
-any_rules [] = refl
-any_rules (s ∷ services) = rw (any_rules services)
+abbrev pub rules_of : List ServiceFields → List (List Rule)
+rules_of services = map (λ (s : ServiceFields). s.rules) services
 
-sum_rules : (services : List Service) → sum_by length (lists_seen services) ≡ sum_by (λ (s : Service). length s.rules) services
-sum_rules [] = refl
-sum_rules (s ∷ services) = sum_by-cons length s.rules (lists_seen services) ∙ ap (λ n. length s.rules + n) (sum_rules services) ∙ sym (sum_by-cons (λ (s : Service). length s.rules) s services)
+or_second : (a b : Bool) → b ≡ true → (a || b) ≡ true
+or_second true b is = refl
+or_second false b is = is
 
-pub rules_checked : (services : List Service) (r spelled none many : Bool) → r ≡ (not spelled || (none || many)) → none ≡ list_any (λ (s : Service). length s.rules == 0) services
-    → many ≡ nat_lt 128 (sum_by (λ (s : Service). length s.rules) services)
-    → r ≡ (not spelled || (list_any (λ rules. length rules == 0) (lists_seen services) || nat_lt 128 (sum_by length (lists_seen services))))
-rules_checked services r spelled none many all n m = rw (any_rules services, sum_rules services, ← n, ← m) all
+more_is_above : (total count rest : ℕ) → nat_lt 128 (total + count) ≡ true → nat_lt 128 (total + (count + rest)) ≡ true
+more_is_above total count rest above = grind (arith, nat_tests)
 
-pub sum_more : (services : List Service) (i : ℕ) (v : Service) → i < length services → v ≡ get_or services i v
-    → sum_by (λ (s : Service). length s.rules) (drop i services) ≡ length v.rules + sum_by (λ (s : Service). length s.rules) (drop (i + 1) services)
-sum_more services i v within is = rw (drop_more services i v within, ← is) (sum_by-cons (λ (s : Service). length s.rules) v (drop (i + 1) services))
+sum_is : (service : ServiceFields) (services : List ServiceFields) → sum_by length (rules_of (service ∷ services)) ≡ length service.rules + sum_by length (rules_of services)
+sum_is service services = sum_by-cons length service.rules (rules_of services)
 
-pub sum_end : (services : List Service) (i : ℕ) → length services ≤ i → sum_by (λ (s : Service). length s.rules) (drop i services) ≡ 0
-sum_end services i past = rw (drop_all i services past)
+-- where a count is wrong all are, else the others decide
+pub count_wrong : (services : List ServiceFields) (k total count : ℕ) → k < length services → count ≡ length (get_or services k no_service).rules
+    → true ≡ ((count == 0) || nat_lt 128 (total + count)) → true ≡ (has_no_rule (rules_of (drop k services)) || nat_lt 128 (total + sum_by length (rules_of (drop k services))))
+count_wrong services k total count within is wrong = rw (drop_more services k no_service within) (by_count ((count == 0)) refl wrong)
+  where
+    rest : List ServiceFields
+    rest = drop (k + 1) services
 
-pub not_too_many : (a b c : Bool) → false ≡ (a || (b || c)) → c ≡ false
-not_too_many true b c e = absurd (let h = e in cc)
-not_too_many false true c e = absurd (let h = e in cc)
-not_too_many false false c e = sym e
+    by_count : (b : Bool) → (count == 0) ≡ b → true ≡ (b || nat_lt 128 (total + count))
+        → true ≡ (has_no_rule (rules_of (get_or services k no_service ∷ rest)) || nat_lt 128 (total + sum_by length (rules_of (get_or services k no_service ∷ rest))))
+    by_count true none h = sym (ap (λ (t : Bool). (t || has_no_rule (rules_of rest)) || nat_lt 128 (total + sum_by length (rules_of (get_or services k no_service ∷ rest)))) (ap (λ (n : ℕ). n == 0) (sym is) ∙ none))
+    by_count false some h =
+        sym (or_second (has_no_rule (rules_of (get_or services k no_service ∷ rest))) (nat_lt 128 (total + sum_by length (rules_of (get_or services k no_service ∷ rest))))
+        (ap (λ (n : ℕ). nat_lt 128 (total + n)) (sum_is (get_or services k no_service) rest ∙ ap (λ (n : ℕ). n + sum_by length (rules_of rest)) (sym is))
+        ∙ more_is_above total count (sum_by length (rules_of rest)) (sym h)))
 
--- what the ranges of the top table say
-between_least : (least most n : ℕ) → is_between least most n ≡ true → least ≤ n
-between_least least most n h = let (low, high) = and_parts (nat_le least n) (nat_le n most) h in grind (arith, nat_tests)
+pub count_right : (services : List ServiceFields) (k total count : ℕ) → k < length services → count ≡ length (get_or services k no_service).rules
+    → false ≡ ((count == 0) || nat_lt 128 (total + count))
+    → (has_no_rule (rules_of (drop k services)) || nat_lt 128 (total + sum_by length (rules_of (drop k services))))
+    ≡ (has_no_rule (rules_of (drop (k + 1) services)) || nat_lt 128 ((total + count) + sum_by length (rules_of (drop (k + 1) services))))
+count_right services k total count within is right =
+    ap (λ (l : List ServiceFields). has_no_rule (rules_of l) || nat_lt 128 (total + sum_by length (rules_of l))) (drop_more services k no_service within)
+    ∙ ap₂ (λ (t : Bool) (n : ℕ). (t || has_no_rule (rules_of rest)) || nat_lt 128 n) (ap (λ (n : ℕ). n == 0) (sym is) ∙ (neither (count == 0) (nat_lt 128 (total + count)) (sym right)).0)
+    (ap (λ (n : ℕ). total + n) (sum_is (get_or services k no_service) rest ∙ ap (λ (n : ℕ). n + sum_by length (rules_of rest)) (sym is)) ∙ regrouped total count (sum_by length (rules_of rest)))
+  where
+    rest : List ServiceFields
+    rest = drop (k + 1) services
 
-pub rate_is_some : (plan : PlanFields) → has_valid_top plan ≡ true → 1 ≤ plan.packet_rate
-unfolding has_valid_top
-rate_is_some plan valid = between_least 1 1000000 plan.packet_rate (and_parts (is_between 1 1000000 plan.packet_rate) _ valid).0
+    regrouped : (a b c : ℕ) → a + (b + c) ≡ (a + b) + c
+    regrouped a b c = omega arith
+
+pub count_above : (total count : ℕ) → false ≡ ((count == 0) || nat_lt 128 (total + count)) → total + count ≤ 128
+count_above total count right = let h = (neither (count == 0) (nat_lt 128 (total + count)) (sym right)).1 in grind (arith, nat_tests)
+
+pub count_end : (services : List ServiceFields) (k total : ℕ) → length services ≤ k → total ≤ 128
+    → (has_no_rule (rules_of (drop k services)) || nat_lt 128 (total + sum_by length (rules_of (drop k services)))) ≡ false
+count_end services k total past few =
+    ap (λ (l : List ServiceFields). has_no_rule (rules_of l) || nat_lt 128 (total + sum_by length (rules_of l))) (drop_all k services past) ∙ none_above total few
+  where
+    none_above : (n : ℕ) → n ≤ 128 → nat_lt 128 (n + 0) ≡ false
+    none_above n less = grind (arith, nat_tests)
+
+pub few_rules : (services : List ServiceFields) → has_too_many_rules (rules_of services) ≡ false → sum_by length (rules_of services) ≤ 128
+few_rules services few = grind (arith, nat_tests)
+
+pub right_rules : (spelled wrong : Bool) → false ≡ (not spelled || wrong) → wrong ≡ false
+right_rules spelled wrong right = (neither (not spelled) wrong (sym right)).1

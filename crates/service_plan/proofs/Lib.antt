@@ -1,9 +1,13 @@
 pub mod KeyLemmas
 pub mod ServiceLemmas
 pub mod ServicesLemmas
+pub mod MoveLemmas
+pub mod RangeLemmas
+pub mod WrongLemmas
+pub mod ReadLemmas
+pub mod ChangeLemmas
 pub mod PlanLemmas
 pub mod CheckLemmas
 pub mod OrderLemmas
 pub mod AcceptLemmas
 pub mod SizeLemmas
-pub mod ChangeLemmas

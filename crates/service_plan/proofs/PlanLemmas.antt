@@ -1,81 +1,92 @@
 -- A plan of its tables.
-use Rattle.std.proofs.Common.{◌≡◌, ℕ, ◌≤◌, Bool, true, false, List, [], ◌∷◌, length, Option, Some, None, option_map, is_some, suc, codes, if◌then◌else◌, le-leb, refl, ap, ◌∙◌}
-use Rattle.std.specs.List.{list_all, cons_option}
-use Rattle.std.proofs.lemmas.List.{length-map}
+use Rattle.std.proofs.Common.{◌≡◌, ℕ, ◌≤◌, Bool, true, false, ◌&&◌, List, length, map, Option, Some, None, option_map, nat_le, codes, if◌then◌else◌, refl, ap, sym, ◌∙◌, subst, arith}
+use Rattle.std.specs.List.{AllZip}
 use Rattle.std.proofs.lemmas.Bool.{and_parts}
-use Rattle.toml.specs.Data.{Data, Members, as_table}
+use Rattle.std.proofs.lemmas.Bool.Decides.{nat_tests}
+use Rattle.toml.specs.Data.{Members}
 use Rattle.ts_spec.specs.Recording.{RecordingForm}
 use Rattle.addr_rules.specs.declared.rules.Rule.{Rule}
-use Rattle.plan_spec.specs.Plan.{ServiceFields, IntFields, PlanFields, services_with, with_rules}
+use Rattle.plan_spec.specs.Plan.{ServiceFields, IntFields, ChangeFields, PlanFields, services_with, with_rules}
 use Rattle.plan_spec.specs.Checks.{is_between}
-use Rattle.settings_spec.specs.Keys.{tables, is_table, text_or, number_or, table_at, tables_at}
-use Rattle.settings_spec.specs.Settings.{says_baseband, service_key, recording_of, int_of, services_of, changes_at, plan_of}
-use Rattle.plan_spec.specs.Valid.{has_valid_top, is_valid_frame_size, is_valid_int, most_services}
-use Rattle.service_plan.specs.Reading.{rule_for}
-use Rattle.settings_spec.specs.Settings.{rule_texts}
-use Rattle.toml.specs.View.{view}
-use Rattle.toml.specs.declared.value.Value.{Value}
-use Rattle.plan.specs.Parts.{service_seen, services_seen}
-use Rattle.service_plan.specs.Drafts.{HaveRulesOf, texts_of_rules}
-use Rattle.plan.specs.declared.service.Service.{Service}
-use Rattle.settings_keys.specs.Lists.{views, tables_of}
+use Rattle.plan_spec.specs.Valid.{most_services}
+use Rattle.settings_spec.specs.Keys.{tables, text_or, number_or, table_at, tables_at}
+use Rattle.settings_spec.specs.Changes.{ChangeValues, change_values, without_rules, changes_by, with_changes}
+use Rattle.settings_spec.specs.Settings.{says_baseband, service_key, recording_of, int_of, services_of, changes_at, plan_of, rule_texts}
+use Rattle.settings_spec.specs.Refusal.{AreRuleLists, IsSpelledChange}
+use Rattle.plan.specs.Parts.{form_of, int_seen, services_seen, changes_seen}
+use Rattle.plan.specs.declared.plan.IntPlan.{IntPlan}
 use Rattle.settings_keys.specs.declared.key.Key.TheVariants as key
+use Rattle.service_plan.specs.Reading.{rule_for}
+use Rattle.service_plan.specs.Top.{AreTopValues}
+use Rattle.service_plan.specs.Drafts.{rules_seen, texts_of_rules, AreServicesOf}
+use Rattle.service_plan.specs.Changes.{AreChangesOf}
+use Rattle.service_plan.specs.Plans.{IsDraftOf}
+use Rattle.service_plan.specs.declared.top.TopValues.{TopValues}
+use Rattle.service_plan.specs.declared.services.ServicesDraft.{ServicesDraft}
+use Rattle.service_plan.specs.declared.changes.ChangesDraft.{ChangesDraft}
 
-abbrev pub plan_from : RecordingForm → ℕ → ℕ → Option ℕ → Option IntFields → List ServiceFields → PlanFields
-plan_from recording rate cycle frame table services =
-    record { recording = recording; packet_rate = rate; cycle = cycle; frame_bytes = frame; table = table; services = services; version = 0; changes = [] }
+abbrev plan_from : RecordingForm → ℕ → ℕ → Option ℕ → Option IntFields → List ServiceFields → List ChangeFields → PlanFields
+plan_from recording rate cycle frame table services changes =
+    record { recording = recording; packet_rate = rate; cycle = cycle; frame_bytes = frame; table = table; services = services; version = 0; changes = changes }
 
 -- the key of the services asks for as many as the carrier takes
 pub service_key_is : (top : Members) (b : Bool) (n : ℕ) → n ≡ most_services b → b ≡ says_baseband top → rule_for key.Service true (tables n) ≡ service_key top
 service_key_is top b n most said = rw (most, said)
 
-pub plan_of_parts : (top : Members) (recording : RecordingForm) (rate cycle : ℕ) (frame : Option ℕ) (table : Option IntFields) (services : List ServiceFields) (lists : List (List Rule))
+plan_of_parts : (top : Members) (recording : RecordingForm) (rate cycle : ℕ) (frame : Option ℕ) (table : Option IntFields) (services : List ServiceFields) (lists : List (List Rule))
+    (changes : List ChangeFields) (values : List (ChangeValues Rule))
     → recording ≡ recording_of (text_or (codes "plain") (codes "recording") top) → rate ≡ number_or 10000 (codes "packet_rate") top
     → cycle ≡ number_or 20000 (codes "cycle") top → frame ≡ (if says_baseband top then Some (number_or 2000 (codes "frame_bytes") top) else None)
     → table ≡ option_map int_of (table_at (codes "int") top) → services ≡ services_with (services_of 0 (tables_at (codes "service") top)) lists
-    → changes_at top ≡ [] → plan_from recording rate cycle frame table services ≡ with_rules (plan_of top) lists
+    → changes ≡ changes_by services values → plan_from recording rate cycle frame table services changes ≡ with_changes (with_rules (plan_of top) lists) values
 unfolding plan_of
-plan_of_parts top recording rate cycle frame table services lists r p c f t s none = rw (r, p, c, f, t, s, none)
+plan_of_parts top recording rate cycle frame table services lists changes values r p c f t s h = rw (h, r, p, c, f, t, s) refl
 
-pub frame_said : (top : Members) (b : Bool) (bytes : ℕ) → b ≡ says_baseband top → bytes ≡ number_or 2000 (codes "frame_bytes") top
+frame_said : (top : Members) (b : Bool) (bytes : ℕ) → b ≡ says_baseband top → bytes ≡ number_or 2000 (codes "frame_bytes") top
     → (if b then Some bytes else None) ≡ (if says_baseband top then Some (number_or 2000 (codes "frame_bytes") top) else None)
 frame_said top b bytes said is = rw (said, is)
 
-valid_frame : (b : Bool) (bytes : ℕ) → is_between 300 7274 bytes ≡ true → is_valid_frame_size (if b then Some bytes else None) ≡ true
-valid_frame true bytes within = within
-valid_frame false bytes within = refl
-
-count_of_frames : (b : Bool) (bytes : ℕ) → is_some (if b then Some bytes else None) ≡ b
-count_of_frames true bytes = refl
-count_of_frames false bytes = refl
-
--- the ranges of the top table
-pub top_is_valid : (recording : RecordingForm) (rate cycle : ℕ) (b : Bool) (bytes : ℕ) (table : Option IntFields) (services : List ServiceFields)
-    → is_between 1 1000000 rate ≡ true → is_between 100 1000000 cycle ≡ true → is_between 300 7274 bytes ≡ true → is_valid_int table ≡ true
-    → 1 ≤ length services → length services ≤ most_services b → has_valid_top (plan_from recording rate cycle (if b then Some bytes else None) table services) ≡ true
-unfolding has_valid_top
-top_is_valid recording rate cycle b bytes table services r c f t least most =
-    rw (r, c, valid_frame b bytes f, t, count_of_frames b bytes, le-leb 1 (length services) least, le-leb (length services) (most_services b) most)
-
-one_table : (o : Option Members) (ms : List Members) (n : ℕ) → is_some o ≡ true → length ms ≡ n → length (cons_option o ms) ≡ suc n
-one_table None ms n there same = absurd (let h = there in cc)
-one_table (Some m) ms n there same = ap suc same
-
--- a list of tables has as many as it has items
-pub all_tables : (ds : List Data) → list_all is_table ds ≡ true → length (tables_of ds) ≡ length ds
-all_tables [] all = refl
-all_tables (d ∷ ds) all =
-    let (first, others) = and_parts (is_table d) (list_all is_table ds) all in
-    one_table (as_table d) (tables_of ds) (length ds) first (all_tables ds others)
-
-pub rules_of_texts : (top : Members) (rules : List (List Rule)) (spelled : Bool) → HaveRulesOf (texts_of_rules (tables_at (codes "service") top)) rules spelled
-    → HaveRulesOf (rule_texts top) rules spelled
+-- the texts of a table
+texts_of_services : (top : Members) → rule_texts top ≡ texts_of_rules (tables_at (codes "service") top)
 unfolding rule_texts
-rules_of_texts top rules spelled have = have
+texts_of_services top = refl
 
--- how many services there are
-pub counted_services : (items : List Value) (services : List Service) (most : ℕ) → length services ≡ length (tables_of (views items)) → list_all is_table (views items) ≡ true
-    → 1 ≤ length items → length items ≤ most → (1 ≤ length (services_seen services)) × (length (services_seen services) ≤ most)
-counted_services items services most same all least few =
-    let count : length (services_seen services) ≡ length items = length-map services service_seen ∙ same ∙ all_tables (views items) all ∙ length-map items view in
-    rw count (least, few)
+texts_of_changes : (top : Members) → changes_at top ≡ map change_values (tables_at (codes "change") top)
+unfolding changes_at
+texts_of_changes top = refl
+
+at_least : (least most n : ℕ) → is_between least most n ≡ true → least ≤ n
+at_least least most n h = let (low, high) = and_parts (nat_le least n) (nat_le n most) h in grind (arith, nat_tests)
+
+both_true : (a b : Bool) → a ≡ true → b ≡ true → (a && b) ≡ true
+both_true a b x y = rw (x, y)
+
+pub few_services : (b : Bool) (n most : ℕ) → most ≡ most_services b → n ≤ most → n ≤ 64
+few_services true n most is within = omega (arith, is, within)
+few_services false n most is within = omega (arith, is, within)
+
+-- a draft of its parts
+pub draft_is : (top : Members) (values : TopValues) (frame : Option ℕ) (table : Option IntPlan) (services : ServicesDraft) (changes : ChangesDraft) (spelled : Bool)
+    → AreTopValues top values → frame ≡ (if values.baseband then Some values.frame_bytes else None) → option_map int_seen table ≡ option_map int_of (table_at (codes "int") top)
+    → AreServicesOf (tables_at (codes "service") top) services → AreChangesOf (services_seen services.services) (tables_at (codes "change") top) changes
+    → length services.services ≤ 64 → spelled ≡ (services.spelled && changes.spelled)
+    → IsDraftOf top (record { recording = values.recording; packet_rate = values.packet_rate; cycle = values.cycle; frame_bytes = frame; table = table; services = services.services; changes = changes.changes; spelled = spelled })
+draft_is top values frame table services changes spelled top_is frame_is table_is services_are changes_are few spelled_is = record {
+  changes = changes_are.values;
+  seen = plan_of_parts top (form_of values.recording) values.packet_rate values.cycle frame (option_map int_seen table) (services_seen services.services) (rules_seen services.services)
+      (changes_seen changes.changes) changes_are.values top_is.recording top_is.packet_rate top_is.cycle
+      (frame_is ∙ frame_said top values.baseband values.frame_bytes top_is.baseband top_is.frame_bytes) table_is services_are.seen changes_are.seen;
+  same = changes_are.same ∙ ap (λ (l : List (ChangeValues (List ℕ))). map without_rules l) (sym (texts_of_changes top));
+  spelled = λ yes.
+      let parts = and_parts services.spelled changes.spelled (sym spelled_is ∙ yes) in
+      record {
+        of_services = subst (λ texts. AreRuleLists texts (rules_seen services.services)) (sym (texts_of_services top)) (services_are.rules.all parts.0);
+        of_changes = subst (λ texts. AllZip IsSpelledChange texts changes_are.values) (sym (texts_of_changes top)) (changes_are.read.all parts.1);
+      };
+  only = λ lists others are.
+      let of_services = services_are.rules.only lists (subst (λ texts. AreRuleLists texts lists) (texts_of_services top) are.of_services) in
+      let of_changes = changes_are.read.only others (subst (λ texts. AllZip IsSpelledChange texts others) (texts_of_changes top) are.of_changes) in
+      (spelled_is ∙ both_true services.spelled changes.spelled of_services.0 of_changes.0, (of_services.1, of_changes.1));
+  rate = at_least 1 1000000 values.packet_rate top_is.rate_in_range;
+  count = few;
+}

@@ -3,6 +3,8 @@ pub mod Reading
 pub mod Top
 pub mod Services
 pub mod Drafts
+pub mod Moves
+pub mod Changes
 pub mod Plans
 pub mod Wholes
 pub mod Order

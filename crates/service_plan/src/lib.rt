@@ -4,10 +4,13 @@
 //! Begin with `read_plan`. The types and calls of `plan` are passed on.
 #![tactic(auto)]
 
+mod change_checks;
+mod changes;
 mod fault;
 mod int;
 mod int_packets;
 mod kinds;
+mod moves;
 mod plan_checks;
 mod read;
 mod service_draft;

@@ -1,22 +1,26 @@
 //! The checks over a whole plan, in their order.
-ghost use Rattle.std.specs.Prelude.{◌≡◌, ◌≤◌, ◌||◌, ◌==◌, not, true, length, nat_lt, sum_by, is_some};
-ghost use Rattle.std.specs.List.{list_all, list_any};
-ghost use Rattle.plan_spec.specs.Plan.{rule_lists};
+ghost use Rattle.std.specs.Prelude.{◌≡◌, ◌≤◌, ◌+◌, ◌||◌, ◌==◌, nat_lt, not, length, map, take};
+ghost use Rattle.std.specs.List.{list_all, list_any, range_with_len};
 ghost use Rattle.plan_spec.specs.Checks.{is_gse as is_gse_kind, has_wrong_carrier as has_bad_carrier, has_wrong_count};
-ghost use Rattle.plan_spec.specs.Valid.{has_valid_top};
+ghost use Rattle.plan_spec.specs.Wholes.{has_wrong_rules as has_bad_rules};
 ghost use Rattle.plan.specs.Parts.{kind_seen};
+ghost use Rattle.service_plan.specs.Moves.{services_after};
 ghost use Rattle.service_plan.specs.Plans.{draft_seen};
-ghost use Rattle.service_plan.specs.Reading.{Answers, Always};
+ghost use Rattle.service_plan.specs.Reading.{AnswersOrWants, Always};
 ghost use Rattle.service_plan.specs.Order.{whole_fault};
 
-use crate::fault::PlanFault;
-use crate::int_packets::table_packets;
+use crate::change_checks::has_wrong_change;
+use crate::fault::{PlanError, PlanFault};
+use crate::int_packets::most_table_packets;
+use crate::moves::rules_after;
+use crate::services::either;
 use crate::settings_draft::Draft;
 use crate::unique_checks::{any_of, has_same_name, has_same_pid};
 use crate::window_checks::{
     has_long_cycle, has_short_gap, has_wrong_window, is_plain, needs_stamps,
 };
-use plan::{Kind, Service};
+use plan::{Change, Kind, Service};
+use std::alloc::Global;
 
 /// The rules of all services together, at most.
 const MOST_RULES: usize = 128;
@@ -59,21 +63,23 @@ fn has_wrong_carrier(draft: &Draft) -> bool
     has_gse(services)
 }
 
-/// Whether a service has no rule.
-fn has_no_rule(services: &[Service]) -> bool
-    ensures read { result ≡ list_any (λ s. length s.rules == 0) services.now }
+/// Whether a service has no rule, or more than those before it leave.
+fn is_wrong_count(count: usize, total: usize) -> bool
+    requires { total ≤ 128 }
+    ensures { result ≡ ((count == 0) || nat_lt 128 (total + count)) }
 {
-    services.iter().any(|service| service.rules.len() == 0)
+    count == 0 || count > MOST_RULES - total
 }
 
-/// Whether there are more rules than a plan may have.
-fn has_too_many_rules(services: &[Service]) -> bool
-    ensures read { result ≡ nat_lt 128 (sum_by (λ s. length s.rules) services.now) }
+/// Whether a service has no rule after some changes, or there are more rules than a plan may have.
+fn has_wrong_counts(services: &[Service], changes: &[Change]) -> bool
+    requires { length services.now ≤ 64 }
+    ensures { result ≡ has_wrong_count (map (λ s. s.rules) (services_after services.now changes.now)) }
 {
     let mut total = 0;
-    for service in services {
-        let count = service.rules.len();
-        if count > MOST_RULES - total {
+    for service in 0..services.len() {
+        let count = rules_after(services, changes, service as u32).len();
+        if is_wrong_count(count, total) {
             return true;
         }
         total += count;
@@ -81,46 +87,60 @@ fn has_too_many_rules(services: &[Service]) -> bool
     false
 }
 
+/// Whether the counts are wrong in a version.
+fn any_wrong_counts(services: &[Service], changes: &[Change]) -> bool
+    requires { length services.now ≤ 64 }
+    ensures { result ≡ list_any (λ version. has_wrong_count (map (λ s. s.rules) (services_after services.now (take version changes.now)))) (range_with_len 0 (length changes.now + 1)) }
+{
+    for version in 0..changes.len() + 1 {
+        if has_wrong_counts(services, &changes[..version]) {
+            return true;
+        }
+    }
+    false
+}
+
 /// Rules.
 fn has_wrong_rules(draft: &Draft) -> bool
-    ensures read { result ≡ (not draft.now.spelled || has_wrong_count (rule_lists (draft_seen draft.now))) }
+    requires { length draft.now.services ≤ 64 }
+    ensures read { result ≡ (not draft.now.spelled || has_bad_rules (draft_seen draft.now)) }
 {
-    let services = draft.services.items();
-    any_of(
-        !draft.spelled,
-        has_no_rule(services),
-        has_too_many_rules(services),
-    )
+    let wrong = any_wrong_counts(draft.services.items(), draft.changes.items());
+    either(!draft.spelled, wrong)
 }
 
 /// Answers the first check over the whole that fails.
-pub(crate) fn check_whole(draft: &Draft) -> Result<(), PlanFault>
-    requires { has_valid_top (draft_seen draft.now) ≡ true }
-    ensures read { Answers result (whole_fault draft.now.spelled (draft_seen draft.now)) Always }
+pub(crate) fn check_whole(alloc: Global, draft: &Draft) -> Result<(), PlanError>
+    requires rate { 1 ≤ draft.now.packet_rate }
+    requires services { length draft.now.services ≤ 64 }
+    ensures read { AnswersOrWants result (whole_fault draft.now.spelled (draft_seen draft.now)) Always }
 {
     if has_wrong_carrier(draft) {
-        return Err(PlanFault::Carrier);
+        return Err(PlanError::Fault(PlanFault::Carrier));
     }
     if has_same_name(draft) {
-        return Err(PlanFault::SameName);
+        return Err(PlanError::Fault(PlanFault::SameName));
     }
     if has_same_pid(draft) {
-        return Err(PlanFault::SamePid);
+        return Err(PlanError::Fault(PlanFault::SamePid));
+    }
+    if has_wrong_change(alloc, draft)? {
+        return Err(PlanError::Fault(PlanFault::Change));
     }
     if has_wrong_rules(draft) {
-        return Err(PlanFault::Rules);
+        return Err(PlanError::Fault(PlanFault::Rules));
     }
     if needs_stamps(draft) {
-        return Err(PlanFault::NeedsStamps);
+        return Err(PlanError::Fault(PlanFault::NeedsStamps));
     }
-    if has_wrong_window(draft, table_packets(draft)) {
-        return Err(PlanFault::Window);
+    if has_wrong_window(draft, most_table_packets(draft)) {
+        return Err(PlanError::Fault(PlanFault::Window));
     }
     if has_short_gap(draft) {
-        return Err(PlanFault::Gap);
+        return Err(PlanError::Fault(PlanFault::Gap));
     }
     if has_long_cycle(draft) {
-        return Err(PlanFault::Delta);
+        return Err(PlanError::Fault(PlanFault::Delta));
     }
     Ok(())
 }

@@ -12,7 +12,7 @@ ghost use Rattle.service_plan.specs.Accepted.{IsAcceptedTable};
 use crate::fault::{PlanError, PlanFault};
 use crate::plan_checks::check_whole;
 use crate::settings_draft::{Draft, read_tables};
-use plan::{ChangeList, Plan};
+use plan::Plan;
 use std::alloc::Global;
 use toml::Table;
 
@@ -42,7 +42,7 @@ fn plan_of_table(alloc: Global, top: &Table) -> Result<Plan, PlanError>
         Ok(draft) => draft,
         Err(error) => return Err(error),
     };
-    match check_whole(&draft) {
+    match check_whole(alloc, &draft) {
         Ok(()) => {
             let Draft {
                 recording,
@@ -51,6 +51,7 @@ fn plan_of_table(alloc: Global, top: &Table) -> Result<Plan, PlanError>
                 frame_bytes,
                 table,
                 services,
+                changes,
                 spelled: _,
             } = draft;
             Ok(Plan {
@@ -60,17 +61,17 @@ fn plan_of_table(alloc: Global, top: &Table) -> Result<Plan, PlanError>
                 frame_bytes,
                 table,
                 services,
-                changes: ChangeList::new(alloc),
+                changes,
             })
         }
-        Err(fault) => Err(PlanError::Fault(fault)),
+        Err(error) => Err(error),
     }
 }
 
 /// Reads a plan from settings, a TOML document.
 ///
-/// The error names the first check that fails: the document; then the top table, that of the INT and each service in order, in each
-/// an unknown key first and then key by key; then the checks over the whole.
+/// The error names the first check that fails: the document; then the top table, that of the INT, each service and each change in
+/// order, in each an unknown key first and then key by key; then the checks over the whole.
 pub fn read_plan(alloc: Global, text: &[u8]) -> Result<Plan, PlanError>
     ensures read { IfOk result (λ plan. IsAccepted text.now (plan_fields plan)) }
     ensures refused { IfErr result (λ e. OnFault e (IsRefused text.now)) }

@@ -1,5 +1,5 @@
 //! The list of services in settings.
-ghost use Rattle.std.specs.Prelude.{◌≡◌, ◌≤◌, ◌&&◌, length};
+ghost use Rattle.std.specs.Prelude.{◌≡◌, ◌≤◌, ◌&&◌, ◌||◌, length};
 ghost use Rattle.settings_spec.specs.Settings.{services_fault};
 ghost use Rattle.settings_keys.specs.Lists.{views, tables_of};
 ghost use Rattle.service_plan.specs.Reading.{AnswersOrWants};
@@ -23,6 +23,13 @@ pub(crate) fn both(one: bool, other: bool) -> bool
     ensures { result ≡ (one && other) }
 {
     one && other
+}
+
+/// One of two.
+pub(crate) fn either(one: bool, other: bool) -> bool
+    ensures { result ≡ (one || other) }
+{
+    one || other
 }
 
 /// Reads the services, of which there are 64 at most.

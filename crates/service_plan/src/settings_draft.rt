@@ -5,13 +5,14 @@ ghost use Rattle.plan_spec.specs.Valid.{most_services};
 ghost use Rattle.service_plan.specs.Reading.{AnswersOrWants};
 ghost use Rattle.service_plan.specs.Plans.{IsDraftOf, parts_fault};
 
+use crate::changes::read_changes;
 use crate::fault::PlanError;
 use crate::int::read_int;
-use crate::services::read_services;
+use crate::services::{both, read_services};
 use crate::top::{int_table, top_values};
 use ipe_io::Recording;
-use plan::{IntPlan, ServiceList};
-use settings_keys::{Key, refuse_unknown, service_items};
+use plan::{ChangeList, IntPlan, ServiceList};
+use settings_keys::{Key, change_items, refuse_unknown, table_items};
 use std::alloc::Global;
 use toml::Table;
 
@@ -24,11 +25,12 @@ pub(crate) struct Draft {
     pub(crate) frame_bytes: Option<u16>,
     pub(crate) table: Option<IntPlan>,
     pub(crate) services: ServiceList,
+    pub(crate) changes: ChangeList,
     pub(crate) spelled: bool,
 }
 
 /// The keys of the top table.
-const TOP_KEYS: [Key; 7] = [
+const TOP_KEYS: [Key; 8] = [
     Key::Carrier,
     Key::Recording,
     Key::PacketRate,
@@ -36,6 +38,7 @@ const TOP_KEYS: [Key; 7] = [
     Key::FrameBytes,
     Key::Int,
     Key::Service,
+    Key::Change,
 ];
 
 /// How many services there may be.
@@ -53,17 +56,19 @@ fn frame_size(baseband: bool, bytes: u32) -> Option<u16>
     if baseband { Some(bytes as u16) } else { None }
 }
 
-/// Reads the top table, then that of the INT, then those of the services.
-#[tactic(auto, using(settings_keys::proofs::KeyLemmas::first_here, settings_keys::proofs::KeyLemmas::first_later))]
+/// Reads the top table, then that of the INT, then those of the services, then those of the changes.
+#[tactic(auto, using(settings_keys::proofs::KeyLemmas::first_here, settings_keys::proofs::KeyLemmas::first_later, crate::proofs::KeyLemmas::error_here, crate::proofs::KeyLemmas::error_later))]
 pub(crate) fn read_tables(alloc: Global, top: &Table) -> Result<Draft, PlanError>
     ensures read { AnswersOrWants result (parts_fault (table_view top.now)) (IsDraftOf (table_view top.now)) }
 {
     refuse_unknown(top, &TOP_KEYS)?;
     let values = top_values(top)?;
     let int = int_table(top)?;
-    let items = service_items(top, most(values.baseband))?;
+    let items = table_items(top, Key::Service, most(values.baseband))?;
     let table = read_int(int)?;
     let read = read_services(alloc, items)?;
+    let change_list = change_items(top)?;
+    let changed = read_changes(alloc, read.services.items(), change_list)?;
     Ok(Draft {
         recording: values.recording,
         packet_rate: values.packet_rate,
@@ -71,6 +76,7 @@ pub(crate) fn read_tables(alloc: Global, top: &Table) -> Result<Draft, PlanError
         frame_bytes: frame_size(values.baseband, values.frame_bytes),
         table,
         services: read.services,
-        spelled: read.spelled,
+        changes: changed.changes,
+        spelled: both(read.spelled, changed.spelled),
     })
 }

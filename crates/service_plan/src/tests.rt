@@ -1,6 +1,9 @@
 //! Settings by hand: those of a realistic run, and each fault beside neighbours that are accepted.
 
-use crate::{Key, Kind, PlanError, PlanFault, longest, read_plan, route, sample_plan, ule_plan};
+use crate::{
+    Key, Kind, PlanError, PlanFault, longest, pid_in, read_plan, route, route_in, sample_plan,
+    ule_plan, version_at,
+};
 use ip_datagram::IpAddress;
 use ipe_io::Recording;
 use std::alloc::{AllocError, Global};
@@ -329,7 +332,7 @@ fn each_fault_of_a_key_is_named(rt: HostRuntime) -> Result<(), Fail> {
             Some(PlanFault::Range(Key::Kind)),
         ),
         (
-            ["change = []\n", head, rules, "pid = 513\n"],
+            ["urgent = []\n", head, rules, "pid = 513\n"],
             Some(PlanFault::Unknown),
         ),
         (["", "", "", ""], Some(PlanFault::Missing(Key::Service))),
@@ -338,6 +341,346 @@ fn each_fault_of_a_key_is_named(rt: HostRuntime) -> Result<(), Fail> {
         assert_eq!(rt; fault_of(alloc, &pieces)?, want.map(PlanError::Fault));
     }
     assert!(rt; read_plan(alloc, &[0xFF]).is_err());
+    Ok(())
+}
+
+/// Other files in MPE sections.
+const OTHER: &str =
+    "[[service]]\nname = \"other\"\nkind = \"mpe\"\npid = 515\nrules = [\"239.3.0.0/16\"]\n";
+
+/// A service in baseband frames.
+const FRAMES: &str =
+    "[[service]]\nname = \"files\"\nkind = \"gse\"\nisi = 1\nrules = [\"239.2.0.0/16\"]\n";
+
+/// Files that move from the third record on.
+const MOVE: &str = "[[change]]\nat = 3\n[[change.service]]\nname = \"files\"\npid = 514\n";
+
+/// Changes: their order, their names and their PIDs, each beside neighbours that are accepted.
+#[test]
+fn each_wrong_change_is_refused(rt: HostRuntime) -> Result<(), Fail> {
+    let alloc = rt.alloc();
+    let both = "[[change]]\nat = 4\n[[change.service]]\nname = \"other\"\npid = 516\n";
+    let cases: [Case; 17] = [
+        ([INT, FILES, MOVE, ""], None),
+        ([INT, FILES, OTHER, MOVE], None),
+        ([INT, FILES, MOVE, MOVE], Some(PlanFault::Change)),
+        (
+            [
+                INT,
+                FILES,
+                MOVE,
+                "[[change]]\nat = 4\n[[change.service]]\nname = \"files\"\npid = 514\n",
+            ],
+            None,
+        ),
+        (
+            [
+                INT,
+                FILES,
+                MOVE,
+                "[[change]]\nat = 2\n[[change.service]]\nname = \"files\"\npid = 515\n",
+            ],
+            Some(PlanFault::Change),
+        ),
+        (
+            [
+                INT,
+                FILES,
+                "[[change]]\nat = 3\n[[change.service]]\nname = \"lecture\"\npid = 514\n",
+                "",
+            ],
+            Some(PlanFault::Change),
+        ),
+        (
+            [
+                INT,
+                FILES,
+                "[[change]]\nat = 3\n[[change.service]]\nname = \"lecture\"\n[[change.service]]\nname = \"sport\"\n",
+                "",
+            ],
+            Some(PlanFault::Change),
+        ),
+        (
+            [
+                INT,
+                FILES,
+                MOVE,
+                "[[change.service]]\nname = \"files\"\npid = 515\n",
+            ],
+            Some(PlanFault::Change),
+        ),
+        (
+            [
+                INT,
+                FILES,
+                "[[change]]\nat = 3\n[[change.service]]\nname = \"files\"\npid = 600\n",
+                "",
+            ],
+            Some(PlanFault::Change),
+        ),
+        (
+            [
+                INT,
+                FILES,
+                OTHER,
+                "[[change]]\nat = 3\n[[change.service]]\nname = \"files\"\npid = 515\n",
+            ],
+            Some(PlanFault::Change),
+        ),
+        (
+            [
+                INT,
+                FILES,
+                OTHER,
+                "[[change]]\nat = 3\n[[change.service]]\nname = \"files\"\npid = 515\n[[change.service]]\nname = \"other\"\npid = 513\n",
+            ],
+            Some(PlanFault::Change),
+        ),
+        (
+            [
+                INT,
+                FILES,
+                MOVE,
+                "[[change]]\nat = 4\n[[change.service]]\nname = \"files\"\npid = 513\n",
+            ],
+            Some(PlanFault::Change),
+        ),
+        (
+            [
+                INT,
+                OTHER,
+                FILES,
+                "[[change]]\nat = 3\n[[change.service]]\nname = \"other\"\npid = 516\n[[change]]\nat = 4\n[[change.service]]\nname = \"files\"\npid = 515\n",
+            ],
+            Some(PlanFault::Change),
+        ),
+        (
+            [
+                INT,
+                OTHER,
+                FILES,
+                "[[change]]\nat = 3\n[[change.service]]\nname = \"files\"\npid = 516\n[[change]]\nat = 4\n[[change.service]]\nname = \"other\"\npid = 516\n",
+            ],
+            Some(PlanFault::Change),
+        ),
+        ([INT, FILES, OTHER, both], None),
+        (
+            ["carrier = \"bb\"\n", INT, FRAMES, MOVE],
+            Some(PlanFault::Carrier),
+        ),
+        (
+            ["carrier = \"bb\"\n", FRAMES, MOVE, ""],
+            Some(PlanFault::Missing(Key::Int)),
+        ),
+    ];
+    for (pieces, want) in cases {
+        assert_eq!(rt; fault_of(alloc, &pieces)?, want.map(PlanError::Fault));
+    }
+    Ok(())
+}
+
+/// What one line of a change is refused for.
+#[test]
+fn each_fault_of_a_change_is_named(rt: HostRuntime) -> Result<(), Fail> {
+    let alloc = rt.alloc();
+    let files = "[[change.service]]\nname = \"files\"\n";
+    let cases: [Case; 18] = [
+        (
+            ["change = []\n", FILES, "", ""],
+            Some(PlanFault::Missing(Key::Int)),
+        ),
+        (
+            ["change = []\n", INT, FILES, ""],
+            Some(PlanFault::Range(Key::Change)),
+        ),
+        (
+            ["change = 3\n", INT, FILES, ""],
+            Some(PlanFault::Type_(Key::Change)),
+        ),
+        (
+            ["change = [3]\n", INT, FILES, ""],
+            Some(PlanFault::Type_(Key::Change)),
+        ),
+        (
+            ["change = 3\n", INT, FILES, "rows = 256\n"],
+            Some(PlanFault::Unknown),
+        ),
+        (
+            [INT, FILES, "[[change]]\n", files],
+            Some(PlanFault::Missing(Key::At)),
+        ),
+        (
+            [INT, FILES, "[[change]]\nat = 1\n", files],
+            Some(PlanFault::Range(Key::At)),
+        ),
+        ([INT, FILES, "[[change]]\nat = 2\n", files], None),
+        ([INT, FILES, "[[change]]\nat = 4194304\n", files], None),
+        (
+            [INT, FILES, "[[change]]\nat = 4194305\n", files],
+            Some(PlanFault::Range(Key::At)),
+        ),
+        (
+            [INT, FILES, "[[change]]\nat = 3\n", ""],
+            Some(PlanFault::Missing(Key::Service)),
+        ),
+        (
+            [INT, FILES, "[[change]]\nspeed = 3\n", ""],
+            Some(PlanFault::Unknown),
+        ),
+        (
+            [
+                INT,
+                FILES,
+                "[[change]]\nat = 3\n",
+                "[[change.service]]\npid = 514\n",
+            ],
+            Some(PlanFault::Missing(Key::Name)),
+        ),
+        (
+            [
+                INT,
+                FILES,
+                "[[change]]\nat = 3\n",
+                "[[change.service]]\nname = 7\npid = 31\n",
+            ],
+            Some(PlanFault::Type_(Key::Name)),
+        ),
+        (
+            [INT, FILES, MOVE, "kind = \"ule\"\n"],
+            Some(PlanFault::Unknown),
+        ),
+        (
+            [
+                INT,
+                FILES,
+                "[[change]]\nat = 3\n[[change.service]]\nname = \"\"\n",
+                "pid = 31\n",
+            ],
+            Some(PlanFault::Range(Key::Pid)),
+        ),
+        (
+            [INT, FILES, MOVE, "rules = [7]\n"],
+            Some(PlanFault::Type_(Key::Rules)),
+        ),
+        ([INT, FILES, MOVE, "rules = [\"10.0.0.0/8\"]\n"], None),
+    ];
+    for (pieces, want) in cases {
+        assert_eq!(rt; fault_of(alloc, &pieces)?, want.map(PlanError::Fault));
+    }
+    Ok(())
+}
+
+/// A text with so many rules at its end.
+fn with_rules(alloc: Global, pieces: &[&str; 4], count: usize) -> Result<String, AllocError> {
+    let mut text = joined(alloc, pieces)?;
+    text.push_str("rules = [")?;
+    for _ in 0..count {
+        text.push_str("\"10.0.0.0/8\", ")?;
+    }
+    text.push_str("]\n")?;
+    Ok(text)
+}
+
+/// Rules are counted in each version, before the windows are asked; the INT of a later version may need the longest time.
+#[test]
+fn rules_and_windows_are_checked_in_each_version(rt: HostRuntime) -> Result<(), Fail> {
+    let alloc = rt.alloc();
+    let files = "[[change]]\nat = 3\n[[change.service]]\nname = \"files\"\n";
+    let lecture = "[[change]]\nat = 3\n[[change.service]]\nname = \"lecture\"\n";
+    let early =
+        "recording = \"stamped\"\n[int]\npid = 600\nplatform_id = 1\nnetwork_id = 2\noriginal_network_id = 3\ntransport_stream_id = 4\n";
+    let cases: [([&str; 4], usize, Option<PlanFault>); 8] = [
+        ([INT, FILES, files, ""], 0, Some(PlanFault::Rules)),
+        ([INT, FILES, files, ""], 1, None),
+        ([INT, FILES, files, ""], 128, None),
+        ([INT, FILES, files, ""], 129, Some(PlanFault::Rules)),
+        (
+            [
+                early,
+                LECTURE,
+                "window_start = 0\nwindow_length = 387\n",
+                lecture,
+            ],
+            0,
+            Some(PlanFault::Rules),
+        ),
+        (
+            [
+                early,
+                LECTURE,
+                "window_start = 0\nwindow_length = 387\n",
+                lecture,
+            ],
+            1,
+            Some(PlanFault::Window),
+        ),
+        (
+            [
+                early,
+                LECTURE,
+                "window_start = 1\nwindow_length = 387\n",
+                lecture,
+            ],
+            1,
+            None,
+        ),
+        (
+            [
+                early,
+                LECTURE,
+                "window_start = 1\nwindow_length = 387\n",
+                lecture,
+            ],
+            40,
+            Some(PlanFault::Window),
+        ),
+    ];
+    for (pieces, count, want) in cases {
+        let text = with_rules(alloc, &pieces, count)?;
+        let fault = match read_plan(alloc, text.as_bytes()) {
+            Ok(_) => None,
+            Err(error) => Some(error),
+        };
+        assert_eq!(rt; fault, want.map(PlanError::Fault));
+    }
+    assert_eq!(rt;
+        fault_of(alloc, &[INT, FILES, MOVE, "rules = [\"10.0.0.1/8\"]\n"])?,
+        Some(PlanError::Fault(PlanFault::Rules))
+    );
+    Ok(())
+}
+
+/// What a change does not give is as it was before it, and not as it was at first.
+#[test]
+fn a_plan_that_changes_is_read(rt: HostRuntime) -> Result<(), Fail> {
+    let alloc = rt.alloc();
+    let text = joined(
+        alloc,
+        &[
+            INT,
+            OTHER,
+            FILES,
+            "[[change]]\nat = 3\n[[change.service]]\nname = \"files\"\npid = 514\nrules = [\"10.0.0.0/8\"]\n[[change]]\nat = 5\n[[change.service]]\nname = \"files\"\n[[change.service]]\nname = \"other\"\npid = 516\n",
+        ],
+    )?;
+    let plan = read_plan(alloc, text.as_bytes()).map_err(|_| "settings")?;
+    assert_eq!(rt; plan.services.len(), 2);
+    assert_eq!(rt; plan.changes.len(), 2);
+    assert_eq!(rt; plan.changes.at(1).at, 5);
+    let moved = &plan.changes.at(1).moved;
+    assert_eq!(rt; moved.len(), 2);
+    assert_eq!(rt; moved.at(0).service, 1);
+    assert_eq!(rt; moved.at(0).pid, 514);
+    assert_eq!(rt; moved.at(0).rules.len(), 1);
+    assert_eq!(rt; moved.at(1).service, 0);
+    assert_eq!(rt; moved.at(1).pid, 516);
+    assert_eq!(rt; version_at(&plan, 2), 0);
+    assert_eq!(rt; version_at(&plan, 4), 1);
+    assert_eq!(rt; version_at(&plan, 5), 2);
+    assert_eq!(rt; pid_in(&plan, 2, 1), Some(514));
+    assert_eq!(rt; route_in(&plan, 2, &IpAddress::V4([10, 0, 0, 9])), Some(1));
+    assert_eq!(rt; route_in(&plan, 2, &IpAddress::V4([239, 2, 2, 2])), None);
+    assert_eq!(rt; route_in(&plan, 0, &IpAddress::V4([239, 2, 2, 2])), Some(1));
     Ok(())
 }
 

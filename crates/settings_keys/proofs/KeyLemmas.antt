@@ -1,11 +1,12 @@
 -- What is wrong at a key, by what stands there.
-use Rattle.std.proofs.Common.{◌≡◌, ◌≤◌, le-leb, bytes_eq, ℕ, ℤ, Bool, true, false, List, [], Option, Some, None, refl, sym, if◌then◌else◌}
+use Rattle.std.proofs.Common.{◌≡◌, ◌≤◌, le-leb, bytes_eq, ℕ, ℤ, Bool, true, false, List, [], Option, Some, None, refl, ap, sym, not, if◌then◌else◌}
 use Rattle.addr_rules.specs.Texts.{mac_of_text}
 use Rattle.toml.specs.Data.{Data, Members, get_member, as_str, as_integer, as_bool, as_table}
-use Rattle.settings_spec.specs.Keys.{SettingsFault, missing, wrong_type, out_of_range, KeyRule, has_type, in_range, key_fault, first_of, text_or, number_or, flag_or, address_or, natural, as_natural, holds, table_at}
+use Rattle.settings_spec.specs.Keys.{SettingsFault, missing, wrong_type, out_of_range, KeyRule, has_type, in_range, key_fault, first_of, text_or, number_or, flag_or, address_or, natural, as_natural, holds, table_at, Values, range, required, optional, value_fault, number_at}
 use Rattle.plan_spec.specs.Checks.{is_between}
 use Rattle.std.proofs.lemmas.Slice.Eq.{bytes_eq-Decides}
 use Rattle.settings_spec.specs.Keys.{items_at}
+use Rattle.std.specs.Option.{option_and_then, unwrap_or}
 use Rattle.settings_keys.specs.Reading.{within}
 
 -- nothing stands there
@@ -29,6 +30,12 @@ fault_ranged rule table d there typed ranged = rw (← there, typed, ranged)
 pub no_fault_there : (rule : KeyRule) (table : Members) (d : Data) → Some d ≡ get_member rule.name table → has_type rule.values d ≡ true → in_range rule.values d ≡ true → key_fault rule table ≡ None
 unfolding key_fault
 no_fault_there rule table d there typed ranged = rw (← there, typed, ranged)
+
+-- where something stands there, it is as wrong at a key that may be left out as at one that must be there
+pub fault_of_some : (name : List ℕ) (values : Values) (table : Members) (d : Data) → Some d ≡ get_member name table
+    → key_fault (optional name values) table ≡ key_fault (required name values) table
+unfolding key_fault
+fault_of_some name values table d there = rw (← there) refl
 
 -- the values there, or the defaults
 pub number_absent : (default : ℕ) (key : List ℕ) (table : Members) → None ≡ get_member key table → default ≡ number_or default key table
@@ -122,3 +129,24 @@ items_absent key table absent = rw (← absent)
 -- texts that are tested equal
 pub same_text : (a b : List ℕ) → bytes_eq a b ≡ true → a ≡ b
 same_text a b same = (bytes_eq-Decides a b).0 same
+
+-- a number that may be left out
+pub no_number : (key : List ℕ) (table : Members) → None ≡ get_member key table → None ≡ number_at key table
+unfolding number_at
+no_number key table absent = rw (← absent) refl
+
+pub some_number : (least most : ℕ) (key : List ℕ) (table : Members) (n : ℕ) → key_fault (required key (range least most)) table ≡ None → n ≡ number_or 0 key table
+    → Some n ≡ number_at key table
+unfolding key_fault number_or number_at
+some_number least most key table n none is = by_value (get_member key table) none is
+  where
+    by_number : (o : Option ℕ) (typed : Bool) (f g : SettingsFault) → (if not typed then Some f else if not (holds (is_between least most) o) then Some g else None) ≡ None
+        → n ≡ unwrap_or o 0 → Some n ≡ o
+    by_number None true f g right same = absurd (let h = right in cc)
+    by_number None false f g right same = absurd (let h = right in cc)
+    by_number (Some m) typed f g right same = ap Some same
+
+    by_value : (o : Option Data) → value_fault (required key (range least most)) o ≡ None → n ≡ unwrap_or (option_and_then as_natural o) 0
+        → Some n ≡ option_and_then as_natural o
+    by_value None right same = absurd (let h = right in cc)
+    by_value (Some d) right same = by_number (as_natural d) (has_type (range least most) d) _ _ right same

@@ -1,5 +1,5 @@
 -- Lists of settings: their items, the rules and MAC addresses among them.
-use Rattle.std.proofs.Common.{◌≡◌, ℕ, ◌+◌, ◌<◌, ◌≤◌, Bool, true, false, List, [], ◌∷◌, ◌++◌, length, map, get_or, drop, Option, Some, None, Vec, Global, refl, ap, sym, ◌∙◌, append_assoc, if◌then◌else◌}
+use Rattle.std.proofs.Common.{◌≡◌, ℕ, ◌+◌, ◌<◌, ◌≤◌, Bool, true, false, List, [], ◌∷◌, ◌++◌, length, map, get_or, drop, Option, Some, None, Vec, Global, refl, ap, sym, ◌∙◌, append_assoc, not, if◌then◌else◌}
 use Rattle.std.specs.List.{list_all}
 use Rattle.std.proofs.lemmas.List.{drop_more, drop_all, append-nil, length-map}
 use Rattle.toml.specs.Data.{Data, Members, get_member, as_array, as_str}
@@ -8,7 +8,8 @@ use Rattle.toml.specs.declared.value.Value.{Value}
 use Rattle.addr_rules.specs.Texts.{IsRuleText, mac_of_text}
 use Rattle.addr_rules.specs.declared.rules.Rule.{Rule}
 use Rattle.plan_spec.specs.Checks.{is_between}
-use Rattle.settings_spec.specs.Keys.{list_of, as_list, holds, is_address, items_at}
+use Rattle.std.specs.Option.{option_and_then, option_map, unwrap_or}
+use Rattle.settings_spec.specs.Keys.{SettingsFault, wrong_type, out_of_range, list_of, as_list, holds, is_address, is_text, has_type, texts, required, value_fault, key_fault, items_at, texts_if_any}
 use Rattle.settings_spec.specs.Refusal.{AreRules}
 use Rattle.settings_keys.specs.Lists.{views, texts_of, macs_of}
 use Rattle.settings_keys.specs.Reading.{items_where}
@@ -66,6 +67,26 @@ unlisted_type test (Some ds) e = chosen (list_all test ds) refl e
 pub items_there : (key : List ℕ) (table : Members) (d : Data) (items : List Data) → Some d ≡ get_member key table → as_list d ≡ Some items → items ≡ items_at key table
 unfolding items_at
 items_there key table d items there is = rw (← there, is)
+
+-- the texts of a list that may be left out
+pub no_texts : (key : List ℕ) (table : Members) → None ≡ get_member key table → None ≡ texts_if_any key table
+unfolding texts_if_any
+no_texts key table absent = rw (← absent) refl
+
+pub some_texts : (key : List ℕ) (table : Members) (items : List Data) → key_fault (required key texts) table ≡ None → items ≡ items_at key table
+    → Some (texts_of items) ≡ texts_if_any key table
+unfolding key_fault items_at texts_if_any
+some_texts key table items none is = by_value (get_member key table) none is
+  where
+    by_list : (o : Option (List Data)) (f g : SettingsFault) → (if not (holds (list_all is_text) o) then Some f else if not true then Some g else None) ≡ None
+        → items ≡ unwrap_or o [] → Some (texts_of items) ≡ option_map (λ ds. texts_of ds) o
+    by_list None f g right same = absurd (let h = right in cc)
+    by_list (Some ds) f g right same = ap (λ l. Some (texts_of l)) same
+
+    by_value : (o : Option Data) → value_fault (required key texts) o ≡ None → items ≡ unwrap_or (option_and_then as_list o) []
+        → Some (texts_of items) ≡ option_map (λ ds. texts_of ds) (option_and_then as_list o)
+    by_value None right same = absurd (let h = right in cc)
+    by_value (Some d) right same = by_list (as_list d) (wrong_type key) (out_of_range key) right same
 
 -- the rules so far: what the rest of the texts spell goes after them
 pub record RulesSoFar (all rest : List (List ℕ)) (list : List Rule) : Type 0 where

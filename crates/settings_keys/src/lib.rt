@@ -12,6 +12,10 @@ mod values;
 
 pub use fault::PlanFault;
 pub use key::Key;
-pub use lists::{addresses, filter_items, rule_items, rules, service_items};
+pub use lists::{
+    addresses, change_items, filter_items, moved_rules, rule_items, rules, table_items,
+};
 pub use unknown::refuse_unknown;
-pub use values::{find, flag, kind_word, name_text, number, pid, rows, unicast, word};
+pub use values::{
+    find, flag, kind_word, moved_name, moved_pid, name_text, number, pid, rows, unicast, word,
+};

@@ -1,14 +1,14 @@
-//! The lists of settings: rules, filters, services.
+//! The lists of settings: rules, filters, services, changes.
 ghost use Rattle.std.specs.Prelude.{◌≡◌, ℕ, ◌≤◌, Bool, true, false, List, codes, length, Some, None, IfOk, IfErr, MatchOption, option_map};
 ghost use Rattle.std.specs.List.{list_all};
 ghost use Rattle.toml.specs.Data.{as_str, get_member};
 ghost use Rattle.toml.specs.View.{view, table_view};
 ghost use Rattle.addr_rules.specs.declared.rules.Rule.{Rule};
 ghost use Rattle.plan_spec.specs.Checks.{is_between};
-ghost use Rattle.settings_spec.specs.Keys.{as_list, is_text, is_table, is_address, holds, texts, tables, items_at, key_fault};
+ghost use Rattle.settings_spec.specs.Keys.{as_list, is_text, is_table, is_address, holds, texts, tables, items_at, texts_if_any, key_fault};
 ghost use Rattle.settings_spec.specs.Refusal.{AreRules};
 ghost use Rattle.settings_spec.specs.Settings.{filter_key};
-ghost use Rattle.settings_keys.specs.Keys.{fault_seen};
+ghost use Rattle.settings_keys.specs.Keys.{key_text, fault_seen};
 ghost use Rattle.settings_keys.specs.Lists.{views, texts_of, macs_of, IsTextList};
 ghost use Rattle.settings_keys.specs.Reading.{Reads, rule_for, items_where};
 
@@ -91,24 +91,47 @@ pub fn filter_items(table: &Table) -> Result<Option<&[Value]>, PlanFault>
     }
 }
 
-/// The items of `service`, 1 to `most` tables.
-pub fn service_items(table: &Table, most: usize) -> Result<&[Value], PlanFault>
-    ensures read { Reads result (rule_for Key.Service true (tables most)) (table_view table.now) (λ v. views v.now ≡ items_at (codes "service") (table_view table.now)) }
+/// The items of a list of 1 to `most` tables, which must be there.
+pub fn table_items(table: &Table, key: Key, most: usize) -> Result<&[Value], PlanFault>
+    ensures read { Reads result (rule_for key true (tables most)) (table_view table.now) (λ v. views v.now ≡ items_at (key_text key) (table_view table.now)) }
     ensures within { IfOk result (λ v. (1 ≤ length v.now) × (length v.now ≤ most)) }
     ensures all { IfOk result (λ v. list_all is_table (views v.now) ≡ true) }
 {
-    let value = match find(table, Key::Service) {
+    let value = match find(table, key) {
         Some(value) => value,
-        None => return Err(PlanFault::Missing(Key::Service)),
+        None => return Err(PlanFault::Missing(key)),
     };
     let items = match table_list(value) {
         Some(items) => items,
-        None => return Err(PlanFault::Type_(Key::Service)),
+        None => return Err(PlanFault::Type_(key)),
     };
     if is_count(items.len(), most) {
         Ok(items)
     } else {
-        Err(PlanFault::Range(Key::Service))
+        Err(PlanFault::Range(key))
+    }
+}
+
+/// The items of `change`, 1 to 31 tables, or none where the key is absent.
+pub fn change_items(table: &Table) -> Result<&[Value], PlanFault>
+    ensures read { Reads result (rule_for Key.Change false (tables 31)) (table_view table.now) (λ v. views v.now ≡ items_at (codes "change") (table_view table.now)) }
+{
+    match find(table, Key::Change) {
+        Some(_) => table_items(table, Key::Change, 31),
+        None => Ok(&[]),
+    }
+}
+
+/// The items of `rules` of a service that a change moves, texts, where its rules change.
+pub fn moved_rules(table: &Table) -> Result<Option<&[Value]>, PlanFault>
+    ensures read { Reads result (rule_for Key.Rules false texts) (table_view table.now) (λ o. option_map (λ v. texts_of (views v.now)) o ≡ texts_if_any (codes "rules") (table_view table.now)) }
+{
+    match find(table, Key::Rules) {
+        Some(_) => match rule_items(table) {
+            Ok(items) => Ok(Some(items)),
+            Err(fault) => Err(fault),
+        },
+        None => Ok(None),
     }
 }
 

@@ -4,7 +4,7 @@ ghost use Rattle.std.specs.List.{list_all, list_any};
 ghost use Rattle.toml.specs.Data.{get_member};
 ghost use Rattle.toml.specs.View.{view, table_view};
 ghost use Rattle.plan_spec.specs.Checks.{is_between, is_row_count, is_service_name, is_name_character as is_character, is_reserved as is_reserved_name};
-ghost use Rattle.settings_spec.specs.Keys.{one_of, name_text as name_values, address_text, range, row_count, flag as flag_values, natural as natural_of, text_or, number_or, flag_or, address_or};
+ghost use Rattle.settings_spec.specs.Keys.{one_of, name_text as name_values, address_text, any_text, range, row_count, flag as flag_values, natural as natural_of, text_or, number_or, number_at, flag_or, address_or};
 ghost use Rattle.settings_keys.specs.Keys.{key_text};
 ghost use Rattle.settings_keys.specs.Reading.{Reads, rule_for, within, words_of};
 
@@ -87,6 +87,19 @@ pub fn pid(table: &Table) -> Result<u16, PlanFault>
 {
     let number = number(table, Key::Pid, 32, 8190, None)?;
     Ok(number as u16)
+}
+
+/// The PID of a service that a change moves, where it changes.
+pub fn moved_pid(table: &Table) -> Result<Option<u16>, PlanFault>
+    ensures read { Reads result (rule_for Key.Pid false (range 32 8190)) (table_view table.now) (λ o. o ≡ number_at (codes "pid") (table_view table.now)) }
+{
+    match find(table, Key::Pid) {
+        Some(_) => match pid(table) {
+            Ok(pid) => Ok(Some(pid)),
+            Err(fault) => Err(fault),
+        },
+        None => Ok(None),
+    }
 }
 
 /// The rows of a frame: 256, 512, 768 or 1024, which is the default.
@@ -225,6 +238,20 @@ pub fn name_text(table: &Table) -> Result<&str, PlanFault>
         Ok(text)
     } else {
         Err(PlanFault::Range(Key::Name))
+    }
+}
+
+/// The name of a service that a change moves, any text.
+pub fn moved_name(table: &Table) -> Result<&str, PlanFault>
+    ensures read { Reads result (rule_for Key.Name true any_text) (table_view table.now) (λ w. w.now ≡ text_or [] (codes "name") (table_view table.now)) }
+{
+    let value = match find(table, Key::Name) {
+        Some(value) => value,
+        None => return Err(PlanFault::Missing(Key::Name)),
+    };
+    match value.as_str() {
+        Some(text) => Ok(text),
+        None => Err(PlanFault::Type_(Key::Name)),
     }
 }
 

@@ -10,7 +10,7 @@ use Rattle.ip_datagram.specs.declared.address.IpAddress.TheVariants.{V4, V6}
 use Rattle.addr_rules.specs.Texts.{is_hex, hex_value, hex_number, has_mac_frame, is_hex_pair_at, is_mac_text, hex_pair_at, mac_of_text, IsGroup, IsGroups, IsEightGroups, bytes_of_groups, IsAddressText, address_bytes, IsRuleText}
 use Rattle.addr_rules.specs.declared.rules.Rule.{Rule}
 use Rattle.int_spec.specs.Table.{address_size, IsRule}
-use Rattle.stream_law.specs.Words.{IsMac}
+use Rattle.plan_spec.specs.Bytes.{IsMac}
 
 -- Hexadecimal digits.
 

@@ -174,18 +174,22 @@ of_table_bare : (place : ℕ) (ms : List Members) → map bare (services_of plac
 of_table_bare place [] = refl
 of_table_bare place (m ∷ ms) = ap (λ (l : List ServiceFields). service_of place m ∷ l) (of_table_bare (place + 1) ms)
 
-plan_bare : (top : Members) (lists : List (List Rule)) (changes : List (ChangeValues Rule)) → AllZip IsSpelledChange (changes_at top) changes
+plan_bare : (top : Members) (lists : List (List Rule)) (changes : List (ChangeValues Rule)) → map without_rules changes ≡ map without_rules (changes_at top)
     → bare_plan (with_changes (with_rules (plan_of top) lists) changes) ≡ plan_of top
 unfolding plan_of
-plan_bare top lists changes are =
+plan_bare top lists changes alike =
     let services : List ServiceFields = services_of 0 (tables_at (codes "service") top) in
     let same : map bare (services_with services lists) ≡ services = with_rules_bare services lists ∙ of_table_bare 0 (tables_at (codes "service") top) in
     ap₂ (λ (s : List ServiceFields) (c : List ChangeFields). record (plan_of top) { services = s; changes = c }) same
     (sym (changes_by_bare (services_with services lists) changes)
-    ∙ ap₂ (λ (s : List ServiceFields) (c : List (ChangeValues Rule)). changes_by s c) same (same_changes (changes_at top) changes are))
+    ∙ ap₂ (λ (s : List ServiceFields) (c : List (ChangeValues Rule)). changes_by s c) same alike)
 
--- it has a wrong change exactly where it has one without rules
+-- it has a wrong change exactly where it has one without rules, whether the texts spell them or not
+pub wrong_alike : (top : Members) (lists : List (List Rule)) (changes : List (ChangeValues Rule)) → map without_rules changes ≡ map without_rules (changes_at top)
+    → has_wrong_change (with_changes (with_rules (plan_of top) lists) changes) ≡ has_wrong_change (plan_of top)
+wrong_alike top lists changes alike =
+    sym (wrong_bare (with_changes (with_rules (plan_of top) lists) changes)) ∙ ap has_wrong_change (plan_bare top lists changes alike)
+
 pub wrong_with : (top : Members) (lists : List (List Rule)) (changes : List (ChangeValues Rule)) → AllZip IsSpelledChange (changes_at top) changes
     → has_wrong_change (with_changes (with_rules (plan_of top) lists) changes) ≡ has_wrong_change (plan_of top)
-wrong_with top lists changes are =
-    sym (wrong_bare (with_changes (with_rules (plan_of top) lists) changes)) ∙ ap has_wrong_change (plan_bare top lists changes are)
+wrong_with top lists changes are = wrong_alike top lists changes (same_changes (changes_at top) changes are)

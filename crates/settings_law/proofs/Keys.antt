@@ -1,12 +1,11 @@
 -- What stands at a key in whose table nothing is wrong, or its default.
-use Rattle.std.proofs.Common.{◌≡◌, inl, inr, ℕ, Bool, true, false, not, cond, List, [], ◌∷◌, map, Option, Some, None, refl, sym, ◌∙◌, subst}
+use Rattle.std.proofs.Common.{◌≡◌, ◌⊎◌, inl, inr, ℕ, Bool, true, false, not, cond, List, [], ◌∷◌, map, Option, Some, None, refl, sym, ◌∙◌, subst}
 use Rattle.std.specs.Option.{unwrap_or, option_and_then}
 use Rattle.toml.specs.Data.{Data, Members, get_member, as_str}
 use Rattle.addr_rules.specs.Texts.{mac_of_text}
 use Rattle.plan_spec.specs.Checks.{is_between, is_service_name}
 use Rattle.settings_spec.specs.Keys.{SettingsFault, missing, wrong_type, out_of_range, Values, range, name_text, address_text, has_type, in_range, as_natural, holds, KeyRule, value_fault, key_fault, unknown_fault, first_of, keys_fault, table_fault, text_or, number_or, address_or}
-use Rattle.carriage_law.proofs.Member.{Member}
-use Rattle.stream_law.specs.Words.{IsMac}
+use Rattle.plan_spec.specs.Bytes.{IsMac}
 use Rattle.settings_law.proofs.Addresses.{mac_is}
 
 -- Faults.
@@ -16,14 +15,19 @@ pub first_none : (a b : Option SettingsFault) → first_of a b ≡ None → (a �
 first_none None b none = (refl, none)
 first_none (Some fault) b none = absurd (cc)
 
+-- the key is one of these
+abbrev pub IsAmong : List KeyRule → KeyRule → Type 0
+IsAmong [] rule = ⊥
+IsAmong (first ∷ rules) rule = (first ≡ rule) ⊎ IsAmong rules rule
+
 -- nothing is wrong at a key of the table
-pub key_of_keys : (rules : List KeyRule) (rule : KeyRule) (m : Members) → keys_fault rules m ≡ None → Member rules rule → key_fault rule m ≡ None
+pub key_of_keys : (rules : List KeyRule) (rule : KeyRule) (m : Members) → keys_fault rules m ≡ None → IsAmong rules rule → key_fault rule m ≡ None
 key_of_keys [] rule m none there = absurd there
 key_of_keys (first ∷ rules) rule m none (inl same) =
     subst (λ (t : KeyRule). key_fault t m ≡ None) same (first_none (key_fault first m) (keys_fault rules m) none).0
 key_of_keys (first ∷ rules) rule m none (inr there) = key_of_keys rules rule m (first_none (key_fault first m) (keys_fault rules m) none).1 there
 
-pub key_of_table : (rules : List KeyRule) (rule : KeyRule) (m : Members) → table_fault rules m ≡ None → Member rules rule → key_fault rule m ≡ None
+pub key_of_table : (rules : List KeyRule) (rule : KeyRule) (m : Members) → table_fault rules m ≡ None → IsAmong rules rule → key_fault rule m ≡ None
 key_of_table rules rule m none there =
     key_of_keys rules rule m (first_none (unknown_fault (map (λ (r : KeyRule). r.name) rules) m) (keys_fault rules m) none).1 there
 

@@ -14,7 +14,7 @@ use Rattle.settings_spec.specs.Keys.{range, row_count, address_text, KeyRule, op
 use Rattle.settings_spec.specs.Settings.{name_key, kind_key, pid_key, mode_key, ule_keys, mpe_keys, indexed_keys, sliced_keys, gse_keys, kind_text, is_sliced_mode, fec_fault, kind_fault, service_fault, services_fault, window_of, kind_of, service_of, services_of}
 use Rattle.settings_spec.specs.Refusal.{AreRules}
 use Rattle.plan_spec.specs.Valid.{is_valid_window, is_valid_kind, is_valid_rule, has_valid_values}
-use Rattle.stream_law.specs.Words.{IsMac}
+use Rattle.plan_spec.specs.Bytes.{IsMac}
 use Rattle.settings_law.proofs.Addresses.{rule_is}
 use Rattle.settings_law.proofs.Keys.{first_none, key_of_table, number_holds, number_between, name_holds, address_holds}
 

@@ -18,7 +18,7 @@ use Rattle.settings_spec.specs.Refusal.{AreRules, AreRuleLists, IsSpelledChange,
 use Rattle.plan_spec.specs.Changes.{services_in, plan_in, all_pids, rises_from, moves_wrongly, has_wrong_change}
 use Rattle.plan_spec.specs.Valid.{has_valid_top, is_in_range, is_consistent, is_plan_of_settings}
 use Rattle.plan_spec.specs.Wholes.{has_wrong_rules, most_table_packets, is_valid_change, has_valid_changes, is_whole_of_settings}
-use Rattle.stream_law.specs.Words.{IsMac, IsOfBytes}
+use Rattle.plan_spec.specs.Bytes.{IsMac, IsOfBytes}
 use Rattle.plan_law.proofs.Lists.{none_at, all_from}
 use Rattle.plan_law.proofs.Kept.{kept, length-services_in, isis_kept, carrier_kept, name_kept, stamps_kept, window_kept, gap_kept, cycle_kept}
 use Rattle.plan_law.proofs.Pids.{twice, none_twice_in}

@@ -12,7 +12,7 @@ ghost use Rattle.settings_spec.specs.Refusal.{IsAccepted};
 ghost use Rattle.plan_spec.specs.Changes.{plan_in};
 ghost use Rattle.plan_spec.specs.Valid.{is_plan_of_settings, is_plan};
 ghost use Rattle.plan_spec.specs.Wholes.{is_whole_plan};
-ghost use Rattle.stream_law.specs.Words.{IsOfBytes};
+ghost use Rattle.plan_spec.specs.Bytes.{IsOfBytes};
 
 /// Accepted settings give a plan: each value is in its range, and no check over the whole fails, in each of its versions.
 pub fn accepted_settings_give_a_plan()

@@ -7,7 +7,6 @@ use Rattle.ts_spec.specs.Recording.{RecordingForm, plain, stamped, m2ts}
 use Rattle.addr_rules.specs.Macs.{broadcast_mac}
 use Rattle.addr_rules.specs.Texts.{mac_of_text}
 use Rattle.plan_spec.specs.Plan.{WindowFields, KindFields, ule, mpe, fec, gse, ServiceFields, IntFields, PlanFields}
-use Rattle.plan_spec.specs.Built.{reads_changes}
 use Rattle.settings_spec.specs.Keys.{SettingsFault, one_of, name_text, address_text, any_text, range, row_count, flag, one_table, tables, texts, addresses, KeyRule, required, optional, key_fault, unknown_fault, keys_fault, first_of, table_fault, text_or, number_or, flag_or, address_or, texts_at, tables_at, table_at}
 use Rattle.settings_spec.specs.Changes.{ChangeValues, change_values, without_rules, changes_by}
 
@@ -36,7 +35,7 @@ service_key top = required (codes "service") (tables (if says_baseband top then 
 abbrev pub top_keys : Members → List KeyRule
 top_keys top = value_keys ++ int_key top ∷ service_key top ∷ []
 
--- what changes the plan, from the first record of each change on; an unknown key until it is built
+-- what changes the plan, each change from a record of the capture on
 abbrev pub change_key : KeyRule
 change_key = optional (codes "change") (tables 31)
 
@@ -52,7 +51,7 @@ abbrev pub names_of : List KeyRule → List (List ℕ)
 names_of rules = map (λ (rule : KeyRule). rule.name) rules
 
 abbrev pub top_names : Members → List (List ℕ)
-top_names top = names_of (top_keys top) ++ (if reads_changes then codes "change" ∷ [] else [])
+top_names top = names_of (top_keys top) ++ codes "change" ∷ []
 
 abbrev pub int_keys : List KeyRule
 int_keys =

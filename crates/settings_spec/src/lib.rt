@@ -30,10 +30,12 @@ pub fn tables_of_settings()
     ensures word { tables_fault (both (codes "stumped") 1500 20000 (number 513)) ≡ Some (out_of_range (codes "recording")) }
     ensures unknown { tables_fault (with_speed (both (codes "stamped") 1500 20000 (number 513))) ≡ Some unknown_key }
     ensures nothing { tables_fault no_members ≡ Some (missing (codes "service")) }
-    ensures change { tables_fault (moving (number 514)) ≡ Some unknown_key }
+    ensures change { tables_fault (moving (number 514)) ≡ None }
+    ensures moved { tables_fault (moving (number 31)) ≡ Some (out_of_range (codes "pid")) }
+    ensures unsignalled { tables_fault moving_unsignalled ≡ Some (missing (codes "int")) }
 {}
 
-/// What is wrong with changes, apart from the key `change`, and that they need an INT.
+/// What is wrong with changes by themselves, and that they need an INT.
 pub fn changes_of_settings()
     ensures right { changes_fault (tables_at (codes "change") (moving (number 514))) ≡ None }
     ensures low { changes_fault (tables_at (codes "change") (moving (number 31))) ≡ Some (out_of_range (codes "pid")) }

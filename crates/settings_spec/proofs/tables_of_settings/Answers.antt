@@ -1,6 +1,6 @@
 use Rattle.std.proofs.Common.{refl}
 use Rattle.settings_spec.specs.Keys.{key_fault, unknown_fault, text_or, number_or, flag_or, address_or, items_at, table_at}
-use Rattle.settings_spec.specs.Settings.{says_baseband, is_sliced_mode, kind_fault, service_fault, int_fault, tables_fault, kind_of, plan_of}
+use Rattle.settings_spec.specs.Settings.{says_baseband, is_sliced_mode, kind_fault, service_fault, int_fault, change_fault, tables_fault, kind_of, plan_of}
 use Rattle.settings_spec.proofs.tables_of_settings.Goals as goal
 
 pub returns-clause-right : goal.returns-clause-right
@@ -36,5 +36,13 @@ unfolding key_fault unknown_fault text_or number_or flag_or address_or items_at 
 returns-clause-nothing c = refl
 
 pub returns-clause-change : goal.returns-clause-change
-unfolding key_fault unknown_fault text_or number_or flag_or address_or items_at table_at says_baseband is_sliced_mode kind_fault service_fault int_fault tables_fault kind_of plan_of
+unfolding key_fault unknown_fault text_or number_or flag_or address_or items_at table_at says_baseband is_sliced_mode kind_fault service_fault int_fault change_fault tables_fault kind_of plan_of
 returns-clause-change c = refl
+
+pub returns-clause-moved : goal.returns-clause-moved
+unfolding key_fault unknown_fault text_or number_or flag_or address_or items_at table_at says_baseband is_sliced_mode kind_fault service_fault int_fault change_fault tables_fault kind_of plan_of
+returns-clause-moved c = refl
+
+pub returns-clause-unsignalled : goal.returns-clause-unsignalled
+unfolding key_fault unknown_fault text_or number_or flag_or address_or items_at table_at says_baseband is_sliced_mode kind_fault service_fault int_fault change_fault tables_fault kind_of plan_of
+returns-clause-unsignalled c = refl

@@ -1,9 +1,10 @@
-use Rattle.service_plan.proofs.CheckLemmas.{rules_checked}
+use Rattle.std.proofs.Common.{Bool, ◌||◌, not, refl, ap, sym, ◌∙◌}
+use Rattle.service_plan.specs.Plans.{draft_seen}
+use Rattle.service_plan.proofs.WrongLemmas.{rules_are}
 use Rattle.service_plan.proofs.plan_checks.has_wrong_rules.Goals as goal
 
 pub returns : goal.returns
 returns c =
-    let services = c.items-services.ensures.read in
-    let none = rw services at c.has_no_rule.ensures.read in
-    let many = rw services at c.has_too_many_rules.ensures.read in
-    record { read = rules_checked c.args.draft.now.services _ c.args.draft.now.spelled _ _ c.any_of.ensures none many }
+    let draft = c.args.draft.now in
+    let wrong = rw (c.items.ensures.read, c.items-2.ensures.read) at c.any_wrong_counts-wrong.ensures in
+    record { read = c.either.ensures ∙ ap (λ (b : Bool). not draft.spelled || b) (wrong ∙ sym (rules_are (draft_seen draft) draft.services draft.changes refl refl)) }

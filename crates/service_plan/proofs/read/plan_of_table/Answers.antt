@@ -1,17 +1,16 @@
-use Rattle.service_plan.proofs.AcceptLemmas.{accepted_table, passed_is_plan, passed_is_whole, refused_tables, refused_table}
+use Rattle.service_plan.proofs.AcceptLemmas.{accepted_table, accepted_is_plan, accepted_is_whole, refused_tables, refused_wholes}
 use Rattle.service_plan.proofs.read.plan_of_table.Goals as goal
 
 pub returns-in-Err-clause-refused : goal.returns-in-Err-clause-refused
 returns-in-Err-clause-refused c = refused_tables _ _ c.in-Err.ensures.read
 
 pub invariant_of-result : goal.invariant_of-result
-invariant_of-result c = record {
-  valid = rw c.new.ensures.written (passed_is_plan _ c.in-Ok.draft c.in-Ok.ensures.read.1 c.in-Ok-check_whole.ensures.read.0);
-  whole = rw c.new.ensures.written (passed_is_whole _ c.in-Ok.draft c.in-Ok.ensures.read.1 c.in-Ok-check_whole.ensures.read.0);
-}
+invariant_of-result c =
+    let table = accepted_table _ c.in-Ok.draft c.in-Ok.ensures.read.1 c.in-Ok.ensures.read.0 c.in-Ok-check_whole.ensures.read.0 in
+    record { valid = accepted_is_plan _ _ table; whole = accepted_is_whole _ _ table }
 
 pub returns-in-Ok-check_whole-clause-read : goal.returns-in-Ok-check_whole-clause-read
-returns-in-Ok-check_whole-clause-read c = rw c.new.ensures.written (accepted_table _ c.in-Ok.draft c.in-Ok.ensures.read.1 c.in-Ok.ensures.read.0 c.in-Ok-check_whole.ensures.read.0)
+returns-in-Ok-check_whole-clause-read c = accepted_table _ c.in-Ok.draft c.in-Ok.ensures.read.1 c.in-Ok.ensures.read.0 c.in-Ok-check_whole.ensures.read.0
 
 pub returns-in-Err-check_whole-clause-refused : goal.returns-in-Err-check_whole-clause-refused
-returns-in-Err-check_whole-clause-refused c = refused_table _ c.in-Ok.draft _ c.in-Ok.ensures.read.1 c.in-Ok.ensures.read.0 c.in-Err-check_whole.ensures.read
+returns-in-Err-check_whole-clause-refused c = refused_wholes _ c.in-Ok.draft _ c.in-Ok.ensures.read.1 c.in-Ok.ensures.read.0 c.in-Err-check_whole.ensures.read

@@ -1,12 +1,19 @@
-use Rattle.std.proofs.Common.{◌≡◌, [], None, ◌∙◌, subst, codes}
+use Rattle.std.proofs.Common.{◌≡◌, None, subst, codes, arith}
 use Rattle.toml.specs.Data.{Members}
 use Rattle.toml.specs.View.{table_view}
 use Rattle.settings_spec.specs.Keys.{KeyRule, key_fault, table_at, tables_at}
-use Rattle.settings_spec.specs.Settings.{service_key, int_fault, services_fault, changes_at}
-use Rattle.service_plan.proofs.ChangeLemmas.{no_change, none_changes}
+use Rattle.settings_spec.specs.Settings.{service_key, int_fault, services_fault, changes_fault}
 use Rattle.service_plan.proofs.KeyLemmas.{first_later}
-use Rattle.service_plan.proofs.PlanLemmas.{service_key_is, plan_of_parts, frame_said, top_is_valid, rules_of_texts, counted_services}
+use Rattle.service_plan.proofs.ServicesLemmas.{tables_fit}
+use Rattle.service_plan.proofs.PlanLemmas.{service_key_is, few_services, draft_is}
 use Rattle.service_plan.proofs.settings_draft.read_tables.Goals as goal
+
+pub read_changes-requires : goal.read_changes-requires
+read_changes-requires c =
+    let items = c.in_ok-items.ensures in
+    let services = c.in_ok-read.ensures.read in
+    let few = tables_fit _ (few_services _ _ _ c.most.ensures items.within.1) in
+    rw c.items.ensures.read (omega (arith, services.1.count, few))
 
 pub returns : goal.returns
 returns c =
@@ -19,20 +26,15 @@ returns c =
     let services = c.in_ok-read.ensures.read in
     let int_right : int_fault (table_at (codes "int") m) ≡ None = rw c.in_ok-int.ensures.read.1 at table.0 in
     let services_right : services_fault (tables_at (codes "service") m) ≡ None = rw items.read.1 at services.0 in
-    let are = rw items.read.1 at services.1 in
-    let unchanged : changes_at m ≡ [] = none_changes m (no_change m c.in_ok-refuse_unknown.ensures.read.0) in
-    let count = counted_services _ _ _ services.1.count items.all items.within.0 (rw c.most.ensures at items.within.1) in
+    let change_list = c.in_ok-change_list.ensures.read in
+    let changed = rw c.items.ensures.read at c.in_ok-changed.ensures.read in
+    let changes_right : changes_fault (tables_at (codes "change") m) ≡ None = rw change_list.1 at changed.0 in
+    let few = tables_fit _ (few_services _ _ _ c.most.ensures items.within.1) in
     record {
       read = (
         first_later _ _ _ c.in_ok-refuse_unknown.ensures.read.0 (first_later _ _ _ values.0 (first_later _ _ _ c.in_ok-int.ensures.read.0
-            (first_later _ _ _ listed (first_later _ _ _ int_right services_right)))),
-        record {
-          seen = plan_of_parts m _ _ _ _ _ _ _ values.1.recording values.1.packet_rate values.1.cycle
-              (c.frame_size.ensures ∙ frame_said m _ _ values.1.baseband values.1.frame_bytes) (rw c.in_ok-int.ensures.read.1 at table.1.0) are.seen unchanged;
-          unchanged = unchanged;
-          rules = rules_of_texts m _ _ are.rules;
-          top_valid = rw c.frame_size.ensures (top_is_valid _ _ _ _ _ _ _ values.1.rate_in_range values.1.cycle_in_range values.1.bytes_in_range table.1.1 count.0 count.1);
-          services_valid = are.valid;
-        },
+            (first_later _ _ _ listed (first_later _ _ _ int_right (first_later _ _ _ services_right (first_later _ _ _ change_list.0 changes_right)))))),
+        draft_is m _ _ _ _ _ _ values.1 c.frame_size.ensures (rw c.in_ok-int.ensures.read.1 at table.1.0) (rw items.read.1 at services.1) (rw change_list.1 at changed.1)
+            (omega (arith, services.1.count, few)) c.both.ensures,
       );
     }

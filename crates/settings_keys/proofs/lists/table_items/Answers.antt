@@ -3,7 +3,7 @@ use Rattle.toml.specs.View.{view}
 use Rattle.settings_spec.specs.Keys.{is_table, as_list}
 use Rattle.settings_keys.proofs.KeyLemmas.{fault_absent, fault_typed, fault_ranged, no_fault_there}
 use Rattle.settings_keys.proofs.ListLemmas.{listed_items, listed_type, unlisted_type, items_there, counted, listed_all}
-use Rattle.settings_keys.proofs.lists.service_items.Goals as goal
+use Rattle.settings_keys.proofs.lists.table_items.Goals as goal
 
 pub returns-in-None-clause-read : goal.returns-in-None-clause-read
 returns-in-None-clause-read c = fault_absent _ _ c.in-None.ensures.found refl
