@@ -1,13 +1,14 @@
--- A front of a recording delivers a front of what the recording delivers.
-use Rattle.std.proofs.Common.{◌≡◌, ℕ, ◌+◌, Option, None, Some, List, [], ◌∷◌, ◌++◌, length, map, flat_map, take, drop, refl, ap, sym, ◌∙◌, arith, append_assoc}
-use Rattle.std.proofs.lemmas.List.{append-nil, map-append, take_at, drop_at, take_all, length_push}
+-- One service and one list of records: a front of a recording delivers a front of what the recording delivers.
+use Rattle.std.proofs.Common.{◌≡◌, ◌⊎◌, inl, inr, ℕ, Bool, false, ◌&&◌, cond, Option, None, Some, List, [], ◌∷◌, ◌++◌, length, map, flat_map, drop, refl, ap, sym, ◌∙◌, append_assoc}
+use Rattle.std.specs.Prelude.{is_some}
+use Rattle.std.proofs.lemmas.List.{append-nil, map-append, drop_at}
 use Rattle.std.proofs.lemmas.List.Concat.{flat_map-append}
 use Rattle.std.proofs.lemmas.Simd.{map-map}
 use Rattle.ts_spec.specs.Form.{UnitForm, IsLawful}
 use Rattle.ts_spec.specs.Packetized.{no_packet}
 use Rattle.ts_spec.specs.Recording.{Record}
-use Rattle.ts_spec.specs.Received.{Arrival, arrival_of, received_after, received_packets}
-use Rattle.ts_spec.specs.Reassembly.{PlacedUnit, accepted_units}
+use Rattle.ts_spec.specs.Received.{Arrival, is_of, no_record, arrival_of, arrivals, received_after, received_packets}
+use Rattle.ts_spec.specs.Reassembly.{PlacedUnit, accepted_in, accepted_units}
 use Rattle.ts_spec.specs.Events.{Event, events_of}
 use Rattle.section_codec.specs.Spans.{section_lawful}
 use Rattle.carriage_law.proofs.Sndu.{sndu_lawful}
@@ -19,8 +20,10 @@ use Rattle.reassembly_law.proofs.Units.{of_events}
 use Rattle.plan_spec.specs.Plan.{KindFields, ule, mpe, fec, gse, pid_of, ServiceFields}
 use Rattle.stream_spec.specs.Services.{form_of_kind}
 use Rattle.reception_spec.specs.Units.{delivered_by_unit}
+use Rattle.reception_spec.specs.Packets.{is_on}
 use Rattle.reception_spec.specs.Numbers.{units_on, units_of}
-use Rattle.reception_spec.specs.Delivered.{delivered_datagrams, given_by_record}
+use Rattle.reception_spec.specs.Delivered.{delivered_datagrams}
+use Rattle.reception_law.specs.Words.{added_by}
 
 -- the units of a service that has a PID
 pub units_on_pid : (service : ServiceFields) (pid : ℕ) (records : List Record) → pid_of service.kind ≡ Some pid
@@ -31,9 +34,14 @@ units_on_pid service pid records on = ap (λ (p : Option ℕ). units_on (form_of
 abbrev pub IsPrefix : {X : Type 0} → List X → List X → Type 0
 IsPrefix {X} front whole = (added : List X) × (whole ≡ front ++ added)
 
-front_through : {X : Type 0} (xs ys zs : List X) → IsPrefix xs ys → IsPrefix ys zs → IsPrefix xs zs
+pub front_through : {X : Type 0} (xs ys zs : List X) → IsPrefix xs ys → IsPrefix ys zs → IsPrefix xs zs
 front_through xs ys zs one other =
     (one.0 ++ other.0, other.1 ∙ ap (λ t. t ++ other.0) one.1 ∙ append_assoc xs one.0 other.0)
+
+-- what comes after a front
+pub rest_is : {X : Type 0} (front whole : List X) → IsPrefix front whole → whole ≡ front ++ drop (length front) whole
+rest_is front whole is =
+    is.1 ∙ ap (λ t. front ++ t) (sym (ap (drop (length front)) is.1 ∙ drop_at front is.0 (length front) refl))
 
 front_map : {X Y : Type 0} (f : X → Y) (xs ys : List X) → IsPrefix xs ys → IsPrefix (map f xs) (map f ys)
 front_map f xs ys front = (map f front.0, ap (map f) front.1 ∙ map-append f xs front.0)
@@ -68,7 +76,7 @@ units_are form pid records =
     ∙ map-map (λ (timed : ℕ × List ℕ). timed.1) (λ (x : PlacedUnit). (x.moment, x.unit)) (accepted_units form pid records))
 
 -- more records, more units
-units_front : (form : UnitForm) → IsLawful form → (pid : Option ℕ) (records : List Record) (r : Record) → IsPrefix (units_on form pid records) (units_on form pid (records ++ r ∷ []))
+pub units_front : (form : UnitForm) → IsLawful form → (pid : Option ℕ) (records : List Record) (r : Record) → IsPrefix (units_on form pid records) (units_on form pid (records ++ r ∷ []))
 units_front form lawful None records r = ([], refl)
 units_front form lawful (Some pid) records r =
     let before : List Arrival = received_packets pid records in
@@ -86,19 +94,61 @@ delivered_front service records r =
     front_flat (delivered_by_unit service) (units_of service records) (units_of service (records ++ r ∷ []))
     (units_front (form_of_kind service.kind) (kind_lawful service.kind) (pid_of service.kind) records r)
 
--- what the last record gives
-pub given_is : (service : ServiceFields) (records : List Record) (r : Record) (added : List (List ℕ)) → delivered_datagrams service (records ++ r ∷ []) ≡ delivered_datagrams service records ++ added
-    → given_by_record service (records ++ r ∷ []) (length records) ≡ added
-given_is service records r added more =
-    let whole : take (length records + 1) (records ++ r ∷ []) ≡ records ++ r ∷ [] = take_all (length records + 1) (records ++ r ∷ []) (omega (arith, length_push records r)) in
-    ap (λ (t : List Record). drop (length (delivered_datagrams service t)) (delivered_datagrams service (take (length records + 1) (records ++ r ∷ [])))) (take_at records (r ∷ []) (length records) refl)
-    ∙ ap (λ (t : List Record). drop (length (delivered_datagrams service records)) (delivered_datagrams service t)) whole
-    ∙ ap (drop (length (delivered_datagrams service records))) more
+-- what the last record adds
+pub added_is : (service : ServiceFields) (records : List Record) (r : Record) (added : List (List ℕ)) → delivered_datagrams service (records ++ r ∷ []) ≡ delivered_datagrams service records ++ added
+    → added_by service records r ≡ added
+added_is service records r added more =
+    ap (drop (length (delivered_datagrams service records))) more
     ∙ drop_at (delivered_datagrams service records) added (length (delivered_datagrams service records)) refl
 
 -- one record more
 pub delivered_more : (service : ServiceFields) (records : List Record) (r : Record)
-    → delivered_datagrams service (records ++ r ∷ []) ≡ delivered_datagrams service records ++ given_by_record service (records ++ r ∷ []) (length records)
-delivered_more service records r =
-    let front = delivered_front service records r in
-    front.1 ∙ ap (λ t. delivered_datagrams service records ++ t) (sym (given_is service records r front.0 front.1))
+    → delivered_datagrams service (records ++ r ∷ []) ≡ delivered_datagrams service records ++ added_by service records r
+delivered_more service records r = rest_is (delivered_datagrams service records) (delivered_datagrams service (records ++ r ∷ [])) (delivered_front service records r)
+
+-- nothing is delivered of nothing
+pub no_units_of_nothing : (form : UnitForm) (pid : Option ℕ) → units_on form pid [] ≡ []
+no_units_of_nothing form None = refl
+no_units_of_nothing form (Some pid) = refl
+
+pub nothing_delivered : (service : ServiceFields) → delivered_datagrams service [] ≡ []
+nothing_delivered service = ap (flat_map (delivered_by_unit service)) (no_units_of_nothing (form_of_kind service.kind) (pid_of service.kind))
+
+-- A record that is no packet of the PID.
+
+none_arrives : (pid place : ℕ) (moment : Option ℕ) (bytes : List ℕ) → (is_some moment && is_of pid bytes) ≡ false → arrival_of pid place moment bytes ≡ []
+none_arrives pid place None bytes off = refl
+none_arrives pid place (Some moment) bytes off = ap (λ (b : Bool). cond {A = List Arrival} b (record { place = place; moment = moment; bytes = bytes } ∷ []) []) off
+
+pub same_arrivals : (pid : ℕ) (records : List Record) (r : Record) → is_on pid r ≡ false → arrivals pid (records ++ r ∷ []) ≡ arrivals pid records
+same_arrivals pid records r off =
+    (one_more pid records r).arrived
+    ∙ ap (λ (t : List Arrival). arrivals pid records ++ t) (none_arrives pid (length records) r.moment r.bytes off)
+    ∙ append-nil (arrivals pid records)
+
+same_packets : (pid : ℕ) (records : List Record) (r : Record) → is_on pid r ≡ false → received_packets pid (records ++ r ∷ []) ≡ received_packets pid records
+same_packets pid records r off = ap (received_after None) (same_arrivals pid records r off)
+
+-- a service on this PID, or on none
+pub same_units : (form : UnitForm) (on : Option ℕ) (pid : ℕ) → (on ≡ Some pid) ⊎ (on ≡ None) → (records : List Record) (r : Record) → is_on pid r ≡ false
+    → units_on form on (records ++ r ∷ []) ≡ units_on form on records
+same_units form on pid (inl is) records r off =
+    ap (λ (p : Option ℕ). units_on form p (records ++ r ∷ [])) is
+    ∙ ap (λ (t : List Arrival). map (λ (a : PlacedUnit). a.unit) (accepted_in form t)) (same_packets pid records r off)
+    ∙ sym (ap (λ (p : Option ℕ). units_on form p records) is)
+same_units form on pid (inr is) records r off =
+    ap (λ (p : Option ℕ). units_on form p (records ++ r ∷ [])) is ∙ sym (ap (λ (p : Option ℕ). units_on form p records) is)
+
+pub same_datagrams : (service : ServiceFields) (pid : ℕ) → (pid_of service.kind ≡ Some pid) ⊎ (pid_of service.kind ≡ None) → (records : List Record) (r : Record)
+    → is_on pid r ≡ false → delivered_datagrams service (records ++ r ∷ []) ≡ delivered_datagrams service records
+same_datagrams service pid on records r off =
+    ap (flat_map (delivered_by_unit service)) (same_units (form_of_kind service.kind) (pid_of service.kind) pid on records r off)
+
+pub none_added : (service : ServiceFields) (pid : ℕ) → (pid_of service.kind ≡ Some pid) ⊎ (pid_of service.kind ≡ None) → (records : List Record) (r : Record)
+    → is_on pid r ≡ false → added_by service records r ≡ []
+none_added service pid on records r off =
+    added_is service records r [] (same_datagrams service pid on records r off ∙ sym (append-nil (delivered_datagrams service records)))
+
+-- a blank record is a packet of no PID
+pub blank_is_off : (pid : ℕ) → is_on pid no_record ≡ false
+blank_is_off pid = refl

@@ -1,2 +1,12 @@
 pub mod Fronts
-pub mod Pairs
+pub mod OtherPid
+pub mod VersionInForce
+pub mod ServiceSpans
+pub mod Lists
+pub mod Pids
+pub mod WhatIsTold
+pub mod Sums
+pub mod Few
+pub mod Others
+pub mod DeliveredPairs
+pub mod ShownSection

@@ -1,55 +1,37 @@
-//! What a recording delivers, record by record and service by service.
+//! What a recording delivers, record by record, service by service and version by version of the plan.
 //!
 //! Laws over definitions alone: each is a function that does nothing, whose contract is the law.
-//! They stand on reception_spec and reassembly_law; what receives stands on them.
-//! Begin with `the_pairs_of_a_service_are_its_datagrams`.
+//! They stand on reception_spec, plan_law and reassembly_law; what receives stands on them.
+//! Begin with `a_record_tells_datagrams_on_the_pid_in_force`.
 #![tactic(auto)]
 
-ghost use Rattle.std.specs.Prelude.{◌≡◌, ℕ, ◌≤◌, List, [], ◌∷◌, ◌++◌, length, map, flat_map, Some, slice_get};
-ghost use Rattle.ts_spec.specs.Recording.{Record};
-ghost use Rattle.ts_spec.specs.Received.{received_packets};
-ghost use Rattle.ts_spec.specs.Events.{events_of};
-ghost use Rattle.reassembly_law.specs.UnderWay.{unit_of_event};
-ghost use Rattle.plan_spec.specs.Plan.{pid_of, ServiceFields, PlanFields};
-ghost use Rattle.stream_spec.specs.Services.{form_of_kind};
-ghost use Rattle.reception_spec.specs.Numbers.{units_of};
-ghost use Rattle.reception_spec.specs.Delivered.{delivered_datagrams, given_by_record, pairs_of_record, delivered_pairs};
-ghost use Rattle.reception_law.specs.Words.{datagrams_of};
+mod numbers;
+mod pairs;
+mod records;
+mod spans;
+mod told;
+mod versions;
 
-// Record by record.
-
-/// The units of a service are those among the events of its PID.
-pub fn units_are_those_of_events()
-    ensures units { (service : ServiceFields) (pid : ℕ) (records : List Record) → pid_of service.kind ≡ Some pid
-        → units_of service records ≡ map (λ (timed : ℕ × List ℕ). timed.1) (flat_map unit_of_event (events_of (form_of_kind service.kind) (received_packets pid records))) }
-{}
-
-/// One record more delivers what was delivered, and the datagrams that it gives.
-pub fn a_front_delivers_a_front()
-    ensures more { (service : ServiceFields) (records : List Record) (r : Record)
-        → delivered_datagrams service (records ++ r ∷ []) ≡ delivered_datagrams service records ++ given_by_record service (records ++ r ∷ []) (length records) }
-{}
-
-/// What a record gives is what is delivered more by it.
-pub fn a_record_gives_what_comes_behind()
-    ensures given { (service : ServiceFields) (records : List Record) (r : Record) (added : List (List ℕ))
-        → delivered_datagrams service (records ++ r ∷ []) ≡ delivered_datagrams service records ++ added
-        → given_by_record service (records ++ r ∷ []) (length records) ≡ added }
-{}
-
-/// The pairs of a recording come record by record.
-pub fn pairs_come_record_by_record()
-    ensures none { (plan : PlanFields) → delivered_pairs plan [] ≡ [] }
-    ensures more { (plan : PlanFields) (records : List Record) (r : Record)
-        → delivered_pairs plan (records ++ r ∷ []) ≡ delivered_pairs plan records ++ pairs_of_record plan (records ++ r ∷ []) (length records) }
-{}
-
-// Service by service.
-
-/// The part of each service in the delivered pairs are its delivered datagrams; no other number has a part.
-pub fn the_pairs_of_a_service_are_its_datagrams()
-    ensures each { (plan : PlanFields) (records : List Record) (k : ℕ) (service : ServiceFields) → slice_get plan.services k ≡ Some service
-        → datagrams_of k (delivered_pairs plan records) ≡ delivered_datagrams service records }
-    ensures others { (plan : PlanFields) (records : List Record) (k : ℕ) → length plan.services ≤ k
-        → datagrams_of k (delivered_pairs plan records) ≡ [] }
-{}
+pub use numbers::{
+    a_record_leaves_the_numbers_of_other_pids, counters_of_64_bits_hold_all_numbers,
+    nothing_is_counted_of_nothing, numbers_go_on_where_a_service_moves,
+    others_come_record_by_record, the_numbers_of_a_service_are_those_of_its_pids,
+};
+pub use pairs::{
+    a_packet_gives_pairs_of_its_service, pairs_come_record_by_record,
+    the_pairs_of_a_service_are_its_datagrams,
+};
+pub use records::{
+    another_pid_leaves_what_units_give, one_record_more_adds_datagrams, units_are_those_of_events,
+};
+pub use spans::{
+    a_packet_is_of_one_service_or_the_int, a_service_has_each_pid_once,
+    a_span_grows_record_by_record, a_span_to_come_is_blank,
+};
+pub use told::{
+    a_record_tells_datagrams_on_the_pid_in_force, other_records_tell_nothing, what_was_told_stays,
+};
+pub use versions::{
+    other_packets_leave_the_version, the_first_version_is_in_force_at_first,
+    the_shown_section_comes_section_by_section, the_version_in_force_never_falls,
+};

@@ -1,30 +1,54 @@
--- The datagrams that a recording delivers: of each service, and of all services in the order of the records that give them.
-use Rattle.std.specs.Prelude.{ℕ, ◌+◌, List, [], ◌∷◌, ◌++◌, take, drop, length, map, flat_map}
+-- The datagrams that a recording delivers: of each service, span by span, and of all services in the order of the records that give them.
+use Rattle.std.specs.Prelude.{ℕ, ◌+◌, List, ◌++◌, take, drop, length, map, flat_map, slice_index_or}
 use Rattle.std.specs.List.{range_with_len}
 use Rattle.ts_spec.specs.Recording.{Record}
 use Rattle.plan_spec.specs.Plan.{ServiceFields, PlanFields}
+use Rattle.plan_spec.specs.Changes.{on_pid, no_service, pids_in}
 use Rattle.reception_spec.specs.Units.{delivered_by_unit}
 use Rattle.reception_spec.specs.Numbers.{units_of}
+use Rattle.reception_spec.specs.Spans.{span_of}
 
--- the delivered datagrams of a service: what its accepted units give, in order
+-- what a service delivers of some records: what its accepted units give, in order
 abbrev pub delivered_datagrams : ServiceFields → List Record → List (List ℕ)
 delivered_datagrams service records = flat_map (delivered_by_unit service) (units_of service records)
 
--- the datagrams that the record at a place gives: those of the records up to it, after those of the records before it
-abbrev pub given_by_record : ServiceFields → List Record → ℕ → List (List ℕ)
-given_by_record service records place =
-    drop (length (delivered_datagrams service (take place records))) (delivered_datagrams service (take (place + 1) records))
+-- service k of a plan, on one of its PIDs
+abbrev pub service_on : PlanFields → ℕ → ℕ → ServiceFields
+service_on plan k pid = on_pid (slice_index_or plan.services k no_service) pid
 
--- pairs of service and datagram, service k and the services after it
-abbrev pub pairs_from : ℕ → List ServiceFields → List Record → ℕ → List (ℕ × List ℕ)
-pairs_from k [] records place = []
-pairs_from k (service ∷ services) records place =
-    map (λ datagram. (k, datagram)) (given_by_record service records place) ++ pairs_from (k + 1) services records place
+-- what the records tell of service k: what its spans deliver, one after another. (Of a kind whose datagrams come in frames, without
+-- those of a frame to which a later record may add; none of the kinds so far)
+abbrev pub told_on : PlanFields → ℕ → List Record → ℕ → List (List ℕ)
+told_on plan k records pid = delivered_datagrams (service_on plan k pid) (span_of plan k pid records)
 
--- the pairs that the record at a place gives: by service, and of one service in order
+abbrev pub told_of : PlanFields → ℕ → List Record → List (List ℕ)
+told_of plan k records = flat_map (told_on plan k records) (pids_in plan k)
+
+-- what service k delivers where the recording ends: the same with those frames
+abbrev pub delivered_of : PlanFields → ℕ → List Record → List (List ℕ)
+delivered_of plan k records = told_of plan k records
+
+-- the datagrams that the record at a place gives: those that the records up to it tell, after those that the records before it tell
+abbrev pub given_by_record : PlanFields → ℕ → List Record → ℕ → List (List ℕ)
+given_by_record plan k records place = drop (length (told_of plan k (take place records))) (told_of plan k (take (place + 1) records))
+
+-- those that the end gives
+abbrev pub given_by_end : PlanFields → ℕ → List Record → List (List ℕ)
+given_by_end plan k records = drop (length (told_of plan k records)) (delivered_of plan k records)
+
+-- pairs of service and datagram, by service, and of one service in order
+abbrev pub pairs_of : PlanFields → (ℕ → List (List ℕ)) → List (ℕ × List ℕ)
+pairs_of plan datagrams = flat_map (λ k. map (λ datagram. (k, datagram)) (datagrams k)) (range_with_len 0 (length plan.services))
+
 abbrev pub pairs_of_record : PlanFields → List Record → ℕ → List (ℕ × List ℕ)
-pairs_of_record plan records place = pairs_from 0 plan.services records place
+pairs_of_record plan records place = pairs_of plan (λ k. given_by_record plan k records place)
 
--- all pairs, record by record
+abbrev pub pairs_of_end : PlanFields → List Record → List (ℕ × List ℕ)
+pairs_of_end plan records = pairs_of plan (λ k. given_by_end plan k records)
+
+-- the pairs of the records, one record after another, and with those of the end
+abbrev pub told_pairs : PlanFields → List Record → List (ℕ × List ℕ)
+told_pairs plan records = flat_map (pairs_of_record plan records) (range_with_len 0 (length records))
+
 abbrev pub delivered_pairs : PlanFields → List Record → List (ℕ × List ℕ)
-delivered_pairs plan records = flat_map (pairs_of_record plan records) (range_with_len 0 (length records))
+delivered_pairs plan records = told_pairs plan records ++ pairs_of_end plan records

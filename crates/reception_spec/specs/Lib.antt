@@ -1,6 +1,9 @@
 pub mod Units
 pub mod Packets
 pub mod Numbers
-pub mod Delivered
 pub mod Table
+pub mod Spans
+pub mod Delivered
+pub mod Sums
+pub mod Shown
 pub mod Examples

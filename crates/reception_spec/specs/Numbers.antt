@@ -1,4 +1,4 @@
--- The numbers of a reception: each is the count of records, packets, starts or units with a property.
+-- The numbers of one PID and of the units on it: each is the count of packets, starts or units with a property.
 use Rattle.std.specs.Prelude.{ℕ, ◌+◌, ◌-◌, Bool, true, false, List, [], ◌∷◌, length, count_by, flat_map, map, if◌then◌else◌, Option, Some, None}
 use Rattle.ts_spec.specs.Form.{UnitForm}
 use Rattle.ts_spec.specs.Packet.{PacketFields, continues}
@@ -6,26 +6,9 @@ use Rattle.ts_spec.specs.Recording.{Record}
 use Rattle.ts_spec.specs.Received.{Arrival, packet_of, arrivals, received_packets}
 use Rattle.ts_spec.specs.Reassembly.{PlacedUnit, accepted_units}
 use Rattle.ts_spec.specs.Events.{Event, unit_event, bad_check_event, delimit_event, bad_length_event, events_of}
-use Rattle.plan_spec.specs.Plan.{ServiceFields, pid_of, PlanFields}
+use Rattle.plan_spec.specs.Plan.{ServiceFields, pid_of}
 use Rattle.stream_spec.specs.Services.{form_of_kind}
 use Rattle.reception_spec.specs.Units.{is_unread, is_filtered, delivered_by_unit}
-use Rattle.reception_spec.specs.Packets.{is_unreadable, lacks_content, is_other}
-
--- Of the whole recording.
-
-pub record StreamNumbers : Type 0 where
-  pub records : ℕ
-  pub unreadable : ℕ
-  pub without_payload : ℕ
-  pub other : ℕ
-
-abbrev pub stream_numbers : PlanFields → List Record → StreamNumbers
-stream_numbers plan records = record {
-  records = length records;
-  unreadable = count_by is_unreadable records;
-  without_payload = count_by lacks_content records;
-  other = count_by (is_other plan) records;
-}
 
 -- Of one PID.
 
@@ -88,9 +71,9 @@ pid_numbers form pid records = record {
   bad_length = count_by is_bad_length (events_of form (received_packets pid records));
 }
 
-abbrev pub numbers_on : UnitForm → Option ℕ → List Record → PidNumbers
-numbers_on form None records = no_numbers
-numbers_on form (Some pid) records = pid_numbers form pid records
+abbrev pub numbers_if_on : UnitForm → Option ℕ → List Record → PidNumbers
+numbers_if_on form None records = no_numbers
+numbers_if_on form (Some pid) records = pid_numbers form pid records
 
 -- Of one service: what its accepted units give.
 
@@ -117,4 +100,4 @@ unit_numbers service units = record {
 
 -- the numbers of a service: of its PID, and of its units
 abbrev pub service_pid_numbers : ServiceFields → List Record → PidNumbers
-service_pid_numbers service records = numbers_on (form_of_kind service.kind) (pid_of service.kind) records
+service_pid_numbers service records = numbers_if_on (form_of_kind service.kind) (pid_of service.kind) records

@@ -1,5 +1,5 @@
 -- What is received of the IP/MAC notification table (EN 301 192 clause 8.4): the accepted sections on its PID.
-use Rattle.std.specs.Prelude.{ℕ, Bool, List, [], find, length, slice_index, ◌==◌, Option, Some, None, option_map}
+use Rattle.std.specs.Prelude.{ℕ, Bool, List, length, slice_index, ◌==◌, Option, option_map}
 use Rattle.ts_spec.specs.Recording.{Record}
 use Rattle.section_spec.specs.Section.{section_form}
 use Rattle.plan_spec.specs.Plan.{IntFields, PlanFields}
@@ -15,9 +15,6 @@ table_sections plan records = units_on section_form (table_pid plan.table) recor
 abbrev pub table_units : PlanFields → List Record → ℕ
 table_units plan records = length (table_sections plan records)
 
--- the first with the table_id of an INT
+-- a section with the table_id of an INT
 abbrev pub is_int_section : List ℕ → Bool
 is_int_section section = slice_index section 0 == 0x4C
-
-abbrev pub table_section : PlanFields → List Record → Option (List ℕ)
-table_section plan records = find is_int_section (table_sections plan records)

@@ -6,7 +6,7 @@
 
 ghost use Rattle.std.specs.Prelude.{◌≡◌, ℕ, [], List};
 ghost use Rattle.plan_spec.specs.Plan.{PlanFields, ServiceFields};
-ghost use Rattle.reception_spec.specs.Numbers.{stream_numbers};
+ghost use Rattle.reception_spec.specs.Sums.{stream_numbers};
 ghost use Rattle.reception_spec.specs.Delivered.{delivered_datagrams, delivered_pairs};
 ghost use Rattle.reception_spec.specs.Examples.{small_plan, small_records};
 

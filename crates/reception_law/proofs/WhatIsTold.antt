@@ -1,0 +1,193 @@
+-- What records tell of a service, record by record.
+use Rattle.std.proofs.Common.{◌≡◌, inl, inr, ℕ, ◌+◌, ◌<◌, ◌≤◌, Bool, true, false, eqb, Option, None, Some, List, [], ◌∷◌, ◌++◌, length, flat_map, take, drop, refl, ap, ap₂, sym, ◌∙◌, arith, append_assoc}
+use Rattle.std.specs.Prelude.{◌≢◌}
+use Rattle.std.proofs.lemmas.Bool.{eqb-true, ne_eqb}
+use Rattle.std.proofs.lemmas.List.{append-nil, take_at, take_all, drop_at, length_push}
+use Rattle.std.proofs.lemmas.List.Concat.{flat_map-append}
+use Rattle.ts_spec.specs.Recording.{Record}
+use Rattle.plan_spec.specs.Plan.{PlanFields}
+use Rattle.plan_spec.specs.Changes.{has_pid, pid_in, pids_in, has_wrong_change}
+use Rattle.plan_law.proofs.Pids.{is_in}
+use Rattle.reception_spec.specs.Packets.{is_on}
+use Rattle.reception_spec.specs.Spans.{version_at_place, version_at_end, span_of}
+use Rattle.reception_spec.specs.Delivered.{delivered_datagrams, service_on, told_on, told_of, given_by_record}
+use Rattle.reception_law.specs.Words.{added_on}
+use Rattle.reception_law.specs.InForce.{pid_in_force, ComesLater, IsBlank}
+use Rattle.reception_law.proofs.Fronts.{delivered_more, nothing_delivered}
+use Rattle.reception_law.proofs.VersionInForce.{before, most, rises, rises_at_end}
+use Rattle.reception_law.proofs.Lists.{flat_same, flat_none}
+use Rattle.reception_law.proofs.Pids.{AreParted, are_parted}
+use Rattle.reception_law.proofs.ServiceSpans.{IsOff, not_heard, span_heard, told_same, blank_where}
+
+-- Spans to come.
+
+-- a PID that is not that of a version up to the one in force is heard at none of the records
+not_yet : (plan : PlanFields) (k pid : ℕ) (records : List Record) (version : ℕ) → ((p : ℕ) → p < length records → version_at_place plan records p ≤ version)
+    → ((earlier : ℕ) → earlier ≤ version → has_pid (pid_in plan earlier k) pid ≡ false) → IsBlank plan k pid records
+not_yet plan k pid records version below never = blank_where plan k pid records (λ p less. never (version_at_place plan records p) (below p less))
+
+below_end : (plan : PlanFields) (records : List Record) (p : ℕ) → p < length records → version_at_place plan records p ≤ version_at_end plan records
+below_end plan records p less = rises plan records p (length records) (omega (arith, less))
+
+below_next : (plan : PlanFields) (records : List Record) (r : Record) (p : ℕ) → p < length (records ++ r ∷ []) → version_at_place plan (records ++ r ∷ []) p ≤ version_at_end plan records
+below_next plan records r p less =
+    omega (
+      arith,
+      rises plan (records ++ r ∷ []) p (length records) (omega (arith, less, length_push records r)),
+      before plan records (r ∷ []) (length records) (omega arith),
+    )
+
+-- those behind that of the version in force
+behind_blank : (plan : PlanFields) (k pid : ℕ) (records : List Record) (parts : AreParted plan k pid (version_at_end plan records)) (x : ℕ) → is_in x parts.behind ≡ true
+    → IsBlank plan k x records
+behind_blank plan k pid records parts x there = not_yet plan k x records (version_at_end plan records) (below_end plan records) (parts.later x there)
+
+behind_blank_next : (plan : PlanFields) (k pid : ℕ) (records : List Record) (r : Record) (parts : AreParted plan k pid (version_at_end plan records)) (x : ℕ) → is_in x parts.behind ≡ true
+    → IsBlank plan k x (records ++ r ∷ [])
+behind_blank_next plan k pid records r parts x there = not_yet plan k x (records ++ r ∷ []) (version_at_end plan records) (below_next plan records r) (parts.later x there)
+
+in_force : (plan : PlanFields) (k pid : ℕ) (records : List Record) → has_wrong_change plan ≡ false → pid_in_force plan k records ≡ Some pid → AreParted plan k pid (version_at_end plan records)
+in_force plan k pid records right on = are_parted plan k pid (version_at_end plan records) right (most plan records (length records)) on
+
+-- so it is of a PID that comes later
+is_behind : (plan : PlanFields) (k pid version : ℕ) → version ≤ length plan.changes → (to_come : ComesLater plan k pid version) (parts : AreParted plan k to_come.other version)
+    → is_in pid parts.behind ≡ true
+is_behind plan k pid version within to_come parts =
+    parts.comes pid to_come.later to_come.above to_come.within to_come.has_it (ne_eqb pid to_come.other (λ same. to_come.differs (sym same)))
+
+pub to_come_blank : (plan : PlanFields) (k pid : ℕ) (records : List Record) → has_wrong_change plan ≡ false → ComesLater plan k pid (version_at_end plan records) → IsBlank plan k pid records
+to_come_blank plan k pid records right to_come =
+    let parts = in_force plan k to_come.other records right to_come.has_other in
+    behind_blank plan k to_come.other records parts pid (is_behind plan k pid (version_at_end plan records) (most plan records (length records)) to_come parts)
+
+pub to_come_blank_next : (plan : PlanFields) (k pid : ℕ) (records : List Record) (r : Record) → has_wrong_change plan ≡ false → ComesLater plan k pid (version_at_end plan records)
+    → IsBlank plan k pid (records ++ r ∷ [])
+to_come_blank_next plan k pid records r right to_come =
+    let parts = in_force plan k to_come.other records right to_come.has_other in
+    behind_blank_next plan k to_come.other records r parts pid (is_behind plan k pid (version_at_end plan records) (most plan records (length records)) to_come parts)
+
+-- where the service moves, it comes to its new PID
+moves : (plan : PlanFields) (k old new : ℕ) (records : List Record) (r : Record) → pid_in_force plan k records ≡ Some old → pid_in_force plan k (records ++ r ∷ []) ≡ Some new → new ≢ old
+    → ComesLater plan k new (version_at_end plan records)
+moves plan k old new records r on on_then differs = record {
+  other = old;
+  later = version_at_end plan (records ++ r ∷ []);
+  has_other = on;
+  differs = λ same. differs (sym same);
+  above = omega (arith, rises_at_end plan records r, other_version);
+  within = most plan (records ++ r ∷ []) (length (records ++ r ∷ []));
+  has_it = on_then;
+}
+  where
+    other_version : version_at_end plan records ≡ version_at_end plan (records ++ r ∷ []) → ⊥
+    other_version same =
+        let pids : Some new ≡ Some old = sym on_then ∙ ap (λ (v : ℕ). pid_in plan v k) (sym same) ∙ on in
+        differs (cc (pids))
+
+pub moved_blank : (plan : PlanFields) (k old new : ℕ) (records : List Record) (r : Record) → has_wrong_change plan ≡ false
+    → pid_in_force plan k records ≡ Some old → pid_in_force plan k (records ++ r ∷ []) ≡ Some new → new ≢ old → IsBlank plan k new (records ++ r ∷ [])
+moved_blank plan k old new records r right on on_then differs = to_come_blank_next plan k new records r right (moves plan k old new records r on on_then differs)
+
+pub first_blank : (plan : PlanFields) (k pid : ℕ) → IsBlank plan k pid []
+first_blank plan k pid = blank_where plan k pid [] (λ p less. absurd (omega (arith, less)))
+
+-- What is told.
+
+pub told_none : (plan : PlanFields) (k : ℕ) → told_of plan k [] ≡ []
+told_none plan k = flat_none (told_on plan k []) (pids_in plan k) (λ pid there. nothing_delivered (service_on plan k pid))
+
+-- on the PID in force
+told_next : (plan : PlanFields) (k pid : ℕ) (records : List Record) (r : Record) → pid_in_force plan k records ≡ Some pid
+    → told_on plan k (records ++ r ∷ []) pid ≡ told_on plan k records pid ++ added_on plan k pid records r
+told_next plan k pid records r on =
+    ap (delivered_datagrams (service_on plan k pid)) (span_heard plan k pid records r on) ∙ delivered_more (service_on plan k pid) (span_of plan k pid records) r
+
+module _ (plan : PlanFields) (k pid : ℕ) (records : List Record) (r : Record) (right : has_wrong_change plan ≡ false) (on : pid_in_force plan k records ≡ Some pid) where
+  parts : AreParted plan k pid (version_at_end plan records)
+  parts = in_force plan k pid records right on
+
+  -- the PIDs up to that in force tell all
+  abbrev told_before : List Record → List (List ℕ)
+  told_before others = flat_map (told_on plan k others) parts.before
+
+  told_parts : (others : List Record) → ((x : ℕ) → is_in x parts.behind ≡ true → IsBlank plan k x others) → told_of plan k others ≡ told_before others ++ told_on plan k others pid
+  told_parts others blank =
+      ap (flat_map (told_on plan k others)) parts.whole
+      ∙ flat_map-append (told_on plan k others) parts.before (pid ∷ parts.behind)
+      ∙ ap (λ (t : List (List ℕ)). told_before others ++ (told_on plan k others pid ++ t))
+      (flat_none (told_on plan k others) parts.behind (λ x there. (blank x there).datagrams))
+      ∙ ap (λ (t : List (List ℕ)). told_before others ++ t) (append-nil (told_on plan k others pid))
+
+  before_same : told_before (records ++ r ∷ []) ≡ told_before records
+  before_same =
+      flat_same (told_on plan k (records ++ r ∷ [])) (told_on plan k records) parts.before
+      (λ x there. told_same plan k x records r (inl (not_heard plan k x pid records on (parts.others x there))))
+
+  told_more_on : told_of plan k (records ++ r ∷ []) ≡ told_of plan k records ++ added_on plan k pid records r
+  told_more_on =
+      told_parts (records ++ r ∷ []) (behind_blank_next plan k pid records r parts)
+      ∙ ap₂ (λ (s t : List (List ℕ)). s ++ t) before_same (told_next plan k pid records r on)
+      ∙ sym (append_assoc (told_before records) (told_on plan k records pid) (added_on plan k pid records r))
+      ∙ ap (λ (t : List (List ℕ)). t ++ added_on plan k pid records r) (sym (told_parts records (behind_blank plan k pid records parts)))
+
+pub told_more : (plan : PlanFields) (k pid : ℕ) (records : List Record) (r : Record) → has_wrong_change plan ≡ false → pid_in_force plan k records ≡ Some pid
+    → told_of plan k (records ++ r ∷ []) ≡ told_of plan k records ++ added_on plan k pid records r
+told_more plan k pid records r right on = told_more_on plan k pid records r right on
+
+-- what is told more, a record gives
+pub given_is : (plan : PlanFields) (k : ℕ) (records : List Record) (r : Record) (added : List (List ℕ)) → told_of plan k (records ++ r ∷ []) ≡ told_of plan k records ++ added
+    → given_by_record plan k (records ++ r ∷ []) (length records) ≡ added
+given_is plan k records r added more =
+    let whole : take (length records + 1) (records ++ r ∷ []) ≡ records ++ r ∷ [] = take_all (length records + 1) (records ++ r ∷ []) (omega (arith, length_push records r)) in
+    ap (λ (t : List Record). drop (length (told_of plan k t)) (told_of plan k (take (length records + 1) (records ++ r ∷ [])))) (take_at records (r ∷ []) (length records) refl)
+    ∙ ap (λ (t : List Record). drop (length (told_of plan k records)) (told_of plan k t)) whole
+    ∙ ap (drop (length (told_of plan k records))) more
+    ∙ drop_at (told_of plan k records) added (length (told_of plan k records)) refl
+
+pub given_on : (plan : PlanFields) (k pid : ℕ) (records : List Record) (r : Record) → has_wrong_change plan ≡ false → pid_in_force plan k records ≡ Some pid
+    → given_by_record plan k (records ++ r ∷ []) (length records) ≡ added_on plan k pid records r
+given_on plan k pid records r right on = given_is plan k records r (added_on plan k pid records r) (told_more plan k pid records r right on)
+
+-- A record that is no packet of the PID in force.
+
+abbrev pub IsOther : PlanFields → ℕ → List Record → Record → Type 0
+IsOther plan k records r = (pid : ℕ) → pid_in_force plan k records ≡ Some pid → is_on pid r ≡ false
+
+is_off : (plan : PlanFields) (k : ℕ) (records : List Record) (r : Record) → IsOther plan k records r → (pid : ℕ) → IsOff plan k pid records r
+is_off plan k records r other pid = by_force (pid_in_force plan k records) refl
+  where
+    by_own : (own : ℕ) → pid_in_force plan k records ≡ Some own → (b : Bool) → eqb own pid ≡ b → IsOff plan k pid records r
+    by_own own is true same = inr (other pid (is ∙ ap (λ (n : ℕ). Some n) (eqb-true own pid same)))
+    by_own own is false differs = inl (not_heard plan k pid own records is differs)
+
+    by_force : (o : Option ℕ) → pid_in_force plan k records ≡ o → IsOff plan k pid records r
+    by_force None is = inl (ap (λ (o : Option ℕ). has_pid o pid) is)
+    by_force (Some own) is = by_own own is (eqb own pid) refl
+
+pub told_by_other : (plan : PlanFields) (k : ℕ) (records : List Record) (r : Record) → IsOther plan k records r → told_of plan k (records ++ r ∷ []) ≡ told_of plan k records
+told_by_other plan k records r other =
+    flat_same (told_on plan k (records ++ r ∷ [])) (told_on plan k records) (pids_in plan k) (λ pid there. told_same plan k pid records r (is_off plan k records r other pid))
+
+pub given_by_other : (plan : PlanFields) (k : ℕ) (records : List Record) (r : Record) → IsOther plan k records r → given_by_record plan k (records ++ r ∷ []) (length records) ≡ []
+given_by_other plan k records r other =
+    given_is plan k records r [] (told_by_other plan k records r other ∙ sym (append-nil (told_of plan k records)))
+
+-- Whatever the record.
+
+pub told_stays : (plan : PlanFields) (k : ℕ) (records : List Record) (r : Record) → has_wrong_change plan ≡ false
+    → told_of plan k (records ++ r ∷ []) ≡ told_of plan k records ++ given_by_record plan k (records ++ r ∷ []) (length records)
+told_stays plan k records r right = by_force (pid_in_force plan k records) refl
+  where
+    told_and_given : (added : List (List ℕ)) → told_of plan k (records ++ r ∷ []) ≡ told_of plan k records ++ added
+        → told_of plan k (records ++ r ∷ []) ≡ told_of plan k records ++ given_by_record plan k (records ++ r ∷ []) (length records)
+    told_and_given added more = more ∙ ap (λ (t : List (List ℕ)). told_of plan k records ++ t) (sym (given_is plan k records r added more))
+
+    other : pid_in_force plan k records ≡ None → IsOther plan k records r
+    other none pid on =
+        let never : None ≡ Some pid = sym none ∙ on in
+        absurd (cc (never))
+
+    by_force : (o : Option ℕ) → pid_in_force plan k records ≡ o
+        → told_of plan k (records ++ r ∷ []) ≡ told_of plan k records ++ given_by_record plan k (records ++ r ∷ []) (length records)
+    by_force None none = told_and_given [] (told_by_other plan k records r (other none) ∙ sym (append-nil (told_of plan k records)))
+    by_force (Some pid) on = told_and_given (added_on plan k pid records r) (told_more plan k pid records r right on)
