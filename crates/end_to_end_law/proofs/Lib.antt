@@ -1,8 +1,10 @@
 pub mod Units
-pub mod Sends
 pub mod Numbered
 pub mod Services
 pub mod Arrives
 pub mod Offered
 pub mod Tables
 pub mod Told
+pub mod OverSpans
+pub mod Fronts
+pub mod Heard

@@ -1,12 +1,15 @@
 -- What holds of each service of a plan.
-use Rattle.std.proofs.Common.{◌≡◌, ℕ, zero, suc, ◌<◌, Bool, true, false, ◌&&◌, List, [], ◌∷◌, length, map, get_or, refl, subst, arith}
+use Rattle.std.proofs.Common.{◌≡◌, ℕ, zero, suc, ◌<◌, Bool, true, false, ◌&&◌, List, [], ◌∷◌, length, map, get_or, refl, subst, ◌∙◌, arith}
 use Rattle.std.specs.List.{list_all}
 use Rattle.std.proofs.lemmas.List.{get_or-map, length-map}
 use Rattle.plan_spec.specs.Plan.{KindFields, mpe, ServiceFields, PlanFields, kinds}
+use Rattle.plan_law.proofs.Kept.{length-services_in}
 use Rattle.stream_spec.specs.Services.{kind_at}
-use Rattle.stream_law.specs.Words.{IsMac, IsOfBytes}
+use Rattle.plan_spec.specs.Bytes.{IsMac, AreOfBytes}
+use Rattle.plan_spec.specs.Changes.{no_service, plan_in}
 use Rattle.plan_spec.specs.Built.{is_sent}
-use Rattle.loss_law.specs.Loss.{no_service, service_at}
+use Rattle.stream_law.proofs.Kept.{unicast_kept}
+use Rattle.loss_law.specs.Loss.{service_at}
 
 -- its kind is one of SNDUs or datagram_sections
 pub kind_is : (ks : List KindFields) (k : ℕ) → list_all is_sent ks ≡ true → k < length ks → is_sent (get_or ks k (mpe 0)) ≡ true
@@ -31,6 +34,8 @@ pub unicast_is : (plan : PlanFields) (k : ℕ) → k < length plan.services
 unicast_is plan k known = get_or-map (λ (s : ServiceFields). s.unicast) plan.services k no_service [] known
 
 -- is of six bytes
-pub unicast_mac : (plan : PlanFields) → IsOfBytes plan → (k : ℕ) → k < length plan.services → IsMac (service_at plan k).unicast
+pub unicast_mac : (plan : PlanFields) → AreOfBytes plan → (k : ℕ) → k < length plan.services → IsMac (service_at plan k).unicast
 unicast_mac plan of_bytes k known =
-    subst IsMac (unicast_is plan k known) (of_bytes.unicast k [] (omega (arith, known, length-map plan.services (λ (s : ServiceFields). s.unicast))))
+    subst IsMac (unicast_kept plan 0 k ∙ unicast_is plan k known)
+    ((of_bytes 0 (omega arith)).unicast k []
+    (omega (arith, known, length-services_in plan 0, length-map (plan_in plan 0).services (λ (s : ServiceFields). s.unicast))))

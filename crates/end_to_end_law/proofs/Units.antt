@@ -1,12 +1,11 @@
--- The unit of a datagram is a unit of its kind, carries the datagram, and says whom it is for.
+-- The unit of a datagram carries the datagram, and says whom it is for.
 use Rattle.std.proofs.Common.{◌≡◌, ℕ, ◌≤◌, Bool, true, false, cond, List, [], ◌∷◌, length, refl, ap, ap₂, ◌∙◌, Option, Some, None}
-use Rattle.std.specs.Prelude.{◌↔◌, option_to_list, option_map, take, drop}
+use Rattle.std.specs.Prelude.{option_to_list, option_map, take, drop}
 use Rattle.wire_spec.specs.Bytes.{AreBytes, u32_at}
 use Rattle.wire_spec.specs.Datagram.{IsDatagram, front_length, ether_type_of}
-use Rattle.ts_spec.specs.Form.{IsUnit}
-use Rattle.ts_spec.specs.Sndu.{sndu_form, is_sndu, sndu_bytes, sndu_fields, SnduFields}
+use Rattle.ts_spec.specs.Sndu.{sndu_bytes, sndu_fields, SnduFields}
 use Rattle.ts_spec.specs.Chain.{chain_end, datagram_at}
-use Rattle.section_spec.specs.Section.{SectionFields, section_form, section_fields}
+use Rattle.section_spec.specs.Section.{SectionFields, section_fields}
 use Rattle.section_spec.specs.Mpe.{MpeFields, IsWritableMpe, mpe_to_write, mpe_bytes, mpe_of, mpe_with, mac_in, has_mpe_head, real_time_of}
 use Rattle.ule_unit.specs.Writable.{IsAddress, IsWritable}
 use Rattle.addr_rules.specs.Filter.{is_wanted}
@@ -14,17 +13,16 @@ use Rattle.addr_rules.specs.declared.filter.Label.{Label}
 use Rattle.addr_rules.specs.declared.filter.Label.TheVariants.{Six, Broadcast}
 use Rattle.plan_spec.specs.Plan.{KindFields, ule, mpe, fec, gse, ServiceFields}
 use Rattle.stream_spec.specs.Units.{mac_for, sndu_of, section_of, unit_of}
-use Rattle.stream_spec.specs.Services.{carried_by_unit, form_of_kind}
+use Rattle.stream_spec.specs.Services.{carried_by_unit}
 use Rattle.reception_spec.specs.Units.{label_of_npa, label_of, delivered_by_unit}
-use Rattle.stream_law.specs.Words.{IsMac}
+use Rattle.plan_spec.specs.Bytes.{IsMac}
 use Rattle.plan_spec.specs.Built.{is_sent}
 use Rattle.stream_law.proofs.Datagrams.{type_below, chain_gives, mac_for_is}
 use Rattle.stream_law.proofs.Units.{IsTaken}
 use Rattle.end_to_end_law.specs.Units.{label_for, wants_datagram}
 
--- what the unit of a datagram is
+-- what the unit of a datagram tells
 pub record IsOwnUnit (kind : KindFields) (unicast datagram : List ℕ) : Type 0 where
-  pub unit : IsUnit (form_of_kind kind) (unit_of kind unicast datagram)
   pub carries : carried_by_unit kind (unit_of kind unicast datagram) ≡ datagram ∷ []
   pub label : label_of kind (unit_of kind unicast datagram) ≡ label_for kind unicast datagram
 
@@ -50,18 +48,14 @@ mac_told s m told = by_head (has_mpe_head s) (front_length (drop 9 s.body)) told
     by_head false size is = absurd (cc)
 
 -- with the laws of SNDUs and of datagram_sections
-module _ (sndu_units : (unit : List ℕ) → (is_sndu unit ≡ true) ↔ IsUnit sndu_form unit)
-    (sndu_is : (npa : Option (List ℕ)) (first_type : ℕ) (pdu : List ℕ) → IsWritable npa first_type pdu → is_sndu (sndu_bytes npa first_type pdu) ≡ true)
-    (sndu_read : (npa : Option (List ℕ)) (first_type : ℕ) (pdu : List ℕ) → IsWritable npa first_type pdu
+module _ (sndu_read : (npa : Option (List ℕ)) (first_type : ℕ) (pdu : List ℕ) → IsWritable npa first_type pdu
     → sndu_fields (sndu_bytes npa first_type pdu) ≡ record { npa = npa; first_type = first_type; bytes = pdu })
-    (mpe_unit : (m : MpeFields) → IsWritableMpe m → IsUnit section_form (mpe_bytes m))
     (mpe_read : (m : MpeFields) → IsWritableMpe m → mpe_of (section_fields (mpe_bytes m)) ≡ Some m)
     (mpe_can : (mac datagram : List ℕ) → AreBytes mac → length mac ≡ 6 → IsDatagram datagram → length datagram ≤ 4080 → IsWritableMpe (mpe_to_write mac None datagram)) where
   -- an SNDU
   own_sndu : (pid : ℕ) (address packing : Bool) (unicast datagram : List ℕ) → IsMac unicast → IsTaken (ule pid address packing) datagram
       → IsOwnUnit (ule pid address packing) unicast datagram
   own_sndu pid address packing unicast datagram is_mac taken = record {
-    unit = (sndu_units (sndu_of address unicast datagram)).0 (sndu_is npa (ether_type_of datagram) datagram writable);
     carries =
         ap (λ (f : SnduFields). option_to_list (datagram_at (chain_end f.first_type f.bytes))) read
         ∙ ap option_to_list (chain_gives datagram taken.is);
@@ -88,7 +82,6 @@ module _ (sndu_units : (unit : List ℕ) → (is_sndu unit ≡ true) ↔ IsUnit 
   -- a datagram_section
   own_section : (pid : ℕ) (unicast datagram : List ℕ) → IsMac unicast → IsTaken (mpe pid) datagram → IsOwnUnit (mpe pid) unicast datagram
   own_section pid unicast datagram is_mac taken = record {
-    unit = mpe_unit m writable;
     carries = ap (λ (o : Option MpeFields). option_to_list (option_map (λ (f : MpeFields). f.datagram) o)) read;
     label = ap (λ (mac : List ℕ). Six mac) (mac_told (section_fields (section_of unicast datagram)) m read);
   }

@@ -1,5 +1,5 @@
 -- A capture that is sent, and what each service delivers of the datagrams that it offers.
-use Rattle.std.specs.Prelude.{◌≡◌, ℕ, ◌<◌, true, List, [], length, slice_index_or, map, filter, Option, Some}
+use Rattle.std.specs.Prelude.{◌≡◌, ℕ, true, List, [], slice_index_or, map, filter, Option}
 use Rattle.std.specs.List.{list_all}
 use Rattle.wire_spec.specs.Bytes.{AreBytes}
 use Rattle.wire_spec.specs.Lists.{IsSubsequence}
@@ -8,26 +8,30 @@ use Rattle.carriage_spec.specs.Channel.{Channel}
 use Rattle.carriage_spec.specs.Carried.{IncludesIntact}
 use Rattle.pcap_file.specs.Told.{Tells}
 use Rattle.pcap_file.specs.declared.faults.CaptureFault.{CaptureFault}
-use Rattle.plan_spec.specs.Plan.{ServiceFields, PlanFields, kinds, pid_of}
-use Rattle.plan_spec.specs.Valid.{is_plan}
-use Rattle.plan_spec.specs.Offered.{offered}
+use Rattle.plan_spec.specs.Plan.{ServiceFields, PlanFields, kinds}
+use Rattle.plan_spec.specs.Wholes.{is_whole_plan}
+use Rattle.plan_spec.specs.Offered.{offered_in}
 use Rattle.stream_spec.specs.Stream.{IsStream}
-use Rattle.stream_spec.specs.Services.{kind_at, Carries}
-use Rattle.stream_law.specs.Words.{IsOfBytes}
+use Rattle.stream_spec.specs.Services.{kind_at, IsPidOf, datagrams_on, Carries}
+use Rattle.plan_spec.specs.Bytes.{AreOfBytes}
 use Rattle.plan_spec.specs.Built.{is_sent}
 use Rattle.stream_law.specs.Captures.{given_by}
-use Rattle.loss_law.specs.Loss.{service_at, IsRecorded}
+use Rattle.loss_law.specs.Loss.{service_at}
 use Rattle.end_to_end_law.specs.Units.{wants_datagram}
 use Rattle.stream_spec.specs.Units.{unit_of}
 
--- the datagrams of a capture that are offered to each service, in order
-abbrev pub offered_by : PlanFields → List ℕ → List (List ℕ) → ℕ → List (List ℕ)
-offered_by plan capture told = offered plan (given_by capture told)
+-- the datagrams of a capture that are offered, by version and service, in order
+abbrev pub offered_by : PlanFields → List ℕ → List (List ℕ) → ℕ → ℕ → List (List ℕ)
+offered_by plan capture told = offered_in plan (given_by capture told)
+
+-- the same by service and PID
+abbrev pub offered_on : PlanFields → List ℕ → List (List ℕ) → ℕ → ℕ → List (List ℕ)
+offered_on plan capture told = datagrams_on plan (offered_by plan capture told)
 
 -- these records are the stream of what the capture offers, under accepted settings whose services are of SNDUs and datagram_sections
 pub record IsSent (plan : PlanFields) (capture : List ℕ) (told : List (List ℕ)) (records : List (List ℕ)) : Type 0 where
-  pub accepted : is_plan plan ≡ true
-  pub of_bytes : IsOfBytes plan
+  pub accepted : is_whole_plan plan ≡ true
+  pub of_bytes : AreOfBytes plan
   pub of_units : list_all is_sent (kinds plan) ≡ true
   pub capture_bytes : AreBytes capture
   pub fault : Option CaptureFault
@@ -38,10 +42,9 @@ pub record IsSent (plan : PlanFields) (capture : List ℕ) (told : List (List �
 abbrev pub sent_records : PlanFields → List (List ℕ) → List Record
 sent_records plan records = records_of plan.recording records
 
--- the units of each service are those of its datagrams, in order, one for each
-pub record SendsOneUnitEach (plan : PlanFields) (sent : List Record) (datagrams : ℕ → List (List ℕ)) (carries : Carries plan sent datagrams) : Type 0 where
-  pub units_are : (k pid : ℕ) (known : k < length plan.services) (on : pid_of (kind_at plan k) ≡ Some pid)
-      → (carries.each k pid known on).units ≡ map (unit_of (kind_at plan k) (service_at plan k).unicast) (datagrams k)
+-- the units of each service on each of its PIDs are those of its datagrams there, in order, one for each
+pub record SendsOneUnitEach (plan : PlanFields) (sent : List Record) (datagrams : ℕ → ℕ → List (List ℕ)) (carries : Carries plan sent datagrams) : Type 0 where
+  pub units_are : (k pid : ℕ) → IsPidOf plan k pid → carries.units k pid ≡ map (unit_of (kind_at plan k) (service_at plan k).unicast) (datagrams k pid)
 
 -- the datagram of a number
 abbrev pub datagram_at : List (List ℕ) → ℕ → List ℕ
@@ -55,10 +58,3 @@ pub record DeliversNumbered {pids : List ℕ} {sent recorded : List Record} (cha
   pub includes : IncludesIntact channel span pid units begin numbers
   pub delivered_are : delivered ≡ filter (wants_datagram service) (map (datagram_at datagrams) numbers)
   pub were_wanted : IsSubsequence delivered (filter (wants_datagram service) datagrams)
-
--- each service of the plan that has a PID delivers so
-pub record DeliversOfEach (plan : PlanFields) (sent : List Record) (datagrams : ℕ → List (List ℕ)) (carries : Carries plan sent datagrams)
-    (recorded : List Record) (is_recorded : IsRecorded plan sent datagrams carries recorded) (delivered : ℕ → List (List ℕ)) : Type 0 where
-  pub each : (k pid : ℕ) (known : k < length plan.services) (on : pid_of (kind_at plan k) ≡ Some pid)
-      → DeliversNumbered is_recorded.channel recorded (service_at plan k) pid (carries.each k pid known on).units (carries.each k pid known on).begin
-      (datagrams k) (delivered k)

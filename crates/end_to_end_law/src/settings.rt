@@ -1,13 +1,20 @@
 //! Settings and captures: of each there is a stream, of which the laws speak.
-ghost use Rattle.std.specs.Prelude.{◌≡◌, ℕ, List, Option, true};
+ghost use Rattle.std.specs.Prelude.{◌≡◌, ℕ, ◌<◌, List, [], length, replicate, Option, Some, true};
 ghost use Rattle.std.specs.List.{list_all};
 ghost use Rattle.wire_spec.specs.Bytes.{AreBytes};
 ghost use Rattle.pcap_file.specs.Told.{Tells};
 ghost use Rattle.pcap_file.specs.declared.faults.CaptureFault.{CaptureFault};
-ghost use Rattle.plan_spec.specs.Plan.{PlanFields, kinds};
+ghost use Rattle.int_spec.specs.Table.{table_bytes};
+ghost use Rattle.plan_spec.specs.Plan.{IntFields, PlanFields, kinds, pid_of};
+ghost use Rattle.plan_spec.specs.Signalling.{table_of};
+ghost use Rattle.plan_spec.specs.Offered.{offered, offered_in_all};
+ghost use Rattle.stream_spec.specs.Services.{kind_at};
+ghost use Rattle.stream_law.specs.Words.{begun_cycles};
+ghost use Rattle.stream_law.specs.Captures.{given_by};
 ghost use Rattle.settings_spec.specs.Refusal.{IsAccepted};
 ghost use Rattle.plan_spec.specs.Built.{is_sent};
-ghost use Rattle.end_to_end_law.specs.Sent.{IsSent};
+ghost use Rattle.end_to_end_law.specs.Sent.{offered_on, IsSent};
+ghost use Rattle.end_to_end_law.specs.Table.{sent_tables};
 
 use pcap_file::a_capture_tells_one_thing;
 use settings_law::{accepted_settings_give_a_plan, accepted_settings_give_bytes};
@@ -31,3 +38,13 @@ pub fn each_capture_is_sent()
     accepted_settings_give_bytes();
     there_is_one_stream();
 }
+
+/// Under a plan that nothing changes all is offered in its one version, on the one PID of a service, and all sections of the INT are the same.
+pub fn without_changes_one_version_is_sent()
+    ensures offered { (plan : PlanFields) (capture : List ℕ) (told : List (List ℕ)) (k pid : ℕ) → plan.version ≡ 0 → plan.changes ≡ []
+        → k < length plan.services → pid_of (kind_at plan k) ≡ Some pid → offered_on plan capture told k pid ≡ offered plan (given_by capture told) k }
+    ensures all { (plan : PlanFields) (gives : List (Option (List ℕ))) (k : ℕ) → plan.version ≡ 0 → plan.changes ≡ []
+        → offered_in_all plan gives k ≡ offered plan gives k }
+    ensures tables { (plan : PlanFields) (int : IntFields) (slots : ℕ → ℕ) → plan.version ≡ 0 → plan.changes ≡ []
+        → sent_tables plan int slots ≡ replicate (begun_cycles plan.cycle (slots 0)) (table_bytes (table_of plan int)) }
+{}

@@ -20,7 +20,7 @@ use Rattle.loss_law.proofs.Forms.{kind_lawful}
 use Rattle.loss_law.proofs.Ones.{kind_ones}
 use Rattle.loss_law.proofs.Service.{units_on_pid, unfiltered, delivered_numbers, delivered_include, delivered_are}
 use Rattle.loss_law.proofs.AllUnits.{rising_all, no_error, all_accepted}
-use Rattle.loss_law.proofs.Plan.{kind_of_service, service_read}
+use Rattle.loss_law.proofs.Plan.{kind_of_service, service_read, own_pid}
 
 -- Each unit arrived intact.
 
@@ -64,14 +64,14 @@ module _ (sent : List Record) (kind : KindFields) (pid : ℕ) (units : List (Lis
 
 -- A plan.
 
-module _ (plan : PlanFields) (sent : List Record) (datagrams : ℕ → List (List ℕ)) (carries : Carries plan sent datagrams) where
+module _ (plan : PlanFields) (sent : List Record) (datagrams : ℕ → ℕ → List (List ℕ)) (carries : Carries plan sent datagrams) where
   -- what was sent is a recording of itself
   pub recorded_as_sent : IsRecorded plan sent datagrams carries sent
   recorded_as_sent = record {
     channel = unchanged (heard_pids plan) sent;
     detected = λ k pid known on.
-        kind_no_error sent (kind_at plan k) pid (carries.each k pid known on).units (carries.each k pid known on).begin
-        (carries.each k pid known on).packetized (heard_pids plan) (service_read plan k pid known on);
+        kind_no_error sent (kind_at plan k) pid (carries.units k pid) (carries.begin k pid)
+        (carries.packetized k pid (own_pid plan k pid known on)) (heard_pids plan) (service_read plan k pid known on);
   }
 
   -- each service delivers all that it wants
@@ -80,13 +80,13 @@ module _ (plan : PlanFields) (sent : List Record) (datagrams : ℕ → List (Lis
     wanted = λ k pid known on. wanted_are k pid known on;
     unfiltered = λ k pid known on none.
         wanted_are k pid known on
-        ∙ unfiltered (service_at plan k) (carries.each k pid known on).units none
-        ∙ ap (λ (t : KindFields). flat_map (carried_by_unit t) (carries.each k pid known on).units) (kind_of_service plan k known)
-        ∙ sym (carries.each k pid known on).carried;
+        ∙ unfiltered (service_at plan k) (carries.units k pid) none
+        ∙ ap (λ (t : KindFields). flat_map (carried_by_unit t) (carries.units k pid)) (kind_of_service plan k known)
+        ∙ sym (carries.carried k pid (own_pid plan k pid known on));
   }
     where
       wanted_are : (k pid : ℕ) (known : k < length plan.services) (on : pid_of (kind_at plan k) ≡ Some pid)
-          → delivered_datagrams (service_at plan k) sent ≡ wanted_datagrams (service_at plan k) (carries.each k pid known on).units
+          → delivered_datagrams (service_at plan k) sent ≡ wanted_datagrams (service_at plan k) (carries.units k pid)
       wanted_are k pid known on =
-          all_delivered sent (kind_at plan k) pid (carries.each k pid known on).units (carries.each k pid known on).begin
-          (carries.each k pid known on).packetized (service_at plan k) (kind_of_service plan k known) on
+          all_delivered sent (kind_at plan k) pid (carries.units k pid) (carries.begin k pid)
+          (carries.packetized k pid (own_pid plan k pid known on)) (service_at plan k) (kind_of_service plan k known) on

@@ -3,8 +3,16 @@ pub mod Forms
 pub mod Subsequences
 pub mod Service
 pub mod Plan
+pub mod ServiceSpans
+pub mod Pids
+pub mod OverSpans
+pub mod Unchanged
 pub mod OnePid
+pub mod SpansAlike
 pub mod Ones
 pub mod Starts
 pub mod AllUnits
 pub mod AllDatagrams
+pub mod Fronts
+pub mod InForce
+pub mod WholeSpans

@@ -12,7 +12,7 @@ use Rattle.ts_spec.specs.Events.{Event, events_of}
 use Rattle.plan_spec.specs.Plan.{ServiceFields, pid_of}
 use Rattle.stream_spec.specs.Services.{form_of_kind}
 use Rattle.reception_spec.specs.Units.{delivered_by_unit}
-use Rattle.reception_spec.specs.Numbers.{gaps_behind, gaps_in, is_unit, is_bad_check, is_delimit, is_bad_length, PidNumbers, pid_numbers, numbers_on, service_pid_numbers, units_on, units_of}
+use Rattle.reception_spec.specs.Numbers.{gaps_behind, gaps_in, is_unit, is_bad_check, is_delimit, is_bad_length, PidNumbers, pid_numbers, numbers_if_on, service_pid_numbers, units_on, units_of}
 use Rattle.reception_spec.specs.Delivered.{delivered_datagrams}
 use Rattle.carriage_law.specs.Words.{timed_packet, timed_unit}
 use Rattle.carriage_law.proofs.Isolation.{accepted_same, events_same}
@@ -107,9 +107,9 @@ module _ (pid : ℕ) (one other : List Record) (same : SamePackets pid one other
 
   pub service_numbers_same : (service : ServiceFields) → pid_of service.kind ≡ Some pid → service_pid_numbers service one ≡ service_pid_numbers service other
   service_numbers_same service on =
-      ap (λ (t : Option ℕ). numbers_on (form_of_kind service.kind) t one) on
+      ap (λ (t : Option ℕ). numbers_if_on (form_of_kind service.kind) t one) on
       ∙ numbers_same (form_of_kind service.kind)
-      ∙ sym (ap (λ (t : Option ℕ). numbers_on (form_of_kind service.kind) t other) on)
+      ∙ sym (ap (λ (t : Option ℕ). numbers_if_on (form_of_kind service.kind) t other) on)
 
   pub service_datagrams_same : (service : ServiceFields) → pid_of service.kind ≡ Some pid → delivered_datagrams service one ≡ delivered_datagrams service other
   service_datagrams_same service on = ap (flat_map (delivered_by_unit service)) (service_units_same service on)

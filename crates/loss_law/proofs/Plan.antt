@@ -1,7 +1,8 @@
 -- What the services of a plan deliver.
-use Rattle.std.proofs.Common.{◌≡◌, inl, inr, ℕ, ◌<◌, Option, None, Some, List, [], ◌∷◌, ◌++◌, length, flat_map, refl, ap, sym, ◌∙◌, subst, arith}
+use Rattle.std.proofs.Common.{◌≡◌, inl, inr, ℕ, ◌<◌, Bool, true, false, ◌||◌, eqb, Option, None, Some, List, [], ◌∷◌, ◌++◌, length, flat_map, refl, ap, sym, ◌∙◌, subst, arith}
 use Rattle.std.specs.Prelude.{Contains, filter_map}
 use Rattle.std.specs.List.{cons_option}
+use Rattle.std.proofs.lemmas.Bool.{eqb-true}
 use Rattle.std.proofs.lemmas.List.{get_or-map, length-map}
 use Rattle.ts_spec.specs.Recording.{Record}
 use Rattle.ts_spec.specs.Packetized.{Packetizes}
@@ -9,12 +10,14 @@ use Rattle.carriage_spec.specs.Channel.{Channel}
 use Rattle.carriage_spec.specs.Spans.{IsSpanOf}
 use Rattle.carriage_spec.specs.Carried.{packets_sent, NoUndetectedError}
 use Rattle.plan_spec.specs.Plan.{KindFields, mpe, ServiceFields, IntFields, PlanFields, kinds, pid_of, table_pids, service_pids}
-use Rattle.stream_spec.specs.Services.{kind_at, form_of_kind, carried_by_unit, CarriesOn, Carries}
+use Rattle.plan_spec.specs.Changes.{no_service, pid_in, pids_in}
+use Rattle.plan_law.proofs.Pids.{is_in, pid_is_in}
+use Rattle.stream_spec.specs.Services.{kind_at, form_of_kind, carried_by_unit, IsPidOf, Carries}
 use Rattle.reception_spec.specs.Packets.{heard_pids}
 use Rattle.reception_spec.specs.Delivered.{delivered_datagrams}
 use Rattle.carriage_law.proofs.Member.{Member, member_behind, member_at, contains_member}
 use Rattle.carriage_law.proofs.Spans.{whole_is_span}
-use Rattle.loss_law.specs.Loss.{DeliversIntact, no_service, service_at, IsRecorded, DeliversEach}
+use Rattle.loss_law.specs.Loss.{CarriesOn, DeliversIntact, service_at, IsRecorded, DeliversEach}
 use Rattle.loss_law.proofs.Service.{service_delivers}
 
 -- the kind of a service of a plan
@@ -50,6 +53,27 @@ table_read plan int is =
     subst (λ (table : Option IntFields). Contains (table_pids table ++ service_pids plan) int.pid) (sym is)
     (contains_member (int.pid ∷ service_pids plan) int.pid (inl refl))
 
+-- The PID of a service is the one that it has in version 0.
+
+is_member : (x : ℕ) (xs : List ℕ) → is_in x xs ≡ true → Member xs x
+is_member x [] there = absurd (cc)
+is_member x (y ∷ xs) there = by_first (eqb x y) refl (is_member x xs) there
+  where
+    by_first : (b : Bool) → eqb x y ≡ b → (is_in x xs ≡ true → Member xs x) → (b || is_in x xs) ≡ true → Member (y ∷ xs) x
+    by_first true same later is = inl (sym (eqb-true x y same))
+    by_first false other later is = inr (later is)
+
+pub pid_of_first : (plan : PlanFields) (k pid : ℕ) → k < length plan.services → pid_of (kind_at plan k) ≡ Some pid → pid_in plan 0 k ≡ Some pid
+unfolding pid_in
+pid_of_first plan k pid known on = ap pid_of (kind_of_service plan k known) ∙ on
+
+-- and so one of its PIDs
+pub own_pid : (plan : PlanFields) (k pid : ℕ) → k < length plan.services → pid_of (kind_at plan k) ≡ Some pid → IsPidOf plan k pid
+own_pid plan k pid known on = record {
+  service = known;
+  own = contains_member (pids_in plan k) pid (is_member pid (pids_in plan k) (pid_is_in plan 0 k pid (omega arith) (pid_of_first plan k pid known on)));
+}
+
 -- What its services deliver.
 
 -- the law for a service whose kind is known by an equation
@@ -66,12 +90,23 @@ kind_delivers pids sent recorded channel span is_span service kind same pid read
     (λ here packetized detected carried. service_delivers pids sent recorded channel span is_span service pid read here carries.units carries.begin packetized detected datagrams carried)
     on carries.packetized no_error carries.carried
 
+-- what is carried on a PID of a service
+abbrev pub carries_on : (plan : PlanFields) (sent : List Record) (datagrams : ℕ → ℕ → List (List ℕ)) → Carries plan sent datagrams → (k pid : ℕ) → IsPidOf plan k pid
+    → CarriesOn (kind_at plan k) pid sent (datagrams k pid)
+carries_on plan sent datagrams carries k pid own = record {
+  units = carries.units k pid;
+  begin = carries.begin k pid;
+  packetized = carries.packetized k pid own;
+  carried = carries.carried k pid own;
+}
+
 -- each service of a plan
-pub each_delivers : (plan : PlanFields) (sent : List Record) (datagrams : ℕ → List (List ℕ)) (carries : Carries plan sent datagrams) (recorded : List Record)
+pub each_delivers : (plan : PlanFields) (sent : List Record) (datagrams : ℕ → ℕ → List (List ℕ)) (carries : Carries plan sent datagrams) (recorded : List Record)
     (is_recorded : IsRecorded plan sent datagrams carries recorded)
     → DeliversEach plan sent datagrams carries recorded is_recorded (λ k. delivered_datagrams (service_at plan k) recorded)
 each_delivers plan sent datagrams carries recorded is_recorded = record {
   each = λ k pid known on.
       kind_delivers (heard_pids plan) sent recorded is_recorded.channel recorded (whole_is_span recorded) (service_at plan k) (kind_at plan k) (kind_of_service plan k known) pid
-      (service_read plan k pid known on) on (datagrams k) (carries.each k pid known on) (is_recorded.detected k pid known on);
+      (service_read plan k pid known on) on (datagrams k pid) (carries_on plan sent datagrams carries k pid (own_pid plan k pid known on))
+      (is_recorded.detected k pid known on);
 }

@@ -1,6 +1,7 @@
 -- Subsequences of what the items of a list give.
 use Rattle.std.proofs.Common.{inl, inr, Bool, true, false, cond, List, [], ◌∷◌, ◌++◌, flat_map, refl}
 use Rattle.wire_spec.specs.Lists.{IsSubsequence}
+use Rattle.carriage_law.proofs.Member.{Member}
 
 -- a list stands after others
 behind_others : {X : Type 0} (xs front ys : List X) → IsSubsequence xs ys → IsSubsequence xs (front ++ ys)
@@ -22,3 +23,16 @@ subsequence_chosen {X} {Y} test f (x ∷ xs) = by_test (test x) (subsequence_cho
         → IsSubsequence (cond b (f x) [] ++ flat_map (λ y. cond (test y) (f y) []) xs) (f x ++ flat_map f xs)
     by_test true rest = same_front (f x) (flat_map (λ y. cond (test y) (f y) []) xs) (flat_map f xs) rest
     by_test false rest = behind_others (flat_map (λ y. cond (test y) (f y) []) xs) (f x) (flat_map f xs) rest
+
+-- of lists one behind the other
+subsequence_both : {X : Type 0} (xs ys us vs : List X) → IsSubsequence xs ys → IsSubsequence us vs → IsSubsequence (xs ++ us) (ys ++ vs)
+subsequence_both [] ys us vs within behind = behind_others us ys vs behind
+subsequence_both (x ∷ xs) [] us vs within behind = absurd within
+subsequence_both (x ∷ xs) (y ∷ ys) us vs (inl taken) behind = inl (taken.0, subsequence_both xs ys us vs taken.1 behind)
+subsequence_both (x ∷ xs) (y ∷ ys) us vs (inr left_out) behind = inr (subsequence_both (x ∷ xs) ys us vs left_out behind)
+
+-- and of what the same items give
+pub subsequence_each : {I X : Type 0} (f g : I → List X) (items : List I) → ((i : I) → Member items i → IsSubsequence (f i) (g i)) → IsSubsequence (flat_map f items) (flat_map g items)
+subsequence_each f g [] each = tt
+subsequence_each f g (i ∷ items) each =
+    subsequence_both (f i) (g i) (flat_map f items) (flat_map g items) (each i (inl refl)) (subsequence_each f g items (λ j there. each j (inr there)))

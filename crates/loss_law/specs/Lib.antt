@@ -1,2 +1,4 @@
 pub mod Loss
+pub mod Spans
 pub mod Isolation
+pub mod Versions

@@ -7,17 +7,26 @@
 
 mod isolation;
 mod loss;
+mod spans;
+mod versions;
 mod without_loss;
 
 pub use isolation::{
-    a_pid_is_counted_by_itself, a_service_is_received_by_itself, other_records_change_nothing,
+    a_pid_is_counted_by_itself, a_service_is_received_by_itself,
+    a_service_is_received_by_itself_over_its_spans, other_records_change_nothing,
 };
 pub use loss::{
     a_service_delivers_what_arrived_intact, a_service_without_filter_wants_all,
     datagrams_that_arrived_intact_are_delivered, each_service_delivers_what_arrived_intact,
     sections_are_a_lawful_kind_of_unit,
 };
+pub use spans::{
+    a_span_grows_with_its_recording, a_span_is_of_its_recording,
+    each_service_delivers_over_its_spans, without_changes_a_span_is_the_recording,
+};
+pub use versions::a_version_is_in_force_only_from_its_part_on;
 pub use without_loss::{
     a_recorded_stream_gives_its_units, a_stream_is_a_recording_of_itself,
-    where_all_units_arrived_intact_all_is_delivered, where_nothing_is_lost_all_is_delivered,
+    where_all_units_arrived_intact_all_is_delivered, where_each_packet_is_heard_all_is_delivered,
+    where_nothing_is_lost_all_is_delivered,
 };

@@ -9,10 +9,10 @@ ghost use Rattle.carriage_spec.specs.Channel.{Channel};
 ghost use Rattle.carriage_spec.specs.Spans.{IsSpanOf};
 ghost use Rattle.carriage_spec.specs.Carried.{NoUndetectedError, ArrivedIntact, IsRising};
 ghost use Rattle.plan_spec.specs.Plan.{ServiceFields, PlanFields, pid_of};
-ghost use Rattle.stream_spec.specs.Services.{form_of_kind, carried_by_unit, CarriesOn, Carries};
+ghost use Rattle.stream_spec.specs.Services.{form_of_kind, carried_by_unit, Carries};
 ghost use Rattle.reception_spec.specs.Units.{delivered_by_unit};
 ghost use Rattle.reception_spec.specs.Delivered.{delivered_datagrams};
-ghost use Rattle.loss_law.specs.Loss.{wanted_datagrams, DeliversIntact, service_at, IsRecorded, DeliversEach};
+ghost use Rattle.loss_law.specs.Loss.{wanted_datagrams, CarriesOn, DeliversIntact, service_at, IsRecorded, DeliversEach};
 
 /// Whatever is dropped, repeated, damaged or inserted: a service delivers wanted datagrams, unchanged and in order, with each whose unit arrived intact.
 ///
@@ -39,7 +39,7 @@ pub fn datagrams_that_arrived_intact_are_delivered()
 
 /// The same of each service of a plan that has a PID.
 pub fn each_service_delivers_what_arrived_intact()
-    ensures delivers { (plan : PlanFields) (sent : List Record) (datagrams : ℕ → List (List ℕ)) (carries : Carries plan sent datagrams)
+    ensures delivers { (plan : PlanFields) (sent : List Record) (datagrams : ℕ → ℕ → List (List ℕ)) (carries : Carries plan sent datagrams)
         → (recorded : List Record) (is_recorded : IsRecorded plan sent datagrams carries recorded)
         → DeliversEach plan sent datagrams carries recorded is_recorded (λ k. delivered_datagrams (service_at plan k) recorded) }
 {}

@@ -1,15 +1,18 @@
 //! What a service delivers where nothing is lost: all that it wants.
-ghost use Rattle.std.specs.Prelude.{◌≡◌, ℕ, ◌<◌, List, length, map, Contains, Some};
+ghost use Rattle.std.specs.Prelude.{◌≡◌, ℕ, ◌<◌, List, length, map, Contains, true, Some};
 ghost use Rattle.ts_spec.specs.Recording.{Record};
+ghost use Rattle.ts_spec.specs.Received.{Arrival, arrivals};
 ghost use Rattle.ts_spec.specs.Reassembly.{PlacedUnit, accepted_units};
 ghost use Rattle.ts_spec.specs.Packetized.{Packetizes};
 ghost use Rattle.carriage_spec.specs.Channel.{Channel};
 ghost use Rattle.carriage_spec.specs.Spans.{IsSpanOf};
 ghost use Rattle.carriage_spec.specs.Carried.{packets_sent, NoUndetectedError, ArrivedIntact};
 ghost use Rattle.plan_spec.specs.Plan.{KindFields, ServiceFields, PlanFields, pid_of};
-ghost use Rattle.stream_spec.specs.Services.{form_of_kind, CarriesOn, Carries};
-ghost use Rattle.reception_spec.specs.Delivered.{delivered_datagrams};
-ghost use Rattle.loss_law.specs.Loss.{wanted_datagrams, service_at, IsRecorded, DeliversAll};
+ghost use Rattle.stream_spec.specs.Services.{form_of_kind, IsPidOf, Carries};
+ghost use Rattle.reception_spec.specs.Spans.{is_heard_on};
+ghost use Rattle.reception_spec.specs.Delivered.{delivered_datagrams, delivered_of};
+ghost use Rattle.loss_law.specs.Loss.{wanted_datagrams, CarriesOn, service_at, IsRecorded, DeliversAll};
+ghost use Rattle.loss_law.specs.Spans.{IsRecordedInSpans, wanted_on_pids};
 
 /// Where each unit arrived intact, whatever else became of the records, a service delivers all its wanted datagrams, in order and each once.
 pub fn where_all_units_arrived_intact_all_is_delivered()
@@ -32,12 +35,23 @@ pub fn a_recorded_stream_gives_its_units()
 
 /// What was sent came through a channel without undetected errors, if it was recorded as it was sent.
 pub fn a_stream_is_a_recording_of_itself()
-    ensures is { (plan : PlanFields) (sent : List Record) (datagrams : ℕ → List (List ℕ)) (carries : Carries plan sent datagrams)
+    ensures is { (plan : PlanFields) (sent : List Record) (datagrams : ℕ → ℕ → List (List ℕ)) (carries : Carries plan sent datagrams)
         → IsRecorded plan sent datagrams carries sent }
 {}
 
 /// Of a stream that was recorded as it was sent each service of a plan delivers all wanted datagrams, without a filter all that were sent.
 pub fn where_nothing_is_lost_all_is_delivered()
-    ensures all { (plan : PlanFields) (sent : List Record) (datagrams : ℕ → List (List ℕ)) (carries : Carries plan sent datagrams)
+    ensures all { (plan : PlanFields) (sent : List Record) (datagrams : ℕ → ℕ → List (List ℕ)) (carries : Carries plan sent datagrams)
         → DeliversAll plan sent datagrams carries (λ k. delivered_datagrams (service_at plan k) sent) }
+{}
+
+/// Of a stream that was recorded as it was sent a service delivers over its spans all wanted datagrams, one PID after another, where each packet
+/// of its PIDs is heard: where it stands in the span of its PID. And what was sent is then a recording of itself in spans.
+pub fn where_each_packet_is_heard_all_is_delivered()
+    ensures all { (plan : PlanFields) (sent : List Record) (datagrams : ℕ → ℕ → List (List ℕ)) (carries : Carries plan sent datagrams) (k : ℕ) → k < length plan.services
+        → ((pid : ℕ) (a : Arrival) → IsPidOf plan k pid → Contains (arrivals pid sent) a → is_heard_on plan sent k pid a.place ≡ true)
+        → delivered_of plan k sent ≡ wanted_on_pids plan k (carries.units k) }
+    ensures recorded { (plan : PlanFields) (sent : List Record) (datagrams : ℕ → ℕ → List (List ℕ)) (carries : Carries plan sent datagrams)
+        → ((k pid : ℕ) (a : Arrival) → IsPidOf plan k pid → Contains (arrivals pid sent) a → is_heard_on plan sent k pid a.place ≡ true)
+        → IsRecordedInSpans plan sent datagrams carries sent }
 {}

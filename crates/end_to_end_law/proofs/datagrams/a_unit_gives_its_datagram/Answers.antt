@@ -5,8 +5,7 @@ pub returns : goal.returns
 returns c = record {
   gives = λ service datagram of_units is_mac is bytes size.
       own_unit_gives service datagram
-      (own_unit c.sndus_are_units.ensures.units c.a_written_sndu_reads_back.ensures.sndu c.a_written_sndu_reads_back.ensures.read
-      c.a_written_datagram_section_reads_back.ensures.unit c.a_written_datagram_section_reads_back.ensures.read
+      (own_unit c.a_written_sndu_reads_back.ensures.read c.a_written_datagram_section_reads_back.ensures.read
       c.an_address_or_parameters_can_be_written.ensures.address service.kind service.unicast datagram of_units is_mac
       (record { is = is; bytes = bytes; size = size }));
 }

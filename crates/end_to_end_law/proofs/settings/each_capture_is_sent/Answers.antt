@@ -7,13 +7,13 @@ pub returns : goal.returns
 returns c = record {
   is = λ settings plan accepted of_units capture bytes.
       let told = c.each_capture_tells_records.ensures.tells capture in
-      let is_plan = c.accepted_settings_give_a_plan.ensures.plan settings plan accepted in
-      let found = c.there_is_one_stream.ensures.is plan (offered_by plan capture told.0) is_plan in (
+      let whole = c.accepted_settings_give_a_plan.ensures.whole settings plan accepted in
+      let found = c.there_is_one_stream.ensures.is plan (offered_by plan capture told.0) whole in (
         told.0,
         found.0,
         record {
-          accepted = is_plan;
-          of_bytes = c.accepted_settings_give_bytes.ensures.bytes settings plan accepted;
+          accepted = whole;
+          of_bytes = λ version within. c.accepted_settings_give_bytes.ensures.versions settings plan version accepted;
           of_units = of_units;
           capture_bytes = bytes;
           fault = told.1;
