@@ -1,9 +1,9 @@
 -- Items of lists at a place.
-use Rattle.std.proofs.Common.{◌≡◌, ℕ, zero, suc, ◌+◌, Bool, true, false, ◌&&◌, List, [], ◌∷◌, ◌++◌, length, map, take, drop, replicate, refl, sym, ap, ◌∙◌, add-one, subst}
+use Rattle.std.proofs.Common.{◌≡◌, ◌⊎◌, inl, inr, ℕ, zero, suc, ◌+◌, ◌<◌, ◌≤◌, Bool, true, false, ◌&&◌, List, [], ◌∷◌, ◌++◌, length, map, take, drop, replicate, refl, sym, ap, ◌∙◌, add-one, subst, arith}
 use Rattle.std.specs.Prelude.{All, slice_get, Some, sum_by}
 use Rattle.std.specs.List.{list_all}
+use Rattle.std.proofs.lemmas.Bool.{cases_lt}
 use Rattle.std.proofs.lemmas.List.{length-replicate}
-use Rattle.std.proofs.lemmas.Option.{slice_get_within, get_or_from_slice_get}
 use Rattle.std.proofs.lemmas.List.Elements.{All-push}
 use Rattle.std.proofs.lemmas.List.Sums.{sum_by-cons}
 use Rattle.int_table.proofs.Parts.{take_one_more, drop_from}
@@ -40,6 +40,31 @@ pub lengths_next : (lists : List (List (List ℕ))) (i : ℕ) (x : List (List �
     → sum_by (λ (list : List (List ℕ)). length list) (drop i lists) ≡ length x + sum_by (λ (list : List (List ℕ)). length list) (drop (i + 1) lists)
 lengths_next lists i x found =
     ap (sum_by (λ (list : List (List ℕ)). length list)) (drop_from lists i x found) ∙ sum_by-cons (λ (list : List (List ℕ)). length list) x (drop (i + 1) lists)
+
+-- what holds of each item by its place, and of one behind them
+pub each_pushed : {X : Type 0} (P : ℕ → X → Type 0) (xs new : List X) (x : X) (n : ℕ) → length xs ≡ n → new ≡ xs ++ x ∷ []
+    → ((i : ℕ) (y : X) → slice_get xs i ≡ Some y → P i y) → P n x → (i : ℕ) (y : X) → slice_get new i ≡ Some y → P i y
+each_pushed {X} P xs new x n size is before here i y found = by_place (cases_lt i (length xs))
+  where
+    low : (zs : List X) (k : ℕ) → k < length zs → slice_get (zs ++ x ∷ []) k ≡ slice_get zs k
+    low [] k less = absurd (omega (arith, less))
+    low (z ∷ zs) zero less = refl
+    low (z ∷ zs) (suc k) less = low zs k (omega (arith, less))
+
+    high : (zs : List X) (k : ℕ) → length zs ≤ k → slice_get (zs ++ x ∷ []) k ≡ Some y → (length zs ≡ k) × (x ≡ y)
+    high [] zero le e = (refl, cc)
+    high [] (suc k) le e = absurd (cc)
+    high (z ∷ zs) zero le e = absurd (omega (arith, le))
+    high (z ∷ zs) (suc k) le e = let it = high zs k (omega (arith, le)) e in (ap suc it.0, it.1)
+
+    there : slice_get (xs ++ x ∷ []) i ≡ Some y
+    there = ap (λ (l : List X). slice_get l i) (sym is) ∙ found
+
+    by_place : (i < length xs) ⊎ (length xs ≤ i) → P i y
+    by_place (inl less) = before i y (sym (low xs i less) ∙ there)
+    by_place (inr le) =
+        let it = high xs i le there in
+        subst (λ (z : X). P i z) it.1 (subst (λ (k : ℕ). P k x) (sym size ∙ it.0) here)
 
 -- a test of all, from one on and from the next
 pub list_all_next : {X : Type 0} (p : X → Bool) (xs : List X) (i : ℕ) (x : X) → slice_get xs i ≡ Some x → list_all p (drop i xs) ≡ (p x && list_all p (drop (i + 1) xs))

@@ -3,8 +3,14 @@ pub mod Held
 pub mod Reading
 pub mod Turned
 pub mod Serviced
+pub mod Moved
 pub mod Signalled
 pub mod Stepped
 pub mod Ended
+pub mod Filled
+pub mod Made
+pub mod Again
+pub mod Parted
 pub mod Recorded
 pub mod Streamed
+pub mod Staged

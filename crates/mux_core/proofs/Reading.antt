@@ -227,14 +227,14 @@ sending_first start kind unicast datagrams ends units packer built are_for few c
 }
 
 -- all packets are those of the units
-pub packets_first : (form : UnitForm) (kind : KindFields) (unicast : List ℕ) (datagrams : List (List ℕ)) (ends : List ℕ) (packer : PackerState) (packing : Bool) (pid : ℕ)
-    → ends ≡ ends_from 0 (map (unit_of kind unicast) datagrams) → ((bytes es : List ℕ) → packets_left form packer bytes es ≡ packetized form packing pid 0 (units_of bytes es))
-    → packets_left form packer (unit_bytes kind unicast datagrams) ends ≡ packetized form packing pid 0 (map (unit_of kind unicast) datagrams)
-packets_first form kind unicast datagrams ends packer packing pid are begins =
+pub packets_first : (form : UnitForm) (kind : KindFields) (unicast : List ℕ) (datagrams : List (List ℕ)) (ends : List ℕ) (packer : PackerState) (packing : Bool) (pid counter : ℕ)
+    → ends ≡ ends_from 0 (map (unit_of kind unicast) datagrams) → ((bytes es : List ℕ) → packets_left form packer bytes es ≡ packetized form packing pid counter (units_of bytes es))
+    → packets_left form packer (unit_bytes kind unicast datagrams) ends ≡ packetized form packing pid counter (map (unit_of kind unicast) datagrams)
+packets_first form kind unicast datagrams ends packer packing pid counter are begins =
     begins (unit_bytes kind unicast datagrams) ends
-    ∙ ap (λ (units : List (List ℕ)). packetized form packing pid 0 units) (units_joined (map (unit_of kind unicast) datagrams) ends are)
+    ∙ ap (λ (units : List (List ℕ)). packetized form packing pid counter units) (units_joined (map (unit_of kind unicast) datagrams) ends are)
 
-pub few_first : (form : UnitForm) (kind : KindFields) (unicast : List ℕ) (datagrams : List (List ℕ)) (packing : Bool) (pid : ℕ)
+pub few_first : (form : UnitForm) (kind : KindFields) (unicast : List ℕ) (datagrams : List (List ℕ)) (packing : Bool) (pid counter : ℕ)
     → length (unit_bytes kind unicast datagrams) ≤ 32773 * length datagrams → length datagrams < 2 ^ 32
-    → length (packetized form packing pid 0 (map (unit_of kind unicast) datagrams)) ≤ 2 ^ 48
-few_first form kind unicast datagrams packing pid most few = omega (arith, packets_most form packing pid 0 (map (unit_of kind unicast) datagrams), most, few)
+    → length (packetized form packing pid counter (map (unit_of kind unicast) datagrams)) ≤ 2 ^ 48
+few_first form kind unicast datagrams packing pid counter most few = omega (arith, packets_most form packing pid counter (map (unit_of kind unicast) datagrams), most, few)

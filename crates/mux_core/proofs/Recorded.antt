@@ -1,25 +1,32 @@
 -- A record is its stamp and its packet, and stands after those that no sink has yet.
-use Rattle.std.proofs.Common.{◌≡◌, ℕ, ◌+◌, ◌-◌, ◌≤◌, List, [], ◌++◌, length, take, drop, sym, ap, ap₂, ◌∙◌, arith, append_assoc, append-nil, length-drop}
+use Rattle.std.proofs.Common.{◌≡◌, ℕ, ◌+◌, ◌-◌, ◌≤◌, List, [], ◌++◌, length, take, drop, sym, ap, ap₂, ◌∙◌, arith, append_assoc, append-nil, length-drop, Option}
 use Rattle.std.proofs.lemmas.List.{length-append, length-take-le, take_at, drop_at, take-append-drop, drop-drop, drop_all}
 use Rattle.std.proofs.Math.Seq.{take-length}
 use borrow.Rule.Slice.PartMut.{post_of}
-use Rattle.ts_spec.specs.Packet.{PacketFields}
 use Rattle.plan_spec.specs.Plan.{PlanFields}
-use Rattle.stream_spec.specs.Stream.{stamp_bytes, record_of_slot}
+use Rattle.stream_spec.specs.Parts.{PartFields, stamp_bytes, record_of_slot}
+use Rattle.mux_core.specs.declared.int_packets.IntPackets.{IntPackets}
 use Rattle.mux_core.specs.Services.{Serving}
-use Rattle.mux_core.specs.Slots.{TakesSlot, WritesRecord, AddsRecord}
+use Rattle.mux_core.specs.Slots.{IsPartOf, TakesSlot, WritesRecord, AddsRecord}
 
-module _ (plan : PlanFields) (services : List (List PacketFields)) (slot : ℕ) (serving : Serving) where
+-- the stamp of a slot of the stream is that of the slot of its part
+pub stamp_is : (plan : PlanFields) (part : PartFields) (is : IsPartOf plan part) (slot of_stream : ℕ) → of_stream ≡ part.slots_before + slot
+    → stamp_bytes plan.recording plan.packet_rate of_stream ≡ stamp_bytes part.plan.recording part.plan.packet_rate (part.slots_before + slot)
+stamp_is plan part is slot of_stream place =
+    ap (λ (s : ℕ). stamp_bytes plan.recording plan.packet_rate s) place
+    ∙ ap (λ (p : PlanFields). stamp_bytes p.recording p.packet_rate (part.slots_before + slot)) (sym is.plan_is)
+
+module _ (plan : PlanFields) (part : PartFields) (slot of_stream : ℕ) (turn : Option ℕ) (serving : Serving) (table : IntPackets) where
   abbrev stamp : List ℕ
-  stamp = stamp_bytes plan.recording plan.packet_rate slot
+  stamp = stamp_bytes part.plan.recording part.plan.packet_rate (part.slots_before + slot)
 
   abbrev record_is : List ℕ
-  record_is = record_of_slot plan services slot
+  record_is = record_of_slot part slot
 
   -- the stamp was written, and then the packet after it
   pub record_written : (old mid rest new : List ℕ) (size : ℕ) → size ≡ length stamp → size ≤ 8 → mid ≡ stamp ++ drop size old → 196 ≤ length old
-      → rest ≡ take (length mid - size) (drop size mid) → drop 188 new ≡ drop 188 rest → length new ≡ length rest → TakesSlot plan services slot serving (take 188 new)
-      → WritesRecord plan services slot serving old (take size mid ++ (new ++ post_of size (length mid - size) mid)) (size + 188)
+      → rest ≡ take (length mid - size) (drop size mid) → drop 188 new ≡ drop 188 rest → length new ≡ length rest → TakesSlot plan part slot of_stream turn serving table (take 188 new)
+      → WritesRecord plan part slot of_stream turn serving table old (take size mid ++ (new ++ post_of size (length mid - size) mid)) (size + 188)
   record_written old mid rest new size size_is few mid_is room rest_is behind same took = record {
     bytes_are = whole;
     size_is = omega (arith, size_is, length-append stamp (take 188 new), length-take-le 188 new (omega (arith, long)), ap length (ap (λ (t : List ℕ). stamp ++ t) took.bytes_are));
@@ -53,8 +60,8 @@ module _ (plan : PlanFields) (services : List (List PacketFields)) (slot : ℕ) 
 
   -- it was written after the others
   pub record_added : (items rest new : List ℕ) (fill size : ℕ) (before : List ℕ) → take fill items ≡ before → fill ≤ length items
-      → WritesRecord plan services slot serving rest new size → (all : List ℕ) → all ≡ take fill items ++ new
-      → AddsRecord plan services slot serving before (take (fill + size) all)
+      → WritesRecord plan part slot of_stream turn serving table rest new size → (all : List ℕ) → all ≡ take fill items ++ new
+      → AddsRecord plan part slot of_stream turn serving table before (take (fill + size) all)
   record_added items rest new fill size before before_is fits wrote all all_is = record {
     bytes_are =
         ap (take (fill + size)) (all_is ∙ ap (λ (t : List ℕ). take fill items ++ t) wrote.bytes_are ∙ sym (append_assoc (take fill items) record_is (drop size rest)))
@@ -85,7 +92,7 @@ rest_written items seen rest new len fill same len_is fits rest_is size =
     all_is = ap₂ (λ (a b : List ℕ). take fill a ++ (new ++ b)) same none ∙ ap (λ (t : List ℕ). take fill items ++ t) (append-nil new)
 
 -- a record is written in the room that there is
-pub record_kept : (plan : PlanFields) (services : List (List PacketFields)) (slot : ℕ) (serving : Serving) (old new : List ℕ) (size : ℕ) → WritesRecord plan services slot serving old new size → size ≤ length old
+pub record_kept : (plan : PlanFields) (part : PartFields) (slot of_stream : ℕ) (turn : Option ℕ) (serving : Serving) (table : IntPackets) (old new : List ℕ) (size : ℕ) → WritesRecord plan part slot of_stream turn serving table old new size → size ≤ length old
     → length new ≡ length old
-record_kept plan services slot serving old new size wrote room =
-    omega (arith, ap length wrote.bytes_are, length-append (record_of_slot plan services slot) (drop size old), length-drop size old, wrote.size_is, room)
+record_kept plan part slot of_stream turn serving table old new size wrote room =
+    omega (arith, ap length wrote.bytes_are, length-append (record_of_slot part slot) (drop size old), length-drop size old, wrote.size_is, room)

@@ -1,25 +1,28 @@
 -- From slot to slot: how far the services are, and what each slot carries.
 use Rattle.std.proofs.Common.{◌≡◌, ℕ, zero, suc, ◌+◌, ◌-◌, ◌/◌, ◌%◌, ◌<◌, ◌≤◌, Bool, true, false, cond, ltb, List, [], ◌∷◌, length, drop, set, refl, sym, ap, ap₂, ◌∙◌, arith, add-one, length-drop, subst, Option, Some, None}
-use Rattle.std.specs.Prelude.{find, slice_index, slice_index_or}
+use Rattle.std.specs.Prelude.{find, slice_index, slice_index_or, is_some, not, ◌&&◌, if◌then◌else◌}
 use Rattle.std.specs.Option.{unwrap_or}
 use Rattle.std.proofs.lemmas.List.{length-map}
-use Rattle.ts_spec.specs.Packet.{PacketFields}
+use Rattle.ts_spec.specs.Packet.{PacketFields, null_packet}
 use Rattle.ts_spec.specs.Packetized.{packet_at}
 use Rattle.plan_spec.specs.Plan.{PlanFields}
 use Rattle.plan_spec.specs.Signalling.{table_packets}
-use Rattle.stream_spec.specs.Slots.{Slot, of_table, of_service, is_of_service, asked, Turns, has_left, next_service, served, slot_of_service, kept_for_table}
-use Rattle.stream_spec.specs.Stream.{written, packet_in, packet_counts, slot_in}
+use Rattle.plan_spec.specs.Wholes.{is_whole_plan}
+use Rattle.stream_spec.specs.Slots.{Slot, of_table, of_service, empty, is_of_service, asked, Turns, has_left, next_service, served, slot_of_service, kept_for_table}
+use Rattle.stream_spec.specs.Parts.{PartFields, service_packets, written, packet_in, packet_counts, slot_in}
 use Rattle.stream_spec.proofs.Over.{turns_kept, turns_served}
 use Rattle.stream_law.proofs.Turns.{IsWithin, within_at}
 use Rattle.stream_law.proofs.Next.{has_turn, true_ltb, false_ltb}
 use Rattle.stream_law.proofs.OnPid.{count_of}
 use Rattle.mux_core.specs.Services.{Serving, has_packets, turn_of, TakesTurn, left_of, AreAt}
-use Rattle.mux_core.specs.IntPackets.{packet_of_table}
-use Rattle.mux_core.specs.Slots.{turns_in, is_early, TakesSlot}
+use Rattle.mux_core.specs.IntPackets.{IsTableAt, packet_of_table}
+use Rattle.mux_core.specs.declared.int_packets.IntPackets.{IntPackets}
+use Rattle.mux_core.proofs.Signalled.{part_accepted, early_is, signalling_passes}
+use Rattle.mux_core.specs.Slots.{turns_in, is_early, StandBefore, TakesSlot}
 
 -- What is left of services.
 
-length-left_of : (services : List (List PacketFields)) (sent : List ℕ) → length (left_of services sent) ≡ length services
+pub length-left_of : (services : List (List PacketFields)) (sent : List ℕ) → length (left_of services sent) ≡ length services
 length-left_of [] sent = refl
 length-left_of (packets ∷ services) [] = refl
 length-left_of (packets ∷ services) (n ∷ sent) = ap suc (length-left_of services sent)
@@ -110,39 +113,52 @@ module _ (services : List (List PacketFields)) (turns : Turns) (within : IsWithi
 
 -- The slots.
 
-module _ (plan : PlanFields) (services : List (List PacketFields)) (slot : ℕ) where
+module _ (part : PartFields) (slot : ℕ) where
+  abbrev services : List (List PacketFields)
+  services = service_packets part
+
+  abbrev early_here : Bool
+  early_here = is_early part.plan.cycle (table_packets part.plan) slot
+
+  -- a slot carries these bytes, and the services stand before the next
+  pub record Steps (turn : Option ℕ) (serving : Serving) (bytes : List ℕ) : Type 0 where
+    pub bytes_are : bytes ≡ packet_in part (slot / part.plan.cycle) (slot_in part slot)
+    pub after : AreAt services (turns_in part (slot + 1)) serving
+    pub of_service : early_here ≡ false → is_of_service (slot_in part slot) ≡ is_some turn
+
   abbrev kept : ℕ → Option Slot
-  kept s = kept_for_table plan.cycle (table_packets plan) s
+  kept s = kept_for_table part.plan.cycle (table_packets part.plan) s
 
   abbrev turns : Turns
-  turns = turns_in plan services slot
+  turns = turns_in part slot
 
-  kept_early : is_early plan slot ≡ true → kept slot ≡ Some (of_table (slot % plan.cycle))
-  kept_early e = ap (λ (b : Bool). cond b (Some (of_table (slot % plan.cycle))) None) e
+  kept_early : early_here ≡ true → kept slot ≡ Some (of_table (slot % part.plan.cycle))
+  kept_early e = ap (λ (b : Bool). cond b (Some (of_table (slot % part.plan.cycle))) None) e
 
-  kept_late : is_early plan slot ≡ false → kept slot ≡ None
-  kept_late e = ap (λ (b : Bool). cond b (Some (of_table (slot % plan.cycle))) None) e
+  kept_late : early_here ≡ false → kept slot ≡ None
+  kept_late e = ap (λ (b : Bool). cond b (Some (of_table (slot % part.plan.cycle))) None) e
 
   -- a slot of the INT
-  pub early_taken : (serving : Serving) (bytes : List ℕ) → is_early plan slot ≡ true → AreAt services turns serving → bytes ≡ packet_of_table plan slot → TakesSlot plan services slot serving bytes
-  early_taken serving bytes early at bytes_are = record {
-    bytes_are = bytes_are ∙ sym (ap (λ (it : Slot). packet_in plan services (slot / plan.cycle) it) carried);
-    after = subst (λ (t : Turns). AreAt services t serving) (sym (ap (turns_in plan services) (add-one slot) ∙ turns_kept kept (packet_counts services) slot (of_table (slot % plan.cycle)) (kept_early early))) at;
-    of_service = λ late. absurd (differ (is_early plan slot) early late);
+  pub early_taken : (turn : Option ℕ) (serving : Serving) (bytes : List ℕ) → early_here ≡ true → AreAt services turns serving → bytes ≡ packet_of_table part slot → Steps turn serving bytes
+  early_taken turn serving bytes early at bytes_are = record {
+    bytes_are = bytes_are ∙ sym (ap (λ (it : Slot). packet_in part (slot / part.plan.cycle) it) carried);
+    after = subst (λ (t : Turns). AreAt services t serving)
+        (sym (ap (turns_in part) (add-one slot) ∙ turns_kept kept (packet_counts services) slot (of_table (slot % part.plan.cycle)) (kept_early early))) at;
+    of_service = λ late. absurd (differ early_here early late);
   }
     where
       differ : (b : Bool) → b ≡ true → b ≡ false → ⊥
       differ b e1 e2 = cc
 
-      carried : slot_in plan services slot ≡ of_table (slot % plan.cycle)
+      carried : slot_in part slot ≡ of_table (slot % part.plan.cycle)
       carried = ap (λ (o : Option Slot). unwrap_or o (slot_of_service turns (next_service (packet_counts services) turns))) (kept_early early)
 
   -- a slot of the service whose turn it is
-  pub late_taken : (old new : Serving) (bytes : List ℕ) → is_early plan slot ≡ false → AreAt services turns old → TakesTurn old new bytes → TakesSlot plan services slot new bytes
-  late_taken old new bytes late at took = record {
-    bytes_are = it.2 ∙ sym (ap (λ (s : Slot). packet_in plan services (slot / plan.cycle) s) carried);
+  pub late_taken : (k : ℕ) (old new : Serving) (bytes : List ℕ) → early_here ≡ false → AreAt services turns old → TakesTurn old new bytes → Steps (Some k) new bytes
+  late_taken k old new bytes late at took = record {
+    bytes_are = it.2 ∙ sym (ap (λ (s : Slot). packet_in part (slot / part.plan.cycle) s) carried);
     after = subst (λ (t : Turns). AreAt services t new)
-        (sym (ap (turns_in plan services) (add-one slot) ∙ turns_served kept (packet_counts services) slot (kept_late late) ∙ ap (λ (o : Option ℕ). served turns o) it.0)) it.1;
+        (sym (ap (turns_in part) (add-one slot) ∙ turns_served kept (packet_counts services) slot (kept_late late) ∙ ap (λ (o : Option ℕ). served turns o) it.0)) it.1;
     of_service = λ e. ap is_of_service carried;
   }
     where
@@ -150,5 +166,56 @@ module _ (plan : PlanFields) (services : List (List PacketFields)) (slot : ℕ) 
           × (bytes ≡ written (packet_at (slice_index_or services took.service []) (slice_index turns.sent took.service)))
       it = turn_served services turns (within_at kept (packet_counts services) slot) old at new bytes took
 
-      carried : slot_in plan services slot ≡ of_service took.service (slice_index turns.sent took.service)
+      carried : slot_in part slot ≡ of_service took.service (slice_index turns.sent took.service)
       carried = ap (λ (o : Option Slot). unwrap_or o (slot_of_service turns (next_service (packet_counts services) turns))) (kept_late late) ∙ ap (λ (o : Option ℕ). slot_of_service turns o) it.0
+
+  -- a slot that is none's
+  pub idle_taken : (serving : Serving) (bytes : List ℕ) → early_here ≡ false → AreAt services turns serving → turn_of serving ≡ None → bytes ≡ null_packet → Steps None serving bytes
+  idle_taken serving bytes late at none bytes_are = record {
+    bytes_are = bytes_are ∙ sym (ap (λ (s : Slot). packet_in part (slot / part.plan.cycle) s) carried);
+    after = subst (λ (t : Turns). AreAt services t serving)
+        (sym (ap (turns_in part) (add-one slot) ∙ turns_served kept (packet_counts services) slot (kept_late late) ∙ ap (λ (o : Option ℕ). served turns o) no_next)) at;
+    of_service = λ e. ap is_of_service carried;
+  }
+    where
+      no_next : next_service (packet_counts services) turns ≡ None
+      no_next = sym (same_turn services turns (within_at kept (packet_counts services) slot) serving at) ∙ none
+
+      carried : slot_in part slot ≡ empty
+      carried = ap (λ (o : Option Slot). unwrap_or o (slot_of_service turns (next_service (packet_counts services) turns))) (kept_late late) ∙ ap (λ (o : Option ℕ). slot_of_service turns o) no_next
+
+-- the services and the INT stand before the next slot
+pub slot_taken : (plan : PlanFields) (part : PartFields) (slot of_stream : ℕ) (turn : Option ℕ) (old new : Serving) (table after : IntPackets) (bytes : List ℕ)
+    → StandBefore plan part slot of_stream old table → IsTableAt part (slot + 1) after → Steps part slot turn new bytes → TakesSlot plan part slot of_stream turn new after bytes
+slot_taken plan part slot of_stream turn old new table after bytes stand at steps = record {
+  bytes_are = steps.bytes_are;
+  after = record { of_plan = stand.of_plan; place = omega (arith, stand.place); table = at; services = steps.after };
+  of_service = steps.of_service;
+}
+
+-- how many packets are left
+pub left_early : (n : ℕ) (early some : Bool) → early ≡ true → n ≡ n + (if not early && some then 1 else 0)
+left_early n true some e = omega arith
+left_early n false some e = absurd (cc)
+
+pub left_late : (old new : ℕ) (early : Bool) (turn : Option ℕ) (k : ℕ) → early ≡ false → turn ≡ Some k → old ≡ new + 1 → old ≡ new + (if not early && is_some turn then 1 else 0)
+left_late old new true turn k e is left = absurd (cc)
+left_late old new false None k e is left = absurd (cc)
+left_late old new false (Some j) k e is left = left
+
+pub left_idle : (n : ℕ) (early : Bool) (turn : Option ℕ) → turn ≡ None → n ≡ n + (if not early && is_some turn then 1 else 0)
+left_idle n early (Some k) e = absurd (cc)
+left_idle n true None e = omega arith
+left_idle n false None e = omega arith
+
+-- a slot of the stream that is none of the INT's is none in its part, and leaves the INT as it is
+module _ (plan : PlanFields) (whole : is_whole_plan plan ≡ true) (part : PartFields) (slot of_stream : ℕ) (serving : Serving) (table : IntPackets)
+    (stand : StandBefore plan part slot of_stream serving table) where
+  pub early_so : (early : Bool) → is_early plan.cycle table.count of_stream ≡ early → is_early part.plan.cycle (table_packets part.plan) slot ≡ early
+  early_so early e = sym (early_is plan whole part stand.of_plan slot of_stream table.count stand.place stand.table.count) ∙ e
+
+  pub table_passes : is_early plan.cycle table.count of_stream ≡ false → IsTableAt part (slot + 1) table
+  table_passes late = record {
+    count = stand.table.count;
+    packets = signalling_passes part (part_accepted plan whole part stand.of_plan) slot table.packets stand.table.packets (early_so false late);
+  }

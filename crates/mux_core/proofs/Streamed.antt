@@ -1,103 +1,196 @@
--- What was offered under a plan, as lists of its services, and the stream of it.
-use Rattle.std.proofs.Common.{◌≡◌, ℕ, zero, suc, ◌+◌, ◌<◌, ◌≤◌, true, ◌&&◌, List, [], ◌∷◌, length, get_or, refl, sym, ap, ap₂, ◌∙◌, arith, subst, Some}
-use Rattle.std.specs.Prelude.{All, slice_get, slice_index_or}
-use Rattle.std.specs.List.{range_with_len}
+-- What was offered under a plan, as lists by version and service.
+use Rattle.std.proofs.Common.{◌≡◌, ℕ, zero, suc, ◌+◌, ◌%◌, ◌^◌, ◌<◌, ◌≤◌, true, false, ltb, List, [], ◌∷◌, length, drop, get_or, refl, sym, ap, ◌∙◌, arith, subst, Option, Some, None}
+use Rattle.std.specs.Prelude.{All, slice_get, slice_index_or, sum_by}
 use Rattle.std.proofs.lemmas.List.{length-map}
+use Rattle.std.proofs.lemmas.List.FromFn.{length-map-range_with_len, get_or-map-range_with_len}
+use Rattle.std.proofs.lemmas.List.Sums.{sum_by-cons}
 use Rattle.std.proofs.lemmas.Option.{get_or_from_slice_get, slice_get_within}
 use Rattle.wire_spec.specs.Datagram.{IsDatagram}
-use Rattle.ts_spec.specs.Packet.{PacketFields}
+use Rattle.int_table.proofs.Parts.{drop_from}
 use Rattle.plan_spec.specs.Plan.{KindFields, ule, mpe, fec, gse, ServiceFields, PlanFields, kinds}
-use Rattle.plan_spec.specs.Checks.{is_between, is_row_count}
+use Rattle.plan_spec.specs.Changes.{with_pid, plan_in, pid_in}
 use Rattle.plan_spec.specs.Route.{longest_of}
-use Rattle.plan_spec.specs.Offered.{Records, offered}
-use Rattle.plan_spec.specs.Valid.{is_valid_window, is_valid_kind, is_valid_service, is_plan}
-use Rattle.stream_spec.specs.Units.{packets_of}
-use Rattle.stream_spec.specs.Stream.{packets_from, service_packets, slot_in, record_of_slot, records_of_slots, IsStream}
-use Rattle.stream_spec.specs.Slots.{IsSlotCount}
+use Rattle.plan_spec.specs.Offered.{Records, offered_in}
 use Rattle.plan_spec.specs.Built.{is_sent, are_sent}
-use Rattle.stream_law.proofs.Plans.{both, at_most, ranges, has_ranges, few_services}
-use Rattle.datagram_routing.specs.Offering.{IsOffered}
+use Rattle.plan.specs.Parts.{service_seen}
+use Rattle.plan.specs.PlanView.{plan_fields}
+use Rattle.plan.specs.declared.plan.Plan.{Plan}
+use Rattle.stream_spec.specs.Services.{kind_at}
+use Rattle.stream_spec.specs.Stream.{part_of}
+use Rattle.stream_law.proofs.Kept.{part_kept}
+use Rattle.datagram_routing.specs.Offering.{lists_in, IsOffered}
 use Rattle.datagram_routing.specs.declared.offered.Offered.{Offered}
-use Rattle.mux_core.specs.Sending.{IsUnderPlan}
-use Rattle.mux_core.specs.Units.{AreFor, HasPid}
-use Rattle.mux_core.specs.Services.{packets_from_lists, IsList, AreLists}
+use Rattle.mux_core.specs.Sending.{AreDatagrams, AreUnits, datagram_count}
+use Rattle.mux_core.specs.PartUnits.{MadeUnits, AreUnitsOf}
+use Rattle.mux_core.specs.Units.{AreFor}
+use Rattle.mux_core.specs.Services.{Takes, AreTaken, HasLists}
 use Rattle.mux_core.proofs.Items.{list_all_at, map_at}
+use Rattle.mux_core.proofs.Moved.{has_pid_in, some_item, there_is}
+use Rattle.mux_core.proofs.Parted.{IsLastOf, none_there, any_there}
 
--- the PID of a service
-pid_fits : (least : ℕ) (kind : KindFields) → is_valid_kind least kind ≡ true → HasPid kind
-pid_fits least (ule pid address packing) e = omega (arith, at_most least 8190 pid e)
-pid_fits least (mpe pid) e = omega (arith, at_most least 8190 pid e)
-pid_fits least (fec pid rows parity window) e =
-    omega (arith, at_most least 8190 pid (both (is_between least 8190 pid) (is_row_count rows && (is_between 1 64 parity && is_valid_window window)) e).0)
-pid_fits least (gse isi address) e = tt
+some_eq : {X : Type 0} (a b : X) → Some a ≡ Some b → a ≡ b
+some_eq a b e = cc
 
--- what was offered, as it is asked of lists
-module _ (plan : PlanFields) (accepted : is_plan plan ≡ true) (built : are_sent plan ≡ true) (offer : Offered) (under : IsUnderPlan plan offer)
-    (are : (k : ℕ) → All IsDatagram (offered plan under.records k))
-    (short : (k : ℕ) → All (λ (datagram : List ℕ). length datagram ≤ longest_of (slice_index_or (kinds plan) k (mpe 0))) (offered plan under.records k))
-    (few : (k : ℕ) → length (offered plan under.records k) ≤ length under.records) where
-  pub are_lists : AreLists plan offer.lists
-  are_lists = record {
-    size = under.stands.count;
-    most = few_services plan accepted;
-    each = λ k service datagrams found listed. of_place k service datagrams found listed;
+-- Numbers of datagrams.
+
+abbrev count_of : List (List (List ℕ)) → ℕ
+count_of lists = sum_by (λ (list : List (List ℕ)). length list) lists
+
+-- the lists of versions from one on and from the next
+pub versions_next : (lists : List (List (List (List ℕ)))) (i : ℕ) → i < length lists
+    → sum_by (λ (services : List (List (List ℕ))). sum_by (λ (list : List (List ℕ)). length list) services) (drop i lists)
+    ≡ sum_by (λ (list : List (List ℕ)). length list) (get_or lists i []) + sum_by (λ (services : List (List (List ℕ))). sum_by (λ (list : List (List ℕ)). length list) services) (drop (i + 1) lists)
+versions_next lists i less =
+    ap (sum_by (λ (services : List (List (List ℕ))). count_of services)) (drop_from lists i (get_or lists i []) (there_is lists i [] less))
+    ∙ sum_by-cons (λ (services : List (List (List ℕ))). count_of services) (get_or lists i []) (drop (i + 1) lists)
+
+-- one version has no more than all
+pub version_most : (lists : List (List (List (List ℕ)))) (i : ℕ) → sum_by (λ (list : List (List ℕ)). length list) (get_or lists i []) ≤ datagram_count lists
+version_most [] i = omega arith
+version_most (services ∷ lists) zero = omega (arith, sum_by-cons (λ (ss : List (List (List ℕ))). count_of ss) services lists)
+version_most (services ∷ lists) (suc i) = omega (arith, sum_by-cons (λ (ss : List (List (List ℕ))). count_of ss) services lists, version_most lists i)
+
+-- one list has no more than all of a version
+list_most : (lists : List (List (List ℕ))) (k : ℕ) (list : List (List ℕ)) → slice_get lists k ≡ Some list → length list ≤ count_of lists
+list_most [] k list found = absurd (cc)
+list_most (first ∷ lists) zero list found =
+    let same : first ≡ list = cc in omega (arith, sum_by-cons (λ (l : List (List ℕ)). length l) first lists, ap (λ (l : List (List ℕ)). length l) same)
+list_most (first ∷ lists) (suc k) list found = omega (arith, sum_by-cons (λ (l : List (List ℕ)). length l) first lists, list_most lists k list found)
+
+-- where there are some, one list has some
+one_some : (lists : List (List (List ℕ))) → 0 < count_of lists → (k : ℕ) × (list : List (List ℕ)) × (slice_get lists k ≡ Some list) × (0 < length list)
+one_some [] some = absurd (omega (arith, some))
+one_some (first ∷ lists) some = by_first (length first) refl (λ behind. one_some lists behind)
+  where
+    by_first : (n : ℕ) → length first ≡ n → (0 < count_of lists → (k : ℕ) × (list : List (List ℕ)) × (slice_get lists k ≡ Some list) × (0 < length list))
+        → (k : ℕ) × (list : List (List ℕ)) × (slice_get (first ∷ lists) k ≡ Some list) × (0 < length list)
+    by_first zero e later =
+        let there = later (omega (arith, some, e, sum_by-cons (λ (l : List (List ℕ)). length l) first lists)) in
+        (suc there.0, there.1, there.2, there.3)
+    by_first (suc n) e later = (0, first, refl, omega (arith, e))
+
+-- Datagrams by version and service.
+
+abbrev pub listed : List (List (List (List ℕ))) → ℕ → ℕ → List (List ℕ)
+listed lists version k = get_or (get_or lists version []) k []
+
+module _ (plan : PlanFields) (lists : List (List (List (List ℕ)))) (units : List MadeUnits) (are : AreUnits plan lists units) where
+  pub units_at : (version : ℕ) → version ≤ length plan.changes → (made : MadeUnits) × (slice_get units version ≡ Some made) × AreUnitsOf plan version (get_or lists version []) made
+  units_at version within =
+      let found = some_item units version (omega (arith, within, are.versions, are.size)) in
+      (found.0, found.1, are.each version found.0 found.1)
+
+  pub services_size : (version : ℕ) → version ≤ length plan.changes → length (get_or lists version []) ≡ length plan.services
+  services_size version within = (units_at version within).2.lists_are.taken.size
+
+  pub are_listed : AreDatagrams plan (listed lists) lists
+  are_listed = record {
+    versions = are.versions;
+    each = λ version k within known. there_is (get_or lists version []) k [] (omega (arith, known, services_size version within));
+  }
+
+module _ (plan : PlanFields) (datagrams : ℕ → ℕ → List (List ℕ)) (lists : List (List (List (List ℕ)))) (are : AreDatagrams plan datagrams lists) where
+  pub has_lists : (slots : ℕ → ℕ) (version : ℕ) (counters : ℕ → ℕ) → version ≤ length plan.changes
+      → ((k : ℕ) → k < length plan.services → counters k ≡ (part_of plan datagrams slots version).packets_before k % 16)
+      → HasLists plan version (get_or lists version []) counters (part_of plan datagrams slots version)
+  has_lists slots version counters within counted = record { plan_is = refl; datagrams = λ k known. are.each version k within known; counters_are = counted }
+
+  pub is_last_of : (last : ℕ) → last < length lists → ((version : ℕ) → last < version → version < length lists → sum_by (λ (list : List (List ℕ)). length list) (get_or lists version []) ≡ 0)
+      → (0 < last → 0 < sum_by (λ (list : List (List ℕ)). length list) (get_or lists last [])) → length (get_or lists last []) ≡ length plan.services → IsLastOf plan datagrams last
+  is_last_of last within none some size = record {
+    within = omega (arith, within, are.versions);
+    later = λ version more le.
+        none_there (λ k. ltb 0 (length (datagrams version k))) 0 (length plan.services)
+        (λ k from less. not_some (length (datagrams version k))
+        (omega (arith, list_most (get_or lists version []) k (datagrams version k) (are.each version k le (omega (arith, less))), none version more (omega (arith, le, are.versions)))));
+    some = λ above.
+        let one = one_some (get_or lists last []) (some above) in
+        let known : one.0 < length plan.services = omega (arith, slice_get_within (get_or lists last []) one.0 one.1 one.2, size) in
+        let same : one.1 ≡ datagrams last one.0 = some_eq one.1 (datagrams last one.0) (sym one.2 ∙ are.each last one.0 (omega (arith, within, are.versions)) known) in
+        any_there (λ k. ltb 0 (length (datagrams last k))) 0 (length plan.services) one.0 one.0 (omega arith) known
+        (is_some (length (datagrams last one.0)) (omega (arith, one.3, ap (λ (l : List (List ℕ)). length l) same)));
   }
     where
-      some_eq : {X : Type 0} (a b : X) → Some a ≡ Some b → a ≡ b
-      some_eq a b e = cc
+      not_some : (n : ℕ) → n ≤ 0 → ltb 0 n ≡ false
+      not_some n le = grind (arith, le)
 
-      of_place : (k : ℕ) (service : ServiceFields) (datagrams : List (List ℕ)) → slice_get plan.services k ≡ Some service → slice_get offer.lists k ≡ Some datagrams → IsList service datagrams
-      of_place k service datagrams found listed =
-          let kind : slice_get (kinds plan) k ≡ Some service.kind = map_at (λ (s : ServiceFields). s.kind) plan.services k service found in
-          let kind_is : slice_index_or (kinds plan) k (mpe 0) ≡ service.kind = get_or_from_slice_get (kinds plan) k service.kind (mpe 0) kind in
-          let list_is : datagrams ≡ offered plan under.records k
-          = some_eq datagrams (offered plan under.records k) (sym listed ∙ under.stands.each k (slice_get_within plan.services k service found)) in
-          record {
-            built = list_all_at is_sent (kinds plan) k service.kind kind built;
-            pid = pid_fits (ranges plan accepted).least service.kind
-                (has_ranges (ranges plan accepted).least service (list_all_at (is_valid_service (ranges plan accepted).least) plan.services k service found (ranges plan accepted).services)).kind;
-            datagrams_are = subst (λ (ds : List (List ℕ)). AreFor service.kind ds) (sym list_is)
-                (λ n d less. record {
-                  is = are k n d less;
-                  short = subst (λ (it : KindFields). length (get_or (offered plan under.records k) n d) ≤ longest_of it) kind_is (short k n d less);
-                });
-            few = omega (arith, ap (λ (ds : List (List ℕ)). length ds) list_is, few k, under.few);
-          }
+      is_some : (n : ℕ) → 0 < n → ltb 0 n ≡ true
+      is_some n less = grind (arith, less)
 
--- the packets of the lists are those of what is offered
-same_packets : (services : List ServiceFields) (lists : List (List (List ℕ))) (datagrams : ℕ → List (List ℕ)) (i : ℕ) → length lists ≡ length services
-    → ((k : ℕ) → k < length services → slice_get lists k ≡ Some (datagrams (i + k))) → packets_from_lists services lists ≡ packets_from i services datagrams
-same_packets [] [] datagrams i size each = refl
-same_packets [] (list ∷ lists) datagrams i size each = absurd (omega (arith, size))
-same_packets (service ∷ services) [] datagrams i size each = absurd (omega (arith, size))
-same_packets (service ∷ services) (list ∷ lists) datagrams i size each =
-    let here : i + 0 ≡ i = omega arith in
-    let first : Some list ≡ Some (datagrams i) = each 0 (omega arith) ∙ ap (λ (n : ℕ). Some (datagrams n)) here in
-    let list_is : list ≡ datagrams i = cc in
-    ap₂ (λ (ds : List (List ℕ)) (ps : List (List PacketFields)). packets_of service ds ∷ ps) list_is
-    (same_packets services lists datagrams (i + 1) (omega (arith, size)) (λ k less. each (suc k) (omega (arith, less)) ∙ next k))
+-- each service that is sent has a PID in each version
+pub has_pids : (plan : Plan) → are_sent (plan_fields plan) ≡ true → (k : ℕ) → k < length (plan_fields plan).services → (version : ℕ) → (pid : ℕ) × (pid_in (plan_fields plan) version k ≡ Some pid)
+has_pids plan built k known version = by_pid (pid_in (plan_fields plan) version k) refl
   where
-    next : (k : ℕ) → Some (datagrams (i + suc k)) ≡ Some (datagrams (i + 1 + k))
-    next k = let same : i + suc k ≡ i + 1 + k = omega arith in ap (λ (n : ℕ). Some (datagrams n)) same
+    by_pid : (o : Option ℕ) → pid_in (plan_fields plan) version k ≡ o → (pid : ℕ) × (pid_in (plan_fields plan) version k ≡ Some pid)
+    by_pid (Some pid) e = (pid, e)
+    by_pid None e =
+        let service = some_item plan.services k (omega (arith, known, length-map plan.services service_seen)) in
+        absurd (has_pid_in plan version k service.0 service.1
+        (list_all_at is_sent (kinds (plan_fields plan)) k (service_seen service.0).kind
+        (map_at (λ (s : ServiceFields). s.kind) (plan_fields plan).services k (service_seen service.0) (map_at service_seen plan.services k service.0 service.1)) built) e)
 
-pub packets_offered : (plan : PlanFields) (offer : Offered) (gives : Records) → IsOffered plan gives offer → packets_from_lists plan.services offer.lists ≡ service_packets plan (offered plan gives)
-packets_offered plan offer gives stands = same_packets plan.services offer.lists (offered plan gives) 0 stands.count (λ k less. stands.each k less ∙ ap (λ (n : ℕ). Some (offered plan gives n)) (zero_more k))
+-- What was offered.
+
+longest_kept : (plan : PlanFields) (version k : ℕ) → longest_of (kind_at (plan_in plan version) k) ≡ longest_of (kind_at plan k)
+longest_kept plan version k = part_kept longest_of stays plan version k
   where
-    zero_more : (k : ℕ) → k ≡ 0 + k
-    zero_more k = omega arith
+    stays : (kind : KindFields) (pid : ℕ) → longest_of (with_pid kind pid) ≡ longest_of kind
+    stays (ule old address packing) pid = refl
+    stays (mpe old) pid = refl
+    stays (fec old rows parity window) pid = refl
+    stays (gse isi address) pid = refl
 
--- the stream of these packets
-pub stream_of : (plan : PlanFields) (services : List (List PacketFields)) (datagrams : ℕ → List (List ℕ)) (slots : ℕ) → services ≡ service_packets plan datagrams
-    → IsSlotCount (slot_in plan services) slots → IsStream plan datagrams (records_of_slots plan services slots)
-stream_of plan services datagrams slots same count = record {
-  slots = slots;
-  count = subst (λ (ps : List (List PacketFields)). IsSlotCount (slot_in plan ps) slots) same count;
-  records_are = ap (λ (ps : List (List PacketFields)). records_of_slots plan ps slots) same;
-}
+module _ (plan : PlanFields) (records : Records) (offer : Offered) (stands : IsOffered plan records offer) where
+  pub length-offered : length offer.lists ≡ length plan.changes + 1
+  length-offered = ap (λ (l : List (List (List (List ℕ)))). length l) stands.lists ∙ length-map-range_with_len (lists_in plan records) 0 (length plan.changes + 1)
 
-pub length-records : (plan : PlanFields) (services : List (List PacketFields)) (slots : ℕ) → length (records_of_slots plan services slots) ≡ slots
-length-records plan services slots = length-map (range_with_len 0 slots) (record_of_slot plan services) ∙ length-range 0 slots
-  where
-    length-range : (a n : ℕ) → length (range_with_len a n) ≡ n
-    length-range a zero = refl
-    length-range a (suc n) = ap suc (length-range (a + 1) n)
+  pub lists_at : (version : ℕ) (d : List (List (List ℕ))) → version ≤ length plan.changes → get_or offer.lists version d ≡ lists_in plan records version
+  lists_at version d within =
+      ap (λ (l : List (List (List (List ℕ)))). get_or l version d) stands.lists
+      ∙ get_or-map-range_with_len (lists_in plan records) 0 (length plan.changes + 1) version version d (omega (arith, within)) (omega arith)
+
+  list_at : (version k : ℕ) → k < length plan.services → slice_get (lists_in plan records version) k ≡ Some (offered_in plan records version k)
+  list_at version k known =
+      there_is (lists_in plan records version) k [] (omega (arith, known, length-map-range_with_len (offered_in plan records version) 0 (length plan.services)))
+      ∙ ap (λ (l : List (List ℕ)). Some l) (get_or-map-range_with_len (offered_in plan records version) 0 (length plan.services) k k [] known (omega arith))
+
+  pub are_offered : AreDatagrams plan (offered_in plan records) offer.lists
+  are_offered = record {
+    versions = length-offered;
+    each = λ version k within known. ap (λ (l : List (List (List ℕ))). slice_get l k) (lists_at version [] within) ∙ list_at version k known;
+  }
+
+  pub few_lists : length plan.services ≤ 64 → All (λ (services : List (List (List ℕ))). length services ≤ 64) offer.lists
+  few_lists few version d less =
+      omega (
+        arith,
+        ap (λ (l : List (List (List ℕ))). length l) (lists_at version d (omega (arith, less, length-offered))),
+        length-map-range_with_len (offered_in plan records version) 0 (length plan.services),
+        few,
+      )
+
+  module _ (built : are_sent plan ≡ true) (are : (version k : ℕ) → All IsDatagram (offered_in plan records version k))
+      (short : (version k : ℕ) → All (λ (datagram : List ℕ). length datagram ≤ longest_of (slice_index_or (kinds (plan_in plan version)) k (mpe 0))) (offered_in plan records version k))
+      (few : (version k : ℕ) → length (offered_in plan records version k) ≤ length records) (below : length records < 2 ^ 32) where
+    taken_of : (version : ℕ) → AreTaken plan (lists_in plan records version)
+    taken_of version = record {
+      size = length-map-range_with_len (offered_in plan records version) 0 (length plan.services);
+      each = λ k service datagrams found listed. takes_of k service datagrams found listed;
+    }
+      where
+        takes_of : (k : ℕ) (service : ServiceFields) (datagrams : List (List ℕ)) → slice_get plan.services k ≡ Some service → slice_get (lists_in plan records version) k ≡ Some datagrams → Takes service datagrams
+        takes_of k service datagrams found there =
+            let kind : slice_get (kinds plan) k ≡ Some service.kind = map_at (λ (s : ServiceFields). s.kind) plan.services k service found in
+            let kind_is : longest_of (slice_index_or (kinds (plan_in plan version)) k (mpe 0)) ≡ longest_of service.kind
+            = longest_kept plan version k ∙ ap longest_of (get_or_from_slice_get (kinds plan) k service.kind (mpe 0) kind) in
+            let list_is : datagrams ≡ offered_in plan records version k
+            = some_eq datagrams (offered_in plan records version k) (sym there ∙ list_at version k (slice_get_within plan.services k service found)) in
+            record {
+              built = list_all_at is_sent (kinds plan) k service.kind kind built;
+              datagrams_are = subst (λ (ds : List (List ℕ)). AreFor service.kind ds) (sym list_is)
+                  (λ n d less. record { is = are version k n d less; short = omega (arith, short version k n d less, kind_is) });
+              few = omega (arith, ap (λ (ds : List (List ℕ)). length ds) list_is, few version k, below);
+            }
+
+    pub all_taken : All (AreTaken plan) offer.lists
+    all_taken version d less = subst (λ (l : List (List (List ℕ))). AreTaken plan l) (sym (lists_at version d (omega (arith, less, length-offered)))) (taken_of version)

@@ -7,10 +7,10 @@ use Rattle.std.proofs.lemmas.List.{length-map, map-set}
 use Rattle.std.proofs.lemmas.List.Folds.{find-append}
 use Rattle.ts_spec.specs.Packet.{PacketFields}
 use Rattle.stream_spec.specs.Slots.{asked, Turns}
-use Rattle.stream_spec.specs.Stream.{packet_counts, written}
+use Rattle.stream_spec.specs.Parts.{packet_counts, written}
 use Rattle.stream_law.proofs.Next.{has_turn, none_has_turn}
 use Rattle.stream_law.proofs.OnPid.{count_of}
-use Rattle.mux_core.specs.Services.{packets_in, packet_total, has_packets, Serving, turn_of, TakesTurn}
+use Rattle.mux_core.specs.Services.{packets_in, behind_in, packet_total, has_packets, Serving, turn_of, TakesTurn}
 use Rattle.mux_core.specs.declared.service_packets.ServicePackets.{ServicePackets}
 
 -- the first of some numbers is asked
@@ -79,7 +79,7 @@ module _ (services : List (List PacketFields)) (first : ℕ) (le : first ≤ len
 pub turn_two : (items seen : List ServicePackets) (first count : ℕ) (found rest : Option ℕ) → seen ≡ items → count ≡ length items → first ≤ length items
     → found ≡ find (has_packets (map packets_in seen)) (range_with_len first (count - first))
     → rest ≡ find (has_packets (map packets_in items)) (range_with_len 0 first)
-    → turn_of (record { packets = map packets_in items; first = first }) ≡ option_or found rest
+    → turn_of (record { packets = map packets_in items; behind = map behind_in items; first = first }) ≡ option_or found rest
 turn_two items seen first count found rest same size le found_is rest_is =
     asked_in_two (map packets_in items) first (omega (arith, le, length-map items packets_in))
     ∙ ap (λ (n : ℕ). option_or (find (has_packets (map packets_in items)) (range_with_len first (n - first))) (find (has_packets (map packets_in items)) (range_with_len 0 first)))
@@ -135,13 +135,20 @@ total_set [] k packet rest less is = absurd (omega (arith, less))
 total_set (packets ∷ services) zero packet rest less is = omega (arith, ap (λ (ps : List PacketFields). length ps) is)
 total_set (packets ∷ services) (suc k) packet rest less is = omega (arith, total_set services k packet rest (omega (arith, less)) is)
 
+-- the counters behind all packets stay
+behind_kept : (items : List ServicePackets) (k : ℕ) (old new : ServicePackets) → k < length items → old ≡ get_or items k old → behind_in new ≡ behind_in old
+    → map behind_in (set items k new) ≡ map behind_in items
+behind_kept [] k old new less is same = absurd (omega (arith, less))
+behind_kept (first ∷ items) zero old new less is same = ap (λ (n : ℕ). n ∷ map behind_in items) (same ∙ ap behind_in is)
+behind_kept (first ∷ items) (suc k) old new less is same = ap (λ (ns : List ℕ). behind_in first ∷ ns) (behind_kept items k old new (omega (arith, less)) is same)
+
 -- the service whose turn it is gave a packet
 pub turn_taken : (items : List ServicePackets) (first k : ℕ) (old new : ServicePackets) (now : Serving) (packet : PacketFields) (into : List ℕ)
-    → let serving : Serving = record { packets = map packets_in items; first = first } in serving ≡ now
-    → k < length items → turn_of now ≡ Some k → old ≡ get_or items k old → packets_in old ≡ packet ∷ packets_in new → into ≡ written packet
-    → let behind : Serving = record { packets = map packets_in (set items k new); first = k + 1 } in
+    → let serving : Serving = record { packets = map packets_in items; behind = map behind_in items; first = first } in serving ≡ now
+    → k < length items → turn_of now ≡ Some k → old ≡ get_or items k old → packets_in old ≡ packet ∷ packets_in new → into ≡ written packet → behind_in new ≡ behind_in old
+    → let behind : Serving = record { packets = map packets_in (set items k new); behind = map behind_in (set items k new); first = k + 1 } in
     TakesTurn now behind into × (packet_total now.packets ≡ packet_total (map packets_in (set items k new)) + 1)
-turn_taken items first k old new now packet into is less turn old_is took into_is = (
+turn_taken items first k old new now packet into is less turn old_is took into_is behind_is = (
   record {
     service = k;
     turn = turn;
@@ -149,6 +156,7 @@ turn_taken items first k old new now packet into is less turn old_is took into_i
     rest = packets_in new;
     next = there;
     packets = set_is;
+    behind = behind_kept items k old new less old_is behind_is ∙ ap (λ (s : Serving). s.behind) is;
     first = refl;
     bytes_are = into_is;
   },

@@ -1,7 +1,9 @@
 pub mod Sending
 pub mod Units
 pub mod Reading
+pub mod Coming
 pub mod Services
+pub mod PartUnits
 pub mod SectionPackets
 pub mod IntPackets
 pub mod Slots

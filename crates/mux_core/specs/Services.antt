@@ -1,23 +1,30 @@
 -- The services on their way, in rotation.
-use Rattle.std.specs.Prelude.{◌≡◌, ℕ, ◌+◌, ◌<◌, ◌≤◌, ◌^◌, Bool, true, List, [], ◌∷◌, length, drop, set, find, slice_get, slice_index, slice_index_or, nat_lt, Option, Some}
+use Rattle.std.specs.Prelude.{◌≡◌, ℕ, ◌+◌, ◌-◌, ◌%◌, ◌<◌, ◌^◌, Bool, true, List, [], ◌∷◌, length, drop, set, find, slice_get, slice_index, slice_index_or, nat_lt, if◌then◌else◌, Option, Some}
 use Rattle.ts_spec.specs.Packet.{PacketFields}
 use Rattle.stream_spec.specs.Slots.{Turns, asked}
 use Rattle.plan_spec.specs.Plan.{ServiceFields, PlanFields}
-use Rattle.stream_spec.specs.Units.{packets_of}
-use Rattle.stream_spec.specs.Stream.{written, packet_counts}
+use Rattle.plan_spec.specs.Changes.{plan_in, pid_in}
 use Rattle.plan_spec.specs.Built.{is_sent}
-use Rattle.mux_core.specs.Units.{HasPid, AreFor}
+use Rattle.stream_spec.specs.Parts.{PartFields, service_packets, written, packet_counts}
+use Rattle.stream_spec.specs.Stream.{shares_pid}
+use Rattle.mux_core.specs.Units.{AreFor, AreEndsOf}
 use Rattle.mux_core.specs.declared.service_packets.ServicePackets.{ServicePackets}
 use Rattle.mux_core.specs.declared.service_packets.ServicePackets.TheVariants.{Ule, Mpe}
 
 -- the packets of a service that are still to come
 abbrev pub packets_in : ServicePackets → List PacketFields
-packets_in (Ule packets) = packets
-packets_in (Mpe packets) = packets
+packets_in (Ule coming) = coming.packets
+packets_in (Mpe coming) = coming.packets
 
--- what each service has left, and which of them is asked first
+-- the counter of the packet that would follow them
+abbrev pub behind_in : ServicePackets → ℕ
+behind_in (Ule coming) = coming.behind
+behind_in (Mpe coming) = coming.behind
+
+-- what each service has left, the counters behind that, and which of them is asked first
 pub record Serving : Type 0 where
   pub packets : List (List PacketFields)
+  pub behind : List ℕ
   pub first : ℕ
 
 abbrev pub packet_total : List (List PacketFields) → ℕ
@@ -40,6 +47,7 @@ pub record TakesTurn (old new : Serving) (bytes : List ℕ) : Type 0 where
   pub rest : List PacketFields
   pub next : slice_index_or old.packets service [] ≡ packet ∷ rest
   pub packets : new.packets ≡ set old.packets service rest
+  pub behind : new.behind ≡ old.behind
   pub first : new.first ≡ service + 1
   pub bytes_are : bytes ≡ written packet
 
@@ -54,22 +62,38 @@ pub record AreAt (services : List (List PacketFields)) (turns : Turns) (serving 
   pub packets : serving.packets ≡ left_of services turns.sent
   pub first : serving.first ≡ turns.first
 
--- the packets of all services, of the datagrams that are listed for each
-abbrev pub packets_from_lists : List ServiceFields → List (List (List ℕ)) → List (List PacketFields)
-packets_from_lists [] lists = []
-packets_from_lists (service ∷ services) [] = []
-packets_from_lists (service ∷ services) (datagrams ∷ lists) = packets_of service datagrams ∷ packets_from_lists services lists
-
--- a service that is built, with the datagrams that it takes
-pub record IsList (service : ServiceFields) (datagrams : List (List ℕ)) : Type 0 where
+-- a service that is built, with datagrams that it takes
+pub record Takes (service : ServiceFields) (datagrams : List (List ℕ)) : Type 0 where
   pub built : is_sent service.kind ≡ true
-  pub pid : HasPid service.kind
   pub datagrams_are : AreFor service.kind datagrams
   pub few : length datagrams < 2 ^ 32
 
--- so many services, with a list for each
-pub record AreLists (plan : PlanFields) (lists : List (List (List ℕ))) : Type 0 where
+-- so many services of the plan, with a list for each
+pub record AreTaken (plan : PlanFields) (lists : List (List (List ℕ))) : Type 0 where
   pub size : length lists ≡ length plan.services
-  pub most : length plan.services ≤ 64
-  pub each : (k : ℕ) (service : ServiceFields) (datagrams : List (List ℕ)) → slice_get plan.services k ≡ Some service → slice_get lists k ≡ Some datagrams
-      → IsList service datagrams
+  pub each : (k : ℕ) (service : ServiceFields) (datagrams : List (List ℕ)) → slice_get plan.services k ≡ Some service
+      → slice_get lists k ≡ Some datagrams → Takes service datagrams
+
+-- and the places where the units of each end
+pub record AreLists (plan : PlanFields) (lists : List (List (List ℕ))) (ends : List (List ℕ)) : Type 0 where
+  pub taken : AreTaken plan lists
+  pub size : length ends ≡ length plan.services
+  pub each : (k : ℕ) (service : ServiceFields) (datagrams : List (List ℕ)) (places : List ℕ) → slice_get plan.services k ≡ Some service
+      → slice_get lists k ≡ Some datagrams → slice_get ends k ≡ Some places → AreEndsOf service.kind service.unicast datagrams places
+
+-- the counter with which service k begins the part of a version above 0: on the PID that it had it goes on, on another it is 0
+abbrev pub counter_at : PlanFields → ℕ → List ℕ → ℕ → ℕ
+counter_at plan version behind k = if shares_pid (pid_in plan version k) (pid_in plan (version - 1) k) then slice_index behind k else 0
+
+-- a part of the plan's version has these lists, and its services begin with these counters
+pub record HasLists (plan : PlanFields) (version : ℕ) (lists : List (List (List ℕ))) (counters : ℕ → ℕ) (part : PartFields) : Type 0 where
+  pub plan_is : part.plan ≡ plan_in plan version
+  pub datagrams : (k : ℕ) → k < length plan.services → slice_get lists k ≡ Some (part.datagrams k)
+  pub counters_are : (k : ℕ) → k < length plan.services → counters k ≡ part.packets_before k % 16
+
+-- before its first slot
+pub record Begins (part : PartFields) (serving : Serving) : Type 0 where
+  pub packets : serving.packets ≡ service_packets part
+  pub behind : (k : ℕ) → k < length part.plan.services
+      → slice_index serving.behind k ≡ (part.packets_before k + length (slice_index_or (service_packets part) k [])) % 16
+  pub first : serving.first ≡ 0

@@ -1,5 +1,5 @@
 -- The units of a service, one after another in a buffer.
-use Rattle.std.specs.Prelude.{ℕ, ◌+◌, ◌≤◌, List, [], ◌∷◌, ◌++◌, length, take, drop, map, All}
+use Rattle.std.specs.Prelude.{◌≡◌, ℕ, ◌+◌, ◌*◌, ◌≤◌, List, [], ◌∷◌, ◌++◌, length, take, drop, map, All}
 use Rattle.wire_spec.specs.Datagram.{IsDatagram}
 use Rattle.wire_spec.specs.Lists.{joined}
 use Rattle.plan_spec.specs.Plan.{KindFields, ule, mpe, fec, gse}
@@ -26,6 +26,11 @@ AreFor kind datagrams = All (IsFor kind) datagrams
 abbrev pub ends_from : ℕ → List (List ℕ) → List ℕ
 ends_from place [] = []
 ends_from place (unit ∷ units) = (place + length unit) ∷ ends_from (place + length unit) units
+
+-- the units of these datagrams end here, one after another, and have so many bytes at most
+pub record AreEndsOf (kind : KindFields) (unicast : List ℕ) (datagrams : List (List ℕ)) (ends : List ℕ) : Type 0 where
+  pub places : ends ≡ ends_from 0 (map (unit_of kind unicast) datagrams)
+  pub most : length (unit_bytes kind unicast datagrams) ≤ 32773 * length datagrams
 
 -- the PID of the kind is one
 abbrev pub HasPid : KindFields → Type 0

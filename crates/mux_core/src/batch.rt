@@ -31,14 +31,13 @@ impl Model for Batch {
 }
 
 impl Batch {
-    ghost use Rattle.std.specs.Prelude.{◌≡◌, ◌≤◌, ◌<◌, ◌+◌, ℕ, List, [], length, take, Some, IfOk, OnOk, if◌then◌else◌};
+    ghost use Rattle.std.specs.Prelude.{◌≡◌, ◌≤◌, ◌<◌, ◌+◌, ◌&&◌, not, is_some, ℕ, [], length, take, IfOk, OnOk, if◌then◌else◌};
     ghost use Rattle.wire_spec.specs.Causes.{HasCause};
     ghost use Rattle.wire_spec.specs.Content.{Puts, Stays};
-    ghost use Rattle.ts_spec.specs.Packet.{PacketFields};
     ghost use Rattle.plan.specs.PlanView.{plan_fields};
-    ghost use Rattle.mux_core.specs.Services.{packet_total, turn_of, AreAt};
-    ghost use Rattle.mux_core.specs.IntPackets.{IsTableAt};
-    ghost use Rattle.mux_core.specs.Slots.{turns_in, is_early, AddsRecord, Hands};
+    ghost use Rattle.stream_spec.specs.Parts.{PartFields};
+    ghost use Rattle.mux_core.specs.Services.{packet_total, turn_of};
+    ghost use Rattle.mux_core.specs.Slots.{is_early, StandBefore, StandInPart, AddsRecord, Hands};
 
     /// Takes memory for the records; there are none yet.
     pub(crate) fn new(alloc: Global) -> Result<Batch, OutOfMemory>
@@ -53,18 +52,18 @@ impl Batch {
         &mut self,
         plan: &Plan,
         services: &mut Services<'_>,
-        turn: usize,
-        table: &mut IntPackets,
+        turn: Option<usize>,
+        table: &mut IntPackets<'_>,
         slot: u64,
     )
         requires room { length self.old ≤ 192512 }
-        requires table { IsTableAt (plan_fields plan.now) slot table.old }
-        requires turn { turn_of services.old ≡ Some turn }
-        ensures table { IsTableAt (plan_fields plan.now) (slot + 1) table.new }
-        ensures added { (lists : List (List PacketFields)) → AreAt lists (turns_in (plan_fields plan.now) lists slot) services.old
-            → AddsRecord (plan_fields plan.now) lists slot services.new self.old self.new }
-        ensures left { packet_total services.old.packets ≡ packet_total services.new.packets + (if is_early (plan_fields plan.now) slot then 0 else 1) }
-        ensures count { table.new.count ≡ table.old.count }
+        requires stand { StandInPart (plan_fields plan.now) slot services.old table.old }
+        requires turn { turn_of services.old ≡ turn }
+        ensures added { (part : PartFields) (place : ℕ) → StandBefore (plan_fields plan.now) part place slot services.old table.old
+            → AddsRecord (plan_fields plan.now) part place slot turn services.new table.new self.old self.new }
+        ensures left { packet_total services.old.packets
+            ≡ packet_total services.new.packets + (if not (is_early plan.now.cycle table.old.count slot) && is_some turn then 1 else 0) }
+        ensures kept { (table.new.count ≡ table.old.count) × (services.new.behind ≡ services.old.behind) }
     {
         let into = &mut self.buffer[self.fill..];
         self.fill += write_record(plan, services, turn, table, slot, into);

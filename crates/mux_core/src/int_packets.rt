@@ -1,9 +1,7 @@
-//! The section of the INT -> its packets, once in each cycle of slots (EN 301 192 clause 8.4).
+//! The section of the INT of a part -> its packets, once in each cycle of slots (EN 301 192 clause 8.4).
 
-use crate::int_section::section_of;
 use plan::Plan;
 use section_codec::SectionForm;
-use std::alloc::{AllocError as OutOfMemory, Global};
 use std::marker::Model;
 use unit_stream::{Packer, count_packets};
 
@@ -12,48 +10,56 @@ const PACKING: bool = true;
 
 /// A section on its way into the packets of its PID, as often as it is asked for.
 #[derive(Drop)]
-pub(crate) struct SectionPackets {
-    section: Vec<u8>,
+pub(crate) struct SectionPackets<'a> {
+    section: &'a [u8],
     /// Where the section ends.
     ends: [usize; 1],
     packer: Packer<SectionForm>,
 }
 
-impl Model for SectionPackets {
+impl<'a> Model for SectionPackets<'a> {
     ghost use Rattle.mux_core.specs.SectionPackets.{OnWay, on_way, IsPacking};
 
     ghost Value = { OnWay };
 
-    ghost view = { λ p. on_way p.packer p.section.items p.ends };
+    ghost view = { λ p. on_way p.packer p.section.now p.ends };
 
-    ghost invariant = { λ p. IsPacking p.packer p.section.items p.ends };
+    ghost invariant = { λ p. IsPacking p.packer p.section.now p.ends };
 }
 
-impl SectionPackets {
+impl<'a> SectionPackets<'a> {
     ghost use Rattle.std.specs.Prelude.{◌≡◌, ℕ, ◌+◌, ◌<◌, ◌≤◌, ◌%◌, [], ◌∷◌, true, length};
     ghost use Rattle.ts_spec.specs.Packet.{PacketFields};
     ghost use Rattle.section_spec.specs.Section.{section_form};
-    ghost use Rattle.stream_spec.specs.Stream.{written};
+    ghost use Rattle.stream_spec.specs.Parts.{written};
     ghost use Rattle.unit_stream.specs.Packing.{packetized};
 
-    /// The packets of a section, with counters from 0; the PID is 0 to 8191.
-    fn new(section: Vec<u8>, pid: u16) -> SectionPackets
+    /// The packets of a section; the PID is 0 to 8191, the counter of the first packet 0 to 15.
+    fn new(section: &'a [u8], pid: u16, counter: u8) -> SectionPackets<'a>
         requires pid { pid ≤ 8191 }
-        requires some { 0 < length section.items }
+        requires counter { counter ≤ 15 }
+        requires some { 0 < length section.now }
         ensures written { result ≡ record {
           pid = pid;
           packing = true;
-          counter = 0;
-          units = section.items ∷ [];
-          packets = packetized section_form true pid 0 (section.items ∷ []);
+          counter = counter;
+          units = section.now ∷ [];
+          packets = packetized section_form true pid counter (section.now ∷ []);
         } }
     {
-        let ends = [section.len()];
         SectionPackets {
             section,
-            ends,
-            packer: Packer::new(pid, PACKING),
+            ends: [section.len()],
+            packer: Packer::with_counter(pid, PACKING, counter),
         }
+    }
+
+    /// The counter of the next one.
+    fn counter(&self) -> u8
+        ensures read { result ≡ self.now.counter }
+        ensures below { result ≤ 15 }
+    {
+        self.packer.counter()
     }
 
     /// Writes the next one.
@@ -63,7 +69,7 @@ impl SectionPackets {
         ensures kept { (self.new.pid ≡ self.old.pid) × (self.new.packing ≡ self.old.packing) × (self.new.units ≡ self.old.units) }
         ensures counter { self.new.counter ≡ (self.old.counter + 1) % 16 }
     {
-        if !self.packer.next(&self.section, &self.ends, into) {
+        if !self.packer.next(self.section, &self.ends, into) {
             unreachable!();
         }
     }
@@ -76,39 +82,44 @@ impl SectionPackets {
     }
 }
 
-/// The packets of the INT, none without one.
+/// The packets of the INT in a part, none without one.
 #[derive(Drop)]
-pub(crate) struct IntPackets {
-    packets: Option<SectionPackets>,
+pub(crate) struct IntPackets<'a> {
+    packets: Option<SectionPackets<'a>>,
     /// How many there are in each cycle.
     count: u64,
 }
 
-impl IntPackets {
-    ghost use Rattle.std.specs.Prelude.{◌≡◌, ◌≤◌, ◌+◌, true, IfOk};
+impl<'a> IntPackets<'a> {
+    ghost use Rattle.std.specs.Prelude.{◌≡◌, ◌≤◌, ◌<◌, ◌/◌, ◌%◌, ◌+◌, ◌*◌, min, ℕ, length, true, Some};
+    ghost use Rattle.int_spec.specs.Table.{table_bytes};
+    ghost use Rattle.plan_spec.specs.Plan.{IntFields};
+    ghost use Rattle.plan_spec.specs.Signalling.{table_of, table_packets};
+    ghost use Rattle.plan.specs.Parts.{int_seen};
     ghost use Rattle.plan.specs.PlanView.{plan_fields};
-    ghost use Rattle.plan_spec.specs.Built.{are_sent};
-    ghost use Rattle.mux_core.specs.Slots.{is_early};
+    ghost use Rattle.stream_spec.specs.Parts.{PartFields};
+    ghost use Rattle.mux_core.specs.Slots.{is_early, IsPartOf};
     ghost use Rattle.mux_core.specs.IntPackets.{IsTableAt, packet_of_table};
 
-    /// The packets of the INT of a plan, before the first slot.
-    pub(crate) fn new(alloc: Global, plan: &Plan) -> Result<IntPackets, OutOfMemory>
-        requires built { are_sent (plan_fields plan.now) ≡ true }
-        ensures at { IfOk result (IsTableAt (plan_fields plan.now) 0) }
-        ensures few { IfOk result (λ table. table.count ≤ 23) }
+    /// The packets of the INT with this section, before the first slot of its part; its counter there is 0 to 15. Without an INT neither
+    /// is read.
+    pub(crate) fn new(plan: &Plan, section: &'a [u8], counter: u8) -> IntPackets<'a>
+        requires counter { counter ≤ 15 }
+        requires section { (int : IntFields) → (plan_fields plan.now).table ≡ Some int → 0 < length section.now }
+        ensures at { (part : PartFields) → IsPartOf (plan_fields plan.now) part
+            → ((int : IntFields) → part.plan.table ≡ Some int → counter ≡ part.table_before % 16)
+            → ((int : IntFields) → part.plan.table ≡ Some int → section.now ≡ table_bytes (table_of part.plan int)) → IsTableAt part 0 result }
     {
         let Some(int) = &plan.table else {
-            return Ok(IntPackets {
+            return IntPackets {
                 packets: None,
                 count: 0,
-            });
+            };
         };
-        let section = section_of(alloc, plan, int)?;
-        let count = count_packets::<SectionForm>(&[section.len()], PACKING);
-        Ok(IntPackets {
-            packets: Some(SectionPackets::new(section, int.pid)),
-            count,
-        })
+        IntPackets {
+            packets: Some(SectionPackets::new(section, int.pid, counter)),
+            count: count_packets::<SectionForm>(&[section.len()], PACKING),
+        }
     }
 
     /// How many there are in each cycle.
@@ -118,12 +129,24 @@ impl IntPackets {
         self.count
     }
 
-    /// Writes the one of this slot, which is at this place of its cycle.
+    /// The counter of the next one; 0 without an INT.
+    pub(crate) fn counter(&self) -> u8
+        ensures read { (part : PartFields) (place : ℕ) (int : IntFields) → part.plan.table ≡ Some int → IsTableAt part place self.now
+            → result ≡ (part.table_before + (place / part.plan.cycle * table_packets part.plan + min (place % part.plan.cycle) (table_packets part.plan))) % 16 }
+        ensures below { result ≤ 15 }
+    {
+        match &self.packets {
+            Some(packets) => packets.counter(),
+            None => 0,
+        }
+    }
+
+    /// Writes the one of this slot of the stream, in the first slots of its cycle.
     pub(crate) fn next(&mut self, plan: &Plan, slot: u64, into: &mut [u8; 188])
-        requires at { IsTableAt (plan_fields plan.now) slot self.old }
-        requires early { is_early (plan_fields plan.now) slot ≡ true }
-        ensures at { IsTableAt (plan_fields plan.now) (slot + 1) self.new }
-        ensures written { into.new ≡ packet_of_table (plan_fields plan.now) slot }
+        requires at { (part : PartFields) × (place : ℕ) × IsPartOf (plan_fields plan.now) part × (slot ≡ part.slots_before + place) × IsTableAt part place self.old }
+        requires early { is_early plan.now.cycle self.old.count slot ≡ true }
+        ensures at { (part : PartFields) (place : ℕ) → IsPartOf (plan_fields plan.now) part → slot ≡ part.slots_before + place
+            → IsTableAt part place self.old → IsTableAt part (place + 1) self.new × (into.new ≡ packet_of_table part place) }
         ensures count { self.new.count ≡ self.old.count }
     {
         let Some(packets) = &mut self.packets else {

@@ -5,6 +5,7 @@ ghost use Rattle.int_spec.specs.Table.{IsRule, table_bytes};
 ghost use Rattle.plan_spec.specs.Signalling.{table_of as table_of_plan};
 ghost use Rattle.plan_spec.specs.Valid.{is_valid_rule};
 ghost use Rattle.plan_spec.specs.Built.{are_sent};
+ghost use Rattle.plan_spec.specs.Changes.{plan_in};
 ghost use Rattle.plan.specs.Parts.{int_seen};
 ghost use Rattle.plan.specs.PlanView.{plan_fields};
 
@@ -12,11 +13,8 @@ use addr_rules::{Rule, RuleList};
 use byte_slices::array_bytes;
 use int_table::{IntEntry, IntTable};
 use ip_datagram::IpAddress;
-use plan::{IntPlan, Plan, Service};
+use plan::{IntPlan, Plan, Service, rules_in};
 use std::alloc::{AllocError as OutOfMemory, Global};
-
-/// version_number of the INT of a plan (EN 301 192 clause 8.4.1).
-const VERSION: u8 = 0;
 
 /// Bytes of the longest section (ISO/IEC 13818-1 clause 2.4.4.11).
 const LONGEST: usize = 4096;
@@ -47,40 +45,42 @@ fn same_rules(alloc: Global, rules: &RuleList) -> Result<RuleList, OutOfMemory>
     Ok(copy)
 }
 
-/// The entry of a service, which has no frames.
-fn entry_of(alloc: Global, service: &Service) -> Result<IntEntry, OutOfMemory>
-    requires { list_all is_valid_rule service.now.rules ≡ true }
-    ensures rules { IfOk result (λ entry. entry.rules ≡ service.now.rules) }
+/// The entry of a service with these rules, which has no frames.
+fn entry_of(alloc: Global, service: &Service, rules: &RuleList) -> Result<IntEntry, OutOfMemory>
+    requires { list_all is_valid_rule rules.now ≡ true }
+    ensures rules { IfOk result (λ entry. entry.rules ≡ rules.now) }
     ensures service_id { IfOk result (λ entry. entry.service_id ≡ service.now.service_id) }
     ensures component_tag { IfOk result (λ entry. entry.component_tag ≡ service.now.component_tag) }
     ensures slices { IfOk result (λ entry. entry.slices ≡ None) }
-    ensures are { IfOk result (λ entry. All IsRule service.now.rules) }
+    ensures are { IfOk result (λ entry. All IsRule rules.now) }
 {
     Ok(IntEntry {
-        rules: same_rules(alloc, &service.rules)?,
+        rules: same_rules(alloc, rules)?,
         service_id: service.service_id,
         component_tag: service.component_tag,
         slices: None,
     })
 }
 
-/// The INT of a plan without frames.
-fn table_of(alloc: Global, plan: &Plan, int: &IntPlan) -> Result<IntTable, OutOfMemory>
+/// The INT of a version of a plan without frames.
+fn table_of(alloc: Global, plan: &Plan, version: u8, int: &IntPlan) -> Result<IntTable, OutOfMemory>
     requires built { are_sent (plan_fields plan.now) ≡ true }
+    requires version { version ≤ length plan.now.changes }
     requires int { (plan_fields plan.now).table ≡ Some (int_seen int.now) }
-    ensures written { IfOk result (λ table. table ≡ table_of_plan (plan_fields plan.now) (int_seen int.now)) }
+    ensures written { IfOk result (λ table. table ≡ table_of_plan (plan_in (plan_fields plan.now) version) (int_seen int.now)) }
     ensures fits { IfOk result (λ table. length (table_bytes table) ≤ 4096) }
 {
     let mut table = IntTable::new(
         alloc,
-        VERSION,
+        version,
         int.platform_id,
         int.network_id,
         int.original_network_id,
         int.transport_stream_id,
     );
     for place in 0..plan.services.len() {
-        let entry = entry_of(alloc, plan.services.at(place))?;
+        let rules = rules_in(plan, version, place as u32);
+        let entry = entry_of(alloc, plan.services.at(place), rules)?;
         let Ok(()) = table.push(entry) else {
             return Err(OutOfMemory);
         };
@@ -88,14 +88,20 @@ fn table_of(alloc: Global, plan: &Plan, int: &IntPlan) -> Result<IntTable, OutOf
     Ok(table)
 }
 
-/// The section of the INT of a plan without frames.
-pub(crate) fn section_of(alloc: Global, plan: &Plan, int: &IntPlan) -> Result<Vec<u8>, OutOfMemory>
+/// The section of the INT of a version of a plan without frames.
+pub(crate) fn section_of(
+    alloc: Global,
+    plan: &Plan,
+    version: u8,
+    int: &IntPlan,
+) -> Result<Vec<u8>, OutOfMemory>
     requires built { are_sent (plan_fields plan.now) ≡ true }
+    requires version { version ≤ length plan.now.changes }
     requires int { (plan_fields plan.now).table ≡ Some (int_seen int.now) }
-    ensures written { IfOk result (λ section. section.items ≡ table_bytes (table_of_plan (plan_fields plan.now) (int_seen int.now))) }
+    ensures written { IfOk result (λ section. section.items ≡ table_bytes (table_of_plan (plan_in (plan_fields plan.now) version) (int_seen int.now))) }
     ensures most { IfOk result (λ section. length section.items ≤ 4096) }
 {
-    let table = table_of(alloc, plan, int)?;
+    let table = table_of(alloc, plan, version, int)?;
     let mut section = [0u8; LONGEST];
     let Ok(size) = table.write(&mut section) else {
         unreachable!();

@@ -7,6 +7,7 @@
 mod batch;
 mod int_packets;
 mod int_section;
+mod part_units;
 mod records;
 mod sending;
 mod service_packets;

@@ -1,16 +1,21 @@
 //! What was offered to the services of a plan -> the records of their stream.
-ghost use Rattle.std.specs.Prelude.{◌≡◌, ℕ, ◌≤◌, ◌<◌, ◌^◌, List, true, length, sum_by, IfOk, IsErrOf};
+ghost use Rattle.std.specs.Prelude.{◌≡◌, ℕ, ◌≤◌, ◌<◌, ◌^◌, ◌+◌, ◌*◌, List, [], get_or, All, OnOk, true, length, sum_by, IfOk, IsErrOf};
 ghost use Rattle.wire_spec.specs.Causes.{Rose};
 ghost use Rattle.wire_spec.specs.Content.{Stays};
-ghost use Rattle.plan_spec.specs.Offered.{Records, offered as offered_to};
+ghost use Rattle.plan_spec.specs.Offered.{Records, offered_in};
 ghost use Rattle.plan.specs.PlanView.{plan_fields};
 ghost use Rattle.datagram_routing.specs.Offering.{IsOffered};
-ghost use Rattle.mux_core.specs.Sending.{IsUnderPlan, WritesStream};
+ghost use Rattle.wire_spec.specs.Causes.{HasCause};
+ghost use Rattle.stream_spec.specs.Parts.{PartFields};
+ghost use Rattle.mux_core.specs.Services.{packet_total, AreTaken, HasLists, Begins};
+ghost use Rattle.mux_core.specs.PartUnits.{MadeUnits};
+ghost use Rattle.mux_core.specs.Sending.{IsUnderPlan, WritesStream, WritesRecords, AreUnits, AreDatagrams, datagram_count};
 ghost use Rattle.plan_spec.specs.Built.{are_sent};
 ghost use Rattle.mux_core.specs.declared.sending.MuxFault.TheVariants.{Sink as SinkFault, OutOfMemory as NoMemory};
 
 use crate::batch::Batch;
 use crate::int_packets::IntPackets;
+use crate::part_units::PartUnits;
 use crate::services::Services;
 use crate::slots::put_slots;
 use datagram_routing::{Lists, Offered, each_datagram_is_for_its_service, nothing_is_left_out};
@@ -48,17 +53,105 @@ impl From<OutOfMemory> for MuxFault {
     }
 }
 
-/// How many datagrams all services have.
-fn count_datagrams(lists: &Lists) -> u32
-    requires services { length lists.now ≤ 64 }
-    requires few { sum_by (λ (list : List (List ℕ)). length list) lists.now < 2 ^ 32 }
-    ensures read { result ≡ sum_by (λ (list : List (List ℕ)). length list) lists.now }
+/// How many datagrams all services have in a version.
+fn count_in(lists: &Lists, version: u8) -> u32
+    requires version { version < length lists.now }
+    requires services { length (get_or lists.now version []) ≤ 64 }
+    requires few { sum_by (λ (list : List (List ℕ)). length list) (get_or lists.now version []) < 2 ^ 32 }
+    ensures read { result ≡ sum_by (λ (list : List (List ℕ)). length list) (get_or lists.now version []) }
 {
     let mut count = 0;
-    for service in 0..lists.len() {
-        count += lists.at(service as u32).len() as u32;
+    for service in 0..lists.services(version) as u32 {
+        count += lists.at(version, service).len() as u32;
     }
     count
+}
+
+/// How many datagrams all services have in all versions.
+fn count_datagrams(lists: &Lists) -> u32
+    requires versions { length lists.now ≤ 32 }
+    requires services { All (λ (services : List (List (List ℕ))). length services ≤ 64) lists.now }
+    requires few { datagram_count lists.now < 2 ^ 32 }
+    ensures read { result ≡ datagram_count lists.now }
+{
+    let mut count = 0;
+    for version in 0..lists.versions() as u8 {
+        count += count_in(lists, version);
+    }
+    count
+}
+
+/// The last version in which a service has a datagram, 0 where none has.
+fn last_version(lists: &Lists) -> u8
+    requires versions { (0 < length lists.now) × (length lists.now ≤ 32) }
+    requires services { All (λ (services : List (List (List ℕ))). length services ≤ 64) lists.now }
+    requires few { datagram_count lists.now < 2 ^ 32 }
+    ensures within { result < length lists.now }
+    ensures none { (version : ℕ) → result < version → version < length lists.now → sum_by (λ (list : List (List ℕ)). length list) (get_or lists.now version []) ≡ 0 }
+    ensures some { 0 < result → 0 < sum_by (λ (list : List (List ℕ)). length list) (get_or lists.now result []) }
+{
+    let mut last = 0;
+    for version in 0..lists.versions() as u8 {
+        if count_in(lists, version) > 0 {
+            last = version;
+        }
+    }
+    last
+}
+
+/// What each part is sent from.
+fn units_of(alloc: Global, plan: &Plan, lists: &Lists) -> Result<Vec<PartUnits>, OutOfMemory>
+    requires built { are_sent (plan_fields plan.now) ≡ true }
+    requires versions { length lists.now ≡ length plan.now.changes + 1 }
+    requires lists { All (AreTaken (plan_fields plan.now)) lists.now }
+    ensures made { IfOk result (λ units. AreUnits (plan_fields plan.now) lists.now units.items) }
+{
+    let mut units = Vec::new(alloc);
+    for version in 0..lists.versions() as u8 {
+        units.push(PartUnits::new(alloc, plan, version, lists)?)?;
+    }
+    Ok(units)
+}
+
+/// Writes the records of all parts, and answers how many they are. Memory was taken before.
+fn put_parts<'a, K: Sink>(
+    plan: &'a Plan,
+    lists: &'a Lists,
+    units: &'a [PartUnits],
+    services: &mut Services<'a>,
+    batch: &mut Batch,
+    sink: &mut K,
+) -> Result<u64, Failed>
+    requires built { are_sent (plan_fields plan.now) ≡ true }
+    requires units { AreUnits (plan_fields plan.now) lists.now units.now }
+    requires begun { (part : PartFields) → HasLists (plan_fields plan.now) 0 (get_or lists.now 0 []) (λ k. 0) part → Begins part services.old }
+    requires total { packet_total services.old.packets ≤ 2 ^ 54 }
+    requires few { datagram_count lists.now < 2 ^ 32 }
+    requires empty { batch.old ≡ [] }
+    ensures written { (datagrams : ℕ → ℕ → List (List ℕ)) → AreDatagrams (plan_fields plan.now) datagrams lists.now
+        → WritesRecords (plan_fields plan.now) datagrams result (K.told sink.old).held (K.told sink.new).held }
+    ensures flushed { Stays (K.told sink.old).flushed (K.told sink.new).flushed }
+    ensures cause { HasCause (K.told sink.old).faults (K.told sink.new).faults result }
+{
+    let last = last_version(lists);
+    let mut table = IntPackets::new(plan, units[0].section(), 0);
+    let mut slot = put_slots(plan, services, &mut table, batch, 0, last > 0, sink)?;
+    for version in 1..last + 1 {
+        let part = &units[usize::from(version)];
+        services.begin(plan, version, lists, part);
+        table = IntPackets::new(plan, part.section(), table.counter());
+        slot = put_slots(
+            plan,
+            services,
+            &mut table,
+            batch,
+            slot,
+            version < last,
+            sink,
+        )?;
+    }
+    batch.put(sink)?;
+    Ok(slot)
 }
 
 /// Writes the stream of what was offered under the plan: the packets of its services in rotation, and in each cycle of slots those
@@ -75,8 +168,8 @@ pub fn stream<K: Sink>(
     requires built { are_sent (plan_fields plan.now) ≡ true }
     requires offered { IsUnderPlan (plan_fields plan.now) offered.now }
     ensures written { (gives : Records) → IsOffered (plan_fields plan.now) gives offered.now
-        → WritesStream (plan_fields plan.now) (offered_to (plan_fields plan.now) gives) result (K.told sink.old).held (K.told sink.new).held }
-    ensures datagrams { IfOk result (λ sent. sent.datagrams ≡ sum_by (λ (list : List (List ℕ)). length list) offered.now.lists) }
+        → WritesStream (plan_fields plan.now) (offered_in (plan_fields plan.now) gives) result (K.told sink.old).held (K.told sink.new).held }
+    ensures datagrams { IfOk result (λ sent. sent.datagrams ≡ datagram_count offered.now.lists) }
     ensures sink { IsErrOf result SinkFault → Rose (K.told sink.old).faults (K.told sink.new).faults }
     ensures memory { IsErrOf result NoMemory → sink.new ≡ sink.old }
     ensures later { (K.told sink.old).faults ≤ (K.told sink.new).faults }
@@ -86,11 +179,12 @@ pub fn stream<K: Sink>(
     there_is_one_stream();
     each_datagram_is_for_its_service();
     nothing_is_left_out();
-    let mut services = Services::new(alloc, plan, &offered.lists)?;
-    let mut table = IntPackets::new(alloc, plan)?;
+    let lists = &offered.lists;
+    let units = units_of(alloc, plan, lists)?;
+    let mut services = Services::new(alloc, plan, lists, &units[0])?;
     let mut batch = Batch::new(alloc)?;
-    let datagrams = count_datagrams(&offered.lists);
-    match put_slots(plan, &mut services, &mut table, &mut batch, sink) {
+    let datagrams = count_datagrams(lists);
+    match put_parts(plan, lists, &units, &mut services, &mut batch, sink) {
         Ok(packets) => Ok(Sent { packets, datagrams }),
         Err(Failed) => Err(MuxFault::Sink),
     }

@@ -1,19 +1,18 @@
 //! The datagrams of a service -> its packets, one after another.
-ghost use Rattle.std.specs.Prelude.{◌≡◌, ◌<◌, ◌≤◌, ◌^◌, ◌∷◌, List, true, length, map, nat_lt, IfOk, All};
+ghost use Rattle.std.specs.Prelude.{◌≡◌, ◌<◌, ◌≤◌, ◌+◌, ◌%◌, ◌^◌, [], ◌∷◌, List, true, length, map, nat_lt, All};
 ghost use Rattle.ts_spec.specs.Packet.{PacketFields};
-ghost use Rattle.stream_spec.specs.Stream.{written};
+ghost use Rattle.stream_spec.specs.Parts.{written};
 ghost use Rattle.stream_spec.specs.Units.{packets_of_kind};
 ghost use Rattle.plan_spec.specs.Built.{is_sent};
+ghost use Rattle.plan_spec.specs.Changes.{with_pid};
 ghost use Rattle.plan.specs.Parts.{kind_seen};
-ghost use Rattle.mux_core.specs.Units.{AreFor, HasPid};
-ghost use Rattle.mux_core.specs.Services.{packets_in};
+ghost use Rattle.mux_core.specs.Units.{AreFor, AreEndsOf};
+ghost use Rattle.mux_core.specs.Services.{packets_in, behind_in};
 
 use crate::unit_bytes::UnitBytes;
-use crate::units::ends_of;
 use ip_datagram::DatagramList;
 use plan::{Kind, Service};
 use section_codec::SectionForm;
-use std::alloc::{AllocError as OutOfMemory, Global};
 use std::marker::Model;
 use ule_unit::UleForm;
 use unit_stream::{Packer, UnitForm};
@@ -24,76 +23,87 @@ pub(crate) struct DatagramPackets<'a, F: UnitForm> {
     service: &'a Service,
     datagrams: &'a DatagramList,
     /// Where the unit of each datagram ends among the bytes of all units.
-    ends: Vec<usize>,
+    ends: &'a [usize],
     /// The bytes of the units that are not out.
     units: UnitBytes,
     packer: Packer<F>,
 }
 
 impl<'a, F: UnitForm> Model for DatagramPackets<'a, F> {
-    ghost use Rattle.std.specs.Prelude.{List};
-    ghost use Rattle.ts_spec.specs.Packet.{PacketFields};
     ghost use Rattle.plan.specs.Parts.{kind_seen};
-    ghost use Rattle.unit_stream.specs.Packers.{packets_left};
     ghost use Rattle.mux_core.specs.Units.{unit_bytes};
+    ghost use Rattle.mux_core.specs.Coming.{Coming, coming};
     ghost use Rattle.mux_core.specs.Reading.{IsSending};
 
-    ghost Value = { List PacketFields };
+    ghost Value = { Coming };
 
-    ghost view = { λ p. packets_left F.form p.packer (unit_bytes (kind_seen p.service.now.kind) p.service.now.unicast p.datagrams.now) p.ends.items };
+    ghost view = { λ p. coming F.form p.packer (unit_bytes (kind_seen p.service.now.kind) p.service.now.unicast p.datagrams.now) p.ends.now };
 
-    ghost invariant = { λ p. IsSending F.START (kind_seen p.service.now.kind) p.service.now.unicast p.datagrams.now p.ends.items p.units p.packer };
+    ghost invariant = { λ p. IsSending F.START (kind_seen p.service.now.kind) p.service.now.unicast p.datagrams.now p.ends.now p.units p.packer };
 }
 
 impl<'a, F: UnitForm> DatagramPackets<'a, F> {
-    ghost use Rattle.std.specs.Prelude.{◌≡◌, ℕ, ◌<◌, ◌≤◌, ◌^◌, ◌∷◌, List, true, length, map, nat_lt, IfOk, All};
+    ghost use Rattle.std.specs.Prelude.{◌≡◌, ℕ, ◌<◌, ◌≤◌, ◌+◌, ◌%◌, ◌^◌, [], ◌∷◌, List, true, length, map, nat_lt, All};
     ghost use Rattle.ts_spec.specs.Packet.{PacketFields};
-    ghost use Rattle.stream_spec.specs.Stream.{written};
+    ghost use Rattle.stream_spec.specs.Parts.{written};
     ghost use Rattle.plan_spec.specs.Built.{is_sent};
     ghost use Rattle.plan.specs.Parts.{kind_seen};
     ghost use Rattle.unit_stream.specs.Packing.{packetized};
-    ghost use Rattle.mux_core.specs.Units.{AreFor};
+    ghost use Rattle.mux_core.specs.Units.{AreFor, AreEndsOf};
     ghost use Rattle.stream_spec.specs.Units.{unit_of};
 
-    /// The packets of these datagrams, with counters from 0; the PID is 0 to 8191.
+    /// The packets of these datagrams, whose units end at `ends`; the PID is 0 to 8191, the counter of the first packet 0 to 15.
     fn new(
-        alloc: Global,
         service: &'a Service,
         datagrams: &'a DatagramList,
+        ends: &'a [usize],
         pid: u16,
         packing: bool,
-    ) -> Result<DatagramPackets<'a, F>, OutOfMemory>
+        counter: u8,
+    ) -> DatagramPackets<'a, F>
         requires built { is_sent (kind_seen service.now.kind) ≡ true }
         requires datagrams { AreFor (kind_seen service.now.kind) datagrams.now }
         requires few { length datagrams.now < 2 ^ 32 }
+        requires ends { AreEndsOf (kind_seen service.now.kind) service.now.unicast datagrams.now ends.now }
         requires pid { pid ≤ 8191 }
+        requires counter { counter ≤ 15 }
         requires least { All (λ unit. F.START ≤ length unit) (map (unit_of (kind_seen service.now.kind) service.now.unicast) datagrams.now) }
-        ensures written { IfOk result (λ packets. packets ≡ packetized F.form packing pid 0 (map (unit_of (kind_seen service.now.kind) service.now.unicast) datagrams.now)) }
-        ensures most { IfOk result (λ packets. length packets ≤ 2 ^ 48) }
+        ensures written { result.packets ≡ packetized F.form packing pid counter (map (unit_of (kind_seen service.now.kind) service.now.unicast) datagrams.now) }
+        ensures behind { result.behind ≡ (counter + length result.packets) % 16 }
+        ensures most { length result.packets ≤ 2 ^ 48 }
     {
-        let ends = ends_of(alloc, service, datagrams)?;
-        Ok(DatagramPackets {
+        DatagramPackets {
             service,
             datagrams,
             ends,
             units: UnitBytes::new(),
-            packer: Packer::new(pid, packing),
-        })
+            packer: Packer::with_counter(pid, packing, counter),
+        }
+    }
+
+    /// The counter of the packet that would follow, where none is to come.
+    fn counter(&self) -> u8
+        requires { self.now.packets ≡ [] }
+        ensures read { result ≡ self.now.behind }
+        ensures below { result ≤ 15 }
+    {
+        self.packer.counter()
     }
 
     /// Whether there are more to come.
     fn has_next(&self) -> bool
-        ensures read { result ≡ nat_lt 0 (length self.now) }
+        ensures read { result ≡ nat_lt 0 (length self.now.packets) }
     {
-        self.packer.has_next(&self.ends)
+        self.packer.has_next(self.ends)
     }
 
     /// Writes the next one.
     fn next(&mut self, into: &mut [u8; 188])
-        requires { 0 < length self.old }
-        ensures next { (packet : PacketFields) × (self.old ≡ packet ∷ self.new) × (into.new ≡ written packet) }
+        requires { 0 < length self.old.packets }
+        ensures next { (packet : PacketFields) × (self.old.packets ≡ packet ∷ self.new.packets) × (into.new ≡ written packet) }
+        ensures behind { self.new.behind ≡ self.old.behind }
     {
-        let Some(room) = self.packer.next_around(&self.ends, into) else {
+        let Some(room) = self.packer.next_around(self.ends, into) else {
             unreachable!();
         };
         let place = &mut into[room.from..room.from + room.size];
@@ -111,30 +121,47 @@ pub(crate) enum ServicePackets<'a> {
 }
 
 impl<'a> ServicePackets<'a> {
-    /// The packets of a service of these datagrams.
+    /// The packets of a service of these datagrams, whose units end at `ends`; the PID is 0 to 8191, the counter of the first packet 0 to 15.
     pub(crate) fn new(
-        alloc: Global,
         service: &'a Service,
         datagrams: &'a DatagramList,
-    ) -> Result<ServicePackets<'a>, OutOfMemory>
+        ends: &'a [usize],
+        pid: u16,
+        counter: u8,
+    ) -> ServicePackets<'a>
         requires built { is_sent (kind_seen service.now.kind) ≡ true }
-        requires pid { HasPid (kind_seen service.now.kind) }
         requires datagrams { AreFor (kind_seen service.now.kind) datagrams.now }
         requires few { length datagrams.now < 2 ^ 32 }
-        ensures written { IfOk result (λ packets. packets_in packets ≡ packets_of_kind (kind_seen service.now.kind) service.now.unicast datagrams.now) }
-        ensures most { IfOk result (λ packets. length (packets_in packets) ≤ 2 ^ 48) }
+        requires ends { AreEndsOf (kind_seen service.now.kind) service.now.unicast datagrams.now ends.now }
+        requires pid { pid ≤ 8191 }
+        requires counter { counter ≤ 15 }
+        ensures written { packets_in result ≡ packets_of_kind (with_pid (kind_seen service.now.kind) pid) service.now.unicast counter datagrams.now }
+        ensures behind { behind_in result ≡ (counter + length (packets_in result)) % 16 }
+        ensures most { length (packets_in result) ≤ 2 ^ 48 }
     {
         match service.kind {
-            Kind::Ule { pid, packing, .. } => {
-                let packets = DatagramPackets::new(alloc, service, datagrams, pid, packing)?;
-                Ok(ServicePackets::Ule(packets))
+            Kind::Ule { packing, .. } => {
+                let packets = DatagramPackets::new(service, datagrams, ends, pid, packing, counter);
+                ServicePackets::Ule(packets)
             }
-            Kind::Mpe { pid } => {
+            Kind::Mpe { .. } => {
                 // A section may begin in the packet in which the one before ends.
-                let packets = DatagramPackets::new(alloc, service, datagrams, pid, true)?;
-                Ok(ServicePackets::Mpe(packets))
+                let packets = DatagramPackets::new(service, datagrams, ends, pid, true, counter);
+                ServicePackets::Mpe(packets)
             }
             Kind::Fec { .. } | Kind::Gse { .. } => unreachable!(),
+        }
+    }
+
+    /// The counter of the packet that would follow, where none is to come.
+    pub(crate) fn counter(&self) -> u8
+        requires { packets_in self.now ≡ [] }
+        ensures read { result ≡ behind_in self.now }
+        ensures below { result ≤ 15 }
+    {
+        match self {
+            ServicePackets::Ule(packets) => packets.counter(),
+            ServicePackets::Mpe(packets) => packets.counter(),
         }
     }
 
@@ -152,6 +179,7 @@ impl<'a> ServicePackets<'a> {
     pub(crate) fn next(&mut self, into: &mut [u8; 188])
         requires { 0 < length (packets_in self.old) }
         ensures next { (packet : PacketFields) × (packets_in self.old ≡ packet ∷ packets_in self.new) × (into.new ≡ written packet) }
+        ensures behind { behind_in self.new ≡ behind_in self.old }
     {
         match self {
             ServicePackets::Ule(packets) => packets.next(into),

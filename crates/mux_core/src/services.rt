@@ -1,12 +1,16 @@
 //! The services in rotation: one packet of the next of them that has packets left.
-ghost use Rattle.std.specs.Prelude.{◌≡◌, ◌-◌, ◌≤◌, ◌^◌, All, map, length, find, IfOk};
+ghost use Rattle.std.specs.Prelude.{◌≡◌, ℕ, ◌+◌, ◌-◌, ◌%◌, ◌<◌, ◌≤◌, ◌^◌, List, [], true, map, length, get_or, slice_get, find, if◌then◌else◌, Some};
 ghost use Rattle.std.specs.List.{range_with_len};
+ghost use Rattle.plan_spec.specs.Changes.{service_in, pid_in as pid_in_version};
 ghost use Rattle.plan.specs.PlanView.{plan_fields};
-ghost use Rattle.mux_core.specs.Services.{packets_in, has_packets, packets_from_lists, AreLists};
+ghost use Rattle.stream_spec.specs.Units.{packets_of as packets_of_service};
+ghost use Rattle.stream_spec.specs.Stream.{shares_pid};
+ghost use Rattle.mux_core.specs.Services.{packets_in, behind_in, has_packets, AreLists};
 
+use crate::part_units::PartUnits;
 use crate::service_packets::ServicePackets;
 use datagram_routing::Lists;
-use plan::Plan;
+use plan::{Plan, pid_in};
 use std::alloc::{AllocError as OutOfMemory, Global};
 use std::marker::Model;
 
@@ -20,11 +24,11 @@ pub(crate) struct Services<'a> {
 
 impl<'a> Model for Services<'a> {
     ghost use Rattle.std.specs.Prelude.{◌≤◌, map, length};
-    ghost use Rattle.mux_core.specs.Services.{packets_in, Serving};
+    ghost use Rattle.mux_core.specs.Services.{packets_in, behind_in, Serving};
 
     ghost Value = { Serving };
 
-    ghost view = { λ s. record { packets = map packets_in s.services.items; first = s.first } };
+    ghost view = { λ s. record { packets = map packets_in s.services.items; behind = map behind_in s.services.items; first = s.first } };
 
     ghost invariant = { λ s. s.first ≤ length s.services.items };
 }
@@ -42,42 +46,114 @@ fn find_from(services: &[ServicePackets<'_>], from: usize, to: usize) -> Option<
     None
 }
 
-/// The packets of each service.
-fn services_of<'a>(
-    alloc: Global,
+/// The packets of a service in the part of a version, with counters from this one on.
+fn packets_of<'a>(
     plan: &'a Plan,
+    version: u8,
+    k: usize,
     lists: &'a Lists,
-) -> Result<Vec<ServicePackets<'a>>, OutOfMemory>
-    requires { AreLists (plan_fields plan.now) lists.now }
-    ensures written { IfOk result (λ services. map packets_in services.items ≡ packets_from_lists (plan_fields plan.now).services lists.now) }
-    ensures short { IfOk result (λ services. All (λ service. length (packets_in service) ≤ 2 ^ 48) services.items) }
-    ensures few { IfOk result (λ services. length services.items ≤ 64) }
+    units: &'a PartUnits,
+    counter: u8,
+) -> ServicePackets<'a>
+    requires version { version ≤ length plan.now.changes }
+    requires service { k < length plan.now.services }
+    requires versions { length lists.now ≡ length plan.now.changes + 1 }
+    requires lists { AreLists (plan_fields plan.now) (get_or lists.now version []) units.now.ends }
+    requires counter { counter ≤ 15 }
+    ensures written { (datagrams : List (List ℕ)) → slice_get (get_or lists.now version []) k ≡ Some datagrams
+        → packets_in result ≡ packets_of_service (service_in (plan_fields plan.now) version k) counter datagrams }
+    ensures behind { behind_in result ≡ (counter + length (packets_in result)) % 16 }
+    ensures most { length (packets_in result) ≤ 2 ^ 48 }
 {
-    let mut services = Vec::new(alloc);
-    for place in 0..plan.services.len() {
-        let service = ServicePackets::new(alloc, plan.services.at(place), lists.at(place as u32))?;
-        services.push(service)?;
+    let Some(pid) = pid_in(plan, version, k as u32) else {
+        unreachable!();
+    };
+    ServicePackets::new(
+        plan.services.at(k),
+        lists.at(version, k as u32),
+        units.ends_at(k),
+        pid,
+        counter,
+    )
+}
+
+/// Whether a service has the PID in a version above 0 that it has in the one before.
+fn keeps_pid(plan: &Plan, version: u8, k: usize) -> bool
+    requires version { (0 < version) × (version ≤ length plan.now.changes) }
+    requires service { k < length plan.now.services }
+    ensures { result ≡ shares_pid (pid_in_version (plan_fields plan.now) version k) (pid_in_version (plan_fields plan.now) (version - 1) k) }
+{
+    match pid_in(plan, version, k as u32) {
+        Some(pid) => pid_in(plan, version - 1, k as u32) == Some(pid),
+        None => false,
     }
-    Ok(services)
+}
+
+/// The counter with which a service begins a version above 0, where all its packets of the one before it are out.
+fn counter_of(plan: &Plan, version: u8, k: usize, service: &ServicePackets<'_>) -> u8
+    requires version { (0 < version) × (version ≤ length plan.now.changes) }
+    requires service { k < length plan.now.services }
+    requires out { packets_in service.now ≡ [] }
+    ensures read { result
+        ≡ (if shares_pid (pid_in_version (plan_fields plan.now) version k) (pid_in_version (plan_fields plan.now) (version - 1) k) then behind_in service.now else 0) }
+    ensures below { result ≤ 15 }
+{
+    if keeps_pid(plan, version, k) {
+        service.counter()
+    } else {
+        0
+    }
 }
 
 impl<'a> Services<'a> {
-    ghost use Rattle.std.specs.Prelude.{◌≡◌, ◌+◌, ◌≤◌, ◌^◌, nat_lt, is_some, Some, IfOk};
+    ghost use Rattle.std.specs.Prelude.{◌≡◌, ℕ, ◌+◌, ◌<◌, ◌≤◌, ◌^◌, [], length, get_or, nat_lt, is_some, Some, IfOk};
     ghost use Rattle.plan.specs.PlanView.{plan_fields};
-    ghost use Rattle.mux_core.specs.Services.{packet_total, turn_of, TakesTurn, packets_from_lists, AreLists};
+    ghost use Rattle.stream_spec.specs.Parts.{PartFields};
+    ghost use Rattle.mux_core.specs.Services.{packet_total, turn_of, TakesTurn, AreLists, HasLists, Begins, counter_at};
 
-    /// The services of a plan with these datagrams, before the first slot.
+    /// The services of a plan before the first slot of version 0.
     pub(crate) fn new(
         alloc: Global,
         plan: &'a Plan,
         lists: &'a Lists,
+        units: &'a PartUnits,
     ) -> Result<Services<'a>, OutOfMemory>
-        requires { AreLists (plan_fields plan.now) lists.now }
-        ensures written { IfOk result (λ s. s ≡ record { packets = packets_from_lists (plan_fields plan.now).services lists.now; first = 0 }) }
+        requires versions { length lists.now ≡ length plan.now.changes + 1 }
+        requires lists { AreLists (plan_fields plan.now) (get_or lists.now 0 []) units.now.ends }
+        ensures begun { IfOk result (λ s. (part : PartFields) → HasLists (plan_fields plan.now) 0 (get_or lists.now 0 []) (λ k. 0) part → Begins part s) }
         ensures most { IfOk result (λ s. packet_total s.packets ≤ 2 ^ 54) }
     {
-        let services = services_of(alloc, plan, lists)?;
+        let mut services = Vec::new(alloc);
+        for k in 0..plan.services.len() {
+            services.push(packets_of(plan, 0, k, lists, units, 0))?;
+        }
         Ok(Services { services, first: 0 })
+    }
+
+    /// Begins the part of a version above 0, where all packets of the one before it are out. The counter of a PID goes on where its
+    /// service keeps it, and is 0 where the service moves: none takes a PID again that it left.
+    pub(crate) fn begin(
+        &mut self,
+        plan: &'a Plan,
+        version: u8,
+        lists: &'a Lists,
+        units: &'a PartUnits,
+    )
+        requires version { (0 < version) × (version ≤ length plan.now.changes) }
+        requires versions { length lists.now ≡ length plan.now.changes + 1 }
+        requires lists { AreLists (plan_fields plan.now) (get_or lists.now version []) units.now.ends }
+        requires size { length self.old.packets ≡ length plan.now.services }
+        requires out { packet_total self.old.packets ≡ 0 }
+        ensures begun { (part : PartFields)
+            → HasLists (plan_fields plan.now) version (get_or lists.now version []) (counter_at (plan_fields plan.now) version self.old.behind) part → Begins part self.new }
+        ensures size { length self.new.packets ≡ length plan.now.services }
+        ensures most { packet_total self.new.packets ≤ 2 ^ 54 }
+    {
+        for k in 0..self.services.len() {
+            let counter = counter_of(plan, version, k, &self.services[k]);
+            self.services[k] = packets_of(plan, version, k, lists, units, counter);
+        }
+        self.first = 0;
     }
 
     /// The service whose turn it is; None where no packets are left.

@@ -1,6 +1,6 @@
 //! A slot -> the time stamp of its record, where records have one.
 ghost use Rattle.std.specs.Prelude.{◌≡◌, ◌≤◌, ◌<◌, ◌++◌, length, drop};
-ghost use Rattle.stream_spec.specs.Stream.{stamp_bytes};
+ghost use Rattle.stream_spec.specs.Parts.{stamp_bytes};
 ghost use Rattle.ts_spec.specs.Recording.{stamped, m2ts};
 ghost use Rattle.plan.specs.Parts.{form_of};
 

@@ -1,12 +1,15 @@
 -- The number of datagrams that are offered.
-use Rattle.std.proofs.Common.{◌≡◌, ℕ, ◌+◌, Bool, true, false, cond, not, List, [], ◌∷◌, length, count_by, sum_by, is_none, Option, Some, None, refl, ◌∙◌, arith}
+use Rattle.std.proofs.Common.{◌≡◌, ℕ, ◌+◌, Bool, true, false, cond, not, List, [], ◌∷◌, length, count_by, is_none, Option, Some, None, refl, ◌∙◌, arith}
 use Rattle.std.proofs.lemmas.List.Sums.{sum_by-cons}
 use Rattle.plan_spec.specs.Plan.{PlanFields}
-use Rattle.plan_spec.specs.Offered.{Records, datagrams, service_of_datagram, fits, is_too_long_for, not_ip_count}
+use Rattle.plan_spec.specs.Changes.{plan_in, records_of_version}
+use Rattle.plan_spec.specs.Offered.{Records, datagrams, service_of_datagram, fits, is_too_long_for, not_ip_count, unrouted_count, too_long_count}
 use Rattle.datagram_routing.specs.Offering.{IsOffered}
 use Rattle.datagram_routing.specs.declared.offered.Offered.{Offered}
-use Rattle.datagram_routing.proofs.Sums.{all_counted}
-use Rattle.send_command.specs.Tally.{is_taken_by, is_taken, IsTally}
+use Rattle.datagram_routing.proofs.Ranges.{sum_from, sum_by-range, sum_from-same}
+use Rattle.datagram_routing.proofs.Sums.{given, in_version, in_all, all_counted}
+use Rattle.mux_core.specs.Sending.{datagram_count}
+use Rattle.send_command.specs.Tally.{is_taken_by, is_taken, taken_count, offered_count, IsTally}
 use Rattle.send_command.specs.declared.ends.Tally.{Tally}
 
 one_of_both : (b : Bool) → cond b 1 0 + cond (not b) 1 0 ≡ 1
@@ -38,11 +41,28 @@ each_record (Some d ∷ records) = omega (arith, each_record records, sum_by-con
 
 -- what the lists hold is what is offered
 pub tally_is : (plan : PlanFields) (records : Records) (o : Offered) (tally : Tally) → IsOffered plan records o
-    → tally.offered ≡ sum_by (λ (list : List (List ℕ)). length list) o.lists → tally.not_ip ≡ o.not_ip → tally.unrouted ≡ o.unrouted → tally.too_long ≡ o.too_long
+    → tally.offered ≡ datagram_count o.lists → tally.not_ip ≡ o.not_ip → tally.unrouted ≡ o.unrouted → tally.too_long ≡ o.too_long
     → IsTally plan records tally
 tally_is plan records o tally stands offered not_ip unrouted too_long = record {
-  offered = omega (arith, offered, all_counted plan records o stands, each_datagram plan (datagrams records), each_record records, stands.not_ip, stands.unrouted, stands.too_long);
+  offered =
+      let n : ℕ = length plan.changes + 1 in
+      let taken : ℕ → ℕ = λ v. taken_count (plan_in plan v) (records_of_version plan v records) in
+      let here : offered_count plan records ≡ sum_from (given plan records) 0 n = sum_by-range taken 0 n ∙ sum_from-same taken (given plan records) 0 n same in
+      omega (
+        arith,
+        here,
+        offered,
+        all_counted plan records o stands,
+        in_all plan records,
+        each_record records,
+        stands.not_ip,
+        stands.unrouted ∙ sum_by-range (λ v. unrouted_count (plan_in plan v) (records_of_version plan v records)) 0 n,
+        stands.too_long ∙ sum_by-range (λ v. too_long_count (plan_in plan v) (records_of_version plan v records)) 0 n,
+      );
   not_ip = not_ip ∙ stands.not_ip;
   unrouted = unrouted ∙ stands.unrouted;
   too_long = too_long ∙ stands.too_long;
 }
+  where
+    same : (v : ℕ) → taken_count (plan_in plan v) (records_of_version plan v records) ≡ given plan records v
+    same v = omega (arith, in_version plan records v, each_datagram (plan_in plan v) (datagrams (records_of_version plan v records)))

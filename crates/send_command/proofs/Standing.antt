@@ -1,15 +1,15 @@
 -- What stands after the ends of a send.
-use Rattle.std.proofs.Common.{◌≡◌, ℕ, List, length, sum_by, Option, None, Ok, option_map, sym, subst, arith}
+use Rattle.std.proofs.Common.{◌≡◌, ℕ, List, length, Option, None, Ok, option_map, sym, subst, arith}
 use Rattle.std.specs.Io.KnownBytes.{Appends, Keeps}
 use Rattle.std.proofs.KnownBytes.{Appends-kept}
 use Rattle.std.proofs.lemmas.List.{take_all}
 use Rattle.wire_spec.specs.Lists.{joined}
 use Rattle.pcap_file.specs.Told.{Tells}
 use Rattle.plan_spec.specs.Plan.{PlanFields}
-use Rattle.plan_spec.specs.Offered.{Records, offered}
+use Rattle.plan_spec.specs.Offered.{Records, offered_in}
 use Rattle.stream_law.specs.Captures.{given_by}
 use Rattle.datagram_routing.specs.Offering.{IsOffered}
-use Rattle.mux_core.specs.Sending.{WritesStream}
+use Rattle.mux_core.specs.Sending.{WritesStream, datagram_count}
 use Rattle.mux_core.specs.declared.sending.Sent.{Sent}
 use Rattle.send_command.specs.Gathering.{IsGathered}
 use Rattle.send_command.specs.Sending.{SendsAll, SendsFront}
@@ -25,8 +25,8 @@ told_as bytes captured a b e told = subst (λ (f : Option PlacedFault). Tells by
 
 -- all was written
 pub sends_all : (plan : PlanFields) (bytes : List ℕ) (g : Gathered) (sent : Sent) (tally : Tally) (a b c : Option (List ℕ)) → IsGathered plan bytes g → g.fault ≡ None
-    → ((gives : Records) → IsOffered plan gives g.offered → WritesStream plan (offered plan gives) (Ok sent) a b) → Keeps b c
-    → tally.offered ≡ sum_by (λ (list : List (List ℕ)). length list) g.offered.lists → tally.not_ip ≡ g.offered.not_ip → tally.unrouted ≡ g.offered.unrouted
+    → ((gives : Records) → IsOffered plan gives g.offered → WritesStream plan (offered_in plan gives) (Ok sent) a b) → Keeps b c
+    → tally.offered ≡ datagram_count g.offered.lists → tally.not_ip ≡ g.offered.not_ip → tally.unrouted ≡ g.offered.unrouted
     → tally.too_long ≡ g.offered.too_long → SendsAll plan bytes tally a c
 sends_all plan bytes g sent tally a b c gathered none writes kept offered_is not_ip unrouted too_long =
     let wrote = writes (given_by bytes gathered.captured) gathered.offered in
@@ -40,7 +40,7 @@ sends_all plan bytes g sent tally a b c gathered none writes kept offered_is not
 
 -- all was written, but not flushed
 pub sends_unflushed : (plan : PlanFields) (bytes : List ℕ) (g : Gathered) (sent : Sent) (a b c : Option (List ℕ)) → IsGathered plan bytes g
-    → ((gives : Records) → IsOffered plan gives g.offered → WritesStream plan (offered plan gives) (Ok sent) a b) → Keeps b c
+    → ((gives : Records) → IsOffered plan gives g.offered → WritesStream plan (offered_in plan gives) (Ok sent) a b) → Keeps b c
     → SendsFront plan bytes a c
 sends_unflushed plan bytes g sent a b c gathered writes kept =
     let wrote = writes (given_by bytes gathered.captured) gathered.offered in

@@ -2,16 +2,14 @@
 use Rattle.std.proofs.Common.{◌≡◌, ℕ, ◌+◌, ◌≤◌, List, [], ◌∷◌, ◌++◌, length, Option, Some, None, Result, Ok, Err, IfSome, refl, ap, sym, ◌∙◌, subst, append_assoc, is_some, if◌then◌else◌}
 use Rattle.std.specs.Borrow.{Bor}
 use Rattle.ipe_io.specs.Told.{InputTold}
-use Rattle.pcap_file.specs.Reading.{head_fault, record_fault}
+use Rattle.pcap_file.specs.Reading.{head_fault}
 use Rattle.pcap_file.specs.Told.{Tells, place_of_fault}
 use Rattle.pcap_file.specs.Known.{ReaderState}
-use Rattle.pcap_file.specs.Reader.{HasReadRecords, IsReadAhead, Leaves, ShowsNoFault, Takes, most_held, state_after, with_record}
+use Rattle.pcap_file.specs.Reader.{HasReadRecords, IsReadAhead, Leaves, Takes, most_held, state_after, with_record}
 use Rattle.pcap_file.specs.Captured.{captured_datagram}
 use Rattle.pcap_file.specs.declared.faults.CaptureFault.{CaptureFault}
-use Rattle.pcap_file.specs.declared.faults.NextFault.{NextFault}
 use Rattle.pcap_file.specs.declared.faults.NextFault.TheVariants as next_fault
 use Rattle.pcap_file.proofs.Captures.{HasRead-more}
-use Rattle.pcap_file.proofs.FileHeads.{head_is_whole}
 use Rattle.pcap_file.proofs.Longest.{Tells-nothing}
 use Rattle.pcap_file.proofs.ReadAhead.{rest_given}
 use Rattle.pcap_file.proofs.Shown.{no_fault_behind, read_ahead, shown_behind}

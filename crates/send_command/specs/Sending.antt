@@ -7,7 +7,7 @@ use Rattle.pcap_file.specs.Told.{Tells, place_of_fault}
 use Rattle.pcap_file.specs.Reader.{Takes, ShowsNoFault, IsReadAhead}
 use Rattle.pcap_file.specs.declared.faults.CaptureFault.{CaptureFault}
 use Rattle.plan_spec.specs.Plan.{PlanFields}
-use Rattle.plan_spec.specs.Offered.{offered}
+use Rattle.plan_spec.specs.Offered.{offered_in}
 use Rattle.stream_spec.specs.Stream.{IsStream}
 use Rattle.stream_law.specs.Captures.{given_by}
 use Rattle.send_command.specs.Tally.{IsTally}
@@ -15,10 +15,11 @@ use Rattle.send_command.specs.declared.ends.Tally.{Tally}
 use Rattle.send_command.specs.declared.ends.SendEnd.{SendEnd}
 use Rattle.send_command.specs.declared.ends.SendEnd.TheVariants as ends
 
--- the bytes tell these records of a capture and this fault, or none, and that is the stream of what services take of the records
+-- the bytes tell these records of a capture and this fault, or none, and that is the stream of what services take of the records, each in
+-- the version of its record
 pub record IsSendOf (plan : PlanFields) (bytes : List ℕ) (captured : List (List ℕ)) (fault : Option CaptureFault) (stream : List (List ℕ)) : Type 0 where
   pub told : Tells bytes captured fault
-  pub stream_is : IsStream plan (offered plan (given_by bytes captured)) stream
+  pub stream_is : IsStream plan (offered_in plan (given_by bytes captured)) stream
 
 -- a capture without fault: all of its stream was written, and these are the numbers
 pub record SendsAll (plan : PlanFields) (bytes : List ℕ) (tally : Tally) (old new : Option (List ℕ)) : Type 0 where

@@ -128,14 +128,14 @@ static CASES: [Case; 4] = [
 
 /// Whether each service is offered datagrams of these sizes.
 fn are_sizes(offered: &Offered, sizes: &[&[u16]]) -> bool {
-    if offered.lists.len() != sizes.len() {
+    if offered.lists.versions() == 0 || offered.lists.services(0) != sizes.len() {
         return false;
     }
     for (k, wanted) in sizes.iter().enumerate() {
         let Ok(place) = u32::try_from(k) else {
             return false;
         };
-        if k >= offered.lists.len() || !has_sizes(offered.lists.at(place), wanted) {
+        if k >= offered.lists.services(0) || !has_sizes(offered.lists.at(0, place), wanted) {
             return false;
         }
     }

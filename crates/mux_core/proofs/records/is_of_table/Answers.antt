@@ -4,4 +4,4 @@ use Rattle.mux_core.proofs.Signalled.{cycle_some}
 use Rattle.mux_core.proofs.records.is_of_table.Goals as goal
 
 pub nonzero_rem-result : goal.nonzero_rem-result
-nonzero_rem-result c = omega (arith, c.from.ensures, cycle_some (plan_fields c.args.plan.now) c.args.plan.now.valid c.args.slot)
+nonzero_rem-result c = omega (arith, c.from.ensures, cycle_some (plan_fields c.args.plan.now) c.args.plan.now.valid)

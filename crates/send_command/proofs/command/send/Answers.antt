@@ -1,4 +1,4 @@
-use Rattle.send_command.proofs.Taking.{reads_written, reads_nothing, reads_unheld}
+use Rattle.send_command.proofs.Taking.{reads_written}
 use Rattle.send_command.proofs.command.send.Goals as goal
 
 pub returns-in-Ok-clause-reads : goal.returns-in-Ok-clause-reads

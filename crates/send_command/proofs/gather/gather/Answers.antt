@@ -1,4 +1,4 @@
-use Rattle.std.proofs.Common.{inl, List, ℕ, Result, Err, append-nil, ◌+◌, [], ◌∷◌, ◌++◌, Some, None, Ok, ap, sym, ◌∙◌, subst, arith}
+use Rattle.std.proofs.Common.{inl, List, ℕ, Result, Err, append-nil, ◌+◌, [], ◌∷◌, ◌++◌, Some, None, Ok, ap, sym, ◌∙◌, subst}
 use Rattle.std.proofs.KnownBytes.{Consumes-trans}
 use Rattle.pcap_file.specs.Reader.{Takes, rest_of}
 use Rattle.pcap_file.proofs.Shown.{no_fault_in_head}

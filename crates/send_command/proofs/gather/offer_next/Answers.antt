@@ -1,4 +1,4 @@
-use Rattle.std.proofs.Common.{◌≡◌, List, ℕ, ◌+◌, [], ◌∷◌, ◌++◌, length, Option, Some, Ok, Err, IfSome, ap, sym, ◌∙◌, subst, option_copied}
+use Rattle.std.proofs.Common.{◌≡◌, ◌++◌, Some, Ok, Err, IfSome, ap, sym, ◌∙◌, subst, option_copied}
 use Rattle.pcap_file.specs.Told.{Tells}
 use Rattle.pcap_file.specs.Known.{ReaderState}
 use Rattle.pcap_file.specs.Reader.{Leaves, rest_of, state_after}

@@ -1,4 +1,4 @@
-use Rattle.std.proofs.Common.{◌≡◌, ℕ, List, [], ◌∷◌, length, true, ap, refl, arith, ◌∙◌}
+use Rattle.std.proofs.Common.{◌≡◌, ℕ, List, [], ◌∷◌, length, true, ap, refl, ◌∙◌}
 use Rattle.section_spec.specs.Section.{section_form}
 use Rattle.unit_stream.specs.Packing.{packetized}
 use Rattle.unit_stream.specs.Packers.{packets_left}
@@ -7,16 +7,15 @@ use Rattle.mux_core.proofs.int_packets.SectionPackets.new.Goals as goal
 
 pub invariant_of-result : goal.invariant_of-result
 invariant_of-result c = record {
-  ends_are = ap (λ (n : ℕ). n ∷ []) (omega (arith, c.len.ensures, c.args.section.ok.0));
+  ends_are = refl;
   some = c.requires.some;
-  way = c.new.ensures.on_way (c.len.result ∷ []);
+  way = c.with_counter.ensures.on_way (length c.args.section.now ∷ []);
 }
 
 pub returns : goal.returns
 returns c =
-    let section : List ℕ = c.args.section.items in
-    let ends_are : c.len.result ∷ [] ≡ length section ∷ [] = ap (λ (n : ℕ). n ∷ []) (omega (arith, c.len.ensures, c.args.section.ok.0)) in
-    let packets : packets_left section_form c.new.result section (c.len.result ∷ []) ≡ packetized section_form true c.args.pid 0 (section ∷ [])
-    = c.new.ensures.begins section (c.len.result ∷ [])
-    ∙ ap (λ (units : List (List ℕ)). packetized section_form true c.args.pid 0 units) (one_unit section (c.len.result ∷ []) ends_are) in
-    record { written = rw (packets, c.new.ensures.kept.0, c.new.ensures.kept.1, c.new.ensures.kept.2) refl }
+    let section : List ℕ = c.args.section.now in
+    let packets : packets_left section_form c.with_counter.result section (length section ∷ []) ≡ packetized section_form true c.args.pid c.args.counter (section ∷ [])
+    = c.with_counter.ensures.begins section (length section ∷ [])
+    ∙ ap (λ (units : List (List ℕ)). packetized section_form true c.args.pid c.args.counter units) (one_unit section (length section ∷ []) refl) in
+    record { written = rw (packets, c.with_counter.ensures.kept.0, c.with_counter.ensures.kept.1, c.with_counter.ensures.kept.2) refl }

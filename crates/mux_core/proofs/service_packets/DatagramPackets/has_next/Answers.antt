@@ -1,7 +1,6 @@
 use Rattle.std.proofs.Common.{◌∙◌, ℕ, List, length, ltb, ap, arith}
-use Rattle.ts_spec.specs.Packet.{PacketFields}
-use Rattle.unit_stream.specs.Packers.{packets_left}
 use Rattle.plan.specs.Parts.{kind_seen}
+use Rattle.mux_core.specs.Coming.{Coming}
 use Rattle.mux_core.specs.Units.{unit_bytes}
 use Rattle.mux_core.proofs.Reading.{last_end}
 use Rattle.mux_core.proofs.service_packets.DatagramPackets.has_next.Goals as goal
@@ -12,7 +11,6 @@ returns g c =
     record {
       read =
           c.has_next.ensures.next bytes
-          (omega (arith, last_end (kind_seen c.self.inside.service.now.kind) c.self.inside.service.now.unicast c.self.inside.datagrams.now c.deref.result.now (c.deref.ensures.value ∙ c.self.invariant.ends_are)))
-          ∙ ap (λ (ends : List ℕ). ltb 0 (length (packets_left g.F.UnitForm.form c.self.inside.packer bytes ends))) c.deref.ensures.value
-          ∙ ap (λ (ps : List PacketFields). ltb 0 (length ps)) c.self.view_is;
+          (omega (arith, last_end (kind_seen c.self.inside.service.now.kind) c.self.inside.service.now.unicast c.self.inside.datagrams.now c.self.inside.ends.now c.self.invariant.ends_are))
+          ∙ ap (λ (it : Coming). ltb 0 (length it.packets)) c.self.view_is;
     }

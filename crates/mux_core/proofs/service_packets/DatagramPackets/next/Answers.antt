@@ -2,8 +2,9 @@ use Rattle.std.proofs.Common.{◌≡◌, ◌≤◌, ◌<◌, ◌+◌, ◌-◌, �
 use Rattle.std.proofs.lemmas.List.{length-append, length-take-le}
 use borrow.Rule.Slice.PartMut.{mid_of}
 use Rattle.ts_spec.specs.Packet.{PacketFields}
-use Rattle.unit_stream.specs.Packers.{PackerState, IsOnWay, Writes, WritesAround, between, end_of, packets_left, with_bytes}
+use Rattle.unit_stream.specs.Packers.{PackerState, Writes, WritesAround, between, end_of, packets_left, with_bytes}
 use Rattle.plan.specs.Parts.{kind_seen}
+use Rattle.mux_core.specs.Coming.{Coming}
 use Rattle.mux_core.specs.Units.{unit_bytes}
 use Rattle.mux_core.specs.Reading.{bytes_left}
 use Rattle.mux_core.proofs.Reading.{carried_are, has_left, last_end, put_is}
@@ -19,12 +20,11 @@ length-room packet from size within = let k : from + size - from ≡ size = omeg
 pub unreachable-requires : goal.unreachable-requires
 unreachable-requires g c =
     let bytes : List ℕ = unit_bytes (kind_seen c.self.inside.service.now.kind) c.self.inside.service.now.unicast c.self.inside.datagrams.now in
-    let reach : end_of c.deref.result.now (length c.deref.result.now) ≤ length bytes
-    = omega (arith, last_end (kind_seen c.self.inside.service.now.kind) c.self.inside.service.now.unicast c.self.inside.datagrams.now c.deref.result.now (c.deref.ensures.value ∙ c.self.invariant.ends_are)) in
-    let none : Writes g.F.UnitForm.form c.self.inside.packer c.next_around.new.self bytes c.deref.result.now c.next_around.new.into false
-    = subst (WritesAround g.F.UnitForm.form c.self.inside.packer c.next_around.new.self bytes c.deref.result.now c.next_around.new.into) c.in_default.is (c.next_around.ensures.writes bytes reach) in
-    none_left (packets_left g.F.UnitForm.form c.self.inside.packer bytes c.self.inside.ends.items) c.args.self.now c.self.view_is c.requires
-    (subst (λ (ends : List ℕ). packets_left g.F.UnitForm.form c.self.inside.packer bytes ends ≡ []) c.deref.ensures.value none.0)
+    let reach : end_of c.self.inside.ends.now (length c.self.inside.ends.now) ≤ length bytes
+    = omega (arith, last_end (kind_seen c.self.inside.service.now.kind) c.self.inside.service.now.unicast c.self.inside.datagrams.now c.self.inside.ends.now c.self.invariant.ends_are) in
+    let none : Writes g.F.UnitForm.form c.self.inside.packer c.next_around.new.self bytes c.self.inside.ends.now c.next_around.new.into false
+    = subst (WritesAround g.F.UnitForm.form c.self.inside.packer c.next_around.new.self bytes c.self.inside.ends.now c.next_around.new.into) c.in_default.is (c.next_around.ensures.writes bytes reach) in
+    none_left (packets_left g.F.UnitForm.form c.self.inside.packer bytes c.self.inside.ends.now) c.args.self.now.packets (ap (λ (it : Coming). it.packets) c.self.view_is) c.requires none.0
 
 pub read-requires-clause-enough : goal.read-requires-clause-enough
 read-requires-clause-enough g c =
@@ -33,13 +33,13 @@ read-requires-clause-enough g c =
     omega (
       arith,
       room,
-      has_left g.F.UnitForm.START (kind_seen c.self.inside.service.now.kind) c.self.inside.service.now.unicast c.self.inside.datagrams.now c.self.inside.ends.items c.self.inside.units c.self.inside.packer
+      has_left g.F.UnitForm.START (kind_seen c.self.inside.service.now.kind) c.self.inside.service.now.unicast c.self.inside.datagrams.now c.self.inside.ends.now c.self.inside.units c.self.inside.packer
           c.self.invariant c.in-Some.room.size
           (omega (
             arith,
             c.in-Some.ensures.room.1,
             c.next_around.ensures.within,
-            last_end (kind_seen c.self.inside.service.now.kind) c.self.inside.service.now.unicast c.self.inside.datagrams.now c.deref.result.now (c.deref.ensures.value ∙ c.self.invariant.ends_are),
+            last_end (kind_seen c.self.inside.service.now.kind) c.self.inside.service.now.unicast c.self.inside.datagrams.now c.self.inside.ends.now c.self.invariant.ends_are,
           )),
     )
 
@@ -53,7 +53,7 @@ invariant_of-self g c =
       reading = c.read.ensures.reading;
       ends_are = c.self.invariant.ends_are;
       rising = c.self.invariant.rising;
-      way = subst (IsOnWay new) c.deref.ensures.value c.next_around.ensures.on_way;
+      way = c.next_around.ensures.on_way;
       before = c.self.invariant.before ++ c.read.new.into;
       before_is = omega (arith, length-append c.self.invariant.before c.read.new.into, c.self.invariant.before_is, size, c.in-Some.ensures.room.1);
       bytes_are =
@@ -71,10 +71,10 @@ returns g c =
     let packet : List ℕ = c.next_around.new.into in
     let piece : List ℕ = c.read.new.into in
     let from : ℕ = c.in-Some.room.from in
-    let reach : end_of c.deref.result.now (length c.deref.result.now) ≤ length bytes
-    = omega (arith, last_end (kind_seen c.self.inside.service.now.kind) c.self.inside.service.now.unicast c.self.inside.datagrams.now c.deref.result.now (c.deref.ensures.value ∙ c.self.invariant.ends_are)) in
-    let wrote : Writes g.F.UnitForm.form old new bytes c.self.inside.ends.items (with_bytes from (between bytes old.at new.at) packet) true
-    = subst (λ (ends : List ℕ). Writes g.F.UnitForm.form old new bytes ends (with_bytes from (between bytes old.at new.at) packet) true) c.deref.ensures.value (c.in-Some.ensures.writes bytes reach) in
+    let reach : end_of c.self.inside.ends.now (length c.self.inside.ends.now) ≤ length bytes
+    = omega (arith, last_end (kind_seen c.self.inside.service.now.kind) c.self.inside.service.now.unicast c.self.inside.datagrams.now c.self.inside.ends.now c.self.invariant.ends_are) in
+    let wrote : Writes g.F.UnitForm.form old new bytes c.self.inside.ends.now (with_bytes from (between bytes old.at new.at) packet) true
+    = c.in-Some.ensures.writes bytes reach in
     let size : length piece ≡ c.in-Some.room.size
     = c.read.auto.into ∙ length-room packet from c.in-Some.room.size (omega (arith, c.in-Some.ensures.room.0, c.next_around.array_long)) in
     let carried : between bytes old.at new.at ≡ piece
@@ -83,7 +83,13 @@ returns g c =
     record {
       next = (
         wrote.0,
-        sym c.self.view_is ∙ wrote.1,
+        sym (ap (λ (it : Coming). it.packets) c.self.view_is) ∙ wrote.1,
         put_is packet piece from (from + c.in-Some.room.size) c.in-Some.room.size refl size ∙ ap (λ (t : List ℕ). with_bytes from t packet) (sym carried) ∙ wrote.2,
+      );
+      behind = omega (
+        arith,
+        ap (λ (it : Coming). it.behind) c.self.view_is,
+        ap (λ (ps : List PacketFields). length ps) wrote.1,
+        c.in-Some.ensures.counter,
       );
     }

@@ -2,7 +2,7 @@ use Rattle.std.proofs.Common.{◌≡◌, ◌∙◌, ℕ, ◌-◌, List, length, 
 use Rattle.std.specs.Prelude.{find}
 use Rattle.std.specs.List.{range_with_len}
 use Rattle.std.proofs.lemmas.List.{length-map}
-use Rattle.mux_core.specs.Services.{packets_in, has_packets, Serving}
+use Rattle.mux_core.specs.Services.{packets_in, behind_in, has_packets, Serving}
 use Rattle.mux_core.specs.declared.service_packets.ServicePackets.{ServicePackets}
 use Rattle.mux_core.proofs.Turned.{turn_two, IsTurn, is_turn}
 use Rattle.mux_core.proofs.services.Services.turn.Goals as goal
@@ -11,7 +11,7 @@ pub returns-in-Some : goal.returns-in-Some
 returns-in-Some c =
     let items : List ServicePackets = c.self.inside.services.items in
     let first : ℕ = c.self.inside.first in
-    let serving : Serving = record { packets = map packets_in items; first = first } in
+    let serving : Serving = record { packets = map packets_in items; behind = map behind_in items; first = first } in
     let told : IsTurn c.args.self.now (Some c.in-Some.k) = subst (λ (s : Serving). IsTurn s (Some c.in-Some.k)) c.self.view_is
     (is_turn serving (Some c.in-Some.k) (omega (arith, c.self.invariant, length-map items packets_in))
     (turn_two items c.deref.result.now first c.len.result (Some c.in-Some.k) (find (has_packets (map packets_in items)) (range_with_len 0 first))
@@ -23,7 +23,7 @@ pub returns-in-None : goal.returns-in-None
 returns-in-None c =
     let items : List ServicePackets = c.self.inside.services.items in
     let first : ℕ = c.self.inside.first in
-    let serving : Serving = record { packets = map packets_in items; first = first } in
+    let serving : Serving = record { packets = map packets_in items; behind = map behind_in items; first = first } in
     let rest : Option ℕ = c.find_from-in-None.result in
     let none_off : first - 0 ≡ first = omega arith in
     let told : IsTurn c.args.self.now rest = subst (λ (s : Serving). IsTurn s rest) c.self.view_is

@@ -1,0 +1,163 @@
+-- The parts of the stream of what lists have, as they are begun.
+use Rattle.std.proofs.Common.{◌≡◌, ℕ, ◌+◌, ◌*◌, ◌/◌, ◌%◌, ◌<◌, ◌≤◌, min, true, List, [], length, take, get_or, refl, sym, ap, ◌∙◌, arith, subst, Option, Some, None, Ok, Err}
+use Rattle.std.specs.Prelude.{flat_map, sum_by, slice_get, slice_index, slice_index_or}
+use Rattle.std.specs.Io.KnownBytes.{Appends}
+use Rattle.wire_spec.specs.Lists.{joined}
+use Rattle.int_spec.specs.Table.{table_bytes}
+use Rattle.plan_spec.specs.Plan.{IntFields, PlanFields}
+use Rattle.plan_spec.specs.Changes.{plan_in, versions}
+use Rattle.plan_spec.specs.Signalling.{table_of, table_packets}
+use Rattle.plan_spec.specs.Built.{are_sent}
+use Rattle.plan_spec.specs.Wholes.{is_whole_plan}
+use Rattle.plan.specs.PlanView.{plan_fields}
+use Rattle.plan.specs.declared.plan.Plan.{Plan}
+use Rattle.stream_spec.specs.Parts.{PartFields, service_packets}
+use Rattle.stream_spec.specs.Stream.{earlier, part_of, IsPartCount, IsStream}
+use Rattle.stream_law.proofs.Streams.{there_is}
+use Rattle.stream_law.proofs.TableOnPid.{none_without}
+use Rattle.mux_core.specs.Slots.{IsPartOf, StandBefore}
+use Rattle.mux_core.specs.IntPackets.{IsTableAt}
+use Rattle.mux_core.specs.declared.int_packets.IntPackets.{IntPackets}
+use Rattle.mux_core.specs.PartUnits.{MadeUnits, AreUnitsOf}
+use Rattle.mux_core.specs.Services.{Serving, HasLists, Begins, counter_at}
+use Rattle.mux_core.specs.Sending.{AreDatagrams, AreUnits, WritesRecords}
+use Rattle.mux_core.proofs.Moved.{there_is as there_is_item}
+use Rattle.mux_core.proofs.Signalled.{section_some, few_packets}
+use Rattle.mux_core.proofs.Again.{counter_is}
+use Rattle.mux_core.proofs.Parted.{pieces, HasHanded, IsBehind, IsLastOf, part_is, part_begins, counter_behind}
+use Rattle.mux_core.proofs.Streamed.{has_lists, has_pids}
+
+-- how many slots the parts of the stream have
+abbrev pub slots_of : (plan : PlanFields) → is_whole_plan plan ≡ true → (ℕ → ℕ → List (List ℕ)) → ℕ → ℕ
+slots_of plan whole datagrams = (there_is plan datagrams whole).1.slots
+
+pub each_of : (plan : PlanFields) (whole : is_whole_plan plan ≡ true) (datagrams : ℕ → ℕ → List (List ℕ)) (version : ℕ) → version ≤ length plan.changes
+    → IsPartCount plan datagrams (slots_of plan whole datagrams) version
+each_of plan whole datagrams = (there_is plan datagrams whole).1.each
+
+-- what a part is sent from, at the place of its version
+pub unit_found : (units : List MadeUnits) (i version : ℕ) (made : MadeUnits) → i ≡ version → version < length units → made ≡ get_or units i made → slice_get units version ≡ Some made
+unit_found units i version made same less is =
+    there_is_item units version made less ∙ ap (λ (m : MadeUnits). Some m) (sym (is ∙ ap (λ (j : ℕ). get_or units j made) same))
+
+-- What is written.
+module _ (plan : PlanFields) (whole : is_whole_plan plan ≡ true) (datagrams : ℕ → ℕ → List (List ℕ)) (old new : Option (List ℕ)) where
+  abbrev stream : (records : List (List ℕ)) × IsStream plan datagrams records
+  stream = there_is plan datagrams whole
+
+  abbrev all : List (List ℕ)
+  all = flat_map (pieces plan datagrams (slots_of plan whole datagrams)) (versions plan)
+
+  pub writes_some : {E : Type 0} (e : E) → (m : ℕ) × Appends old new (take m (joined all)) → WritesRecords plan datagrams (Err e) old new
+  writes_some e some = record {
+    records = stream.0;
+    stream = stream.1;
+    written = (some.0, subst (λ (rs : List (List ℕ)). Appends old new (take some.0 (joined rs))) (sym stream.1.records_are) some.1);
+    packets = tt;
+  }
+
+  pub writes_all : {E : Type 0} (slot : ℕ) → Appends old new (joined all) → slot ≡ length all → WritesRecords {E = E} plan datagrams (Ok slot) old new
+  writes_all slot put count = record {
+    records = stream.0;
+    stream = stream.1;
+    written = subst (λ (rs : List (List ℕ)). Appends old new (joined rs)) (sym stream.1.records_are) put;
+    packets = count ∙ ap (λ (rs : List (List ℕ)). length rs) (sym stream.1.records_are);
+  }
+
+-- The parts.
+module _ (plan : Plan) (lists : List (List (List (List ℕ)))) (units : List MadeUnits) (are : AreUnits (plan_fields plan) lists units) where
+  abbrev fields : PlanFields
+  fields = plan_fields plan
+
+  -- the section of the INT of a version
+  module _ (version : ℕ) (within : version ≤ length (plan_fields plan).changes) (made : MadeUnits) (is : slice_get units version ≡ Some made) where
+    pub made_is : AreUnitsOf fields version (get_or lists version []) made
+    made_is = are.each version made is
+
+    pub section_there : (int : IntFields) → fields.table ≡ Some int → 0 < length made.section
+    section_there int table = section_some (plan_in fields version) int made.section (made_is.section_is int table)
+
+    pub few_at : (part : PartFields) (signals : IntPackets) → part.plan ≡ plan_in fields version → IsTableAt part 0 signals → signals.count ≤ 23
+    few_at part signals same at = by_table fields.table refl
+      where
+        count : signals.count ≡ table_packets (plan_in fields version)
+        count = at.count ∙ ap table_packets same
+
+        by_table : (table : Option IntFields) → fields.table ≡ table → signals.count ≤ 23
+        by_table None e = omega (arith, count, none_without (plan_in fields version) e)
+        by_table (Some int) e =
+            omega (
+              arith,
+              count,
+              few_packets (plan_in fields version) int e (omega (arith, made_is.short, ap (λ (bytes : List ℕ). length bytes) (made_is.section_is int e))),
+            )
+
+  module _ (datagrams : ℕ → ℕ → List (List ℕ)) (listed : AreDatagrams (plan_fields plan) datagrams lists) where
+    abbrev slots : ℕ → ℕ
+    slots = slots_of fields plan.whole datagrams
+
+    abbrev part : ℕ → PartFields
+    part version = part_of fields datagrams slots version
+
+    -- the services
+    pub first_begins : (serving : Serving) → ((p : PartFields) → HasLists fields 0 (get_or lists 0 []) (λ k. 0) p → Begins p serving) → Begins (part 0) serving
+    first_begins serving begun = begun (part 0) (has_lists fields datagrams lists listed slots 0 (λ k. 0) (omega arith) (λ k known. refl))
+
+    pub next_begins : (built : are_sent fields ≡ true) (before version : ℕ) → version ≡ before + 1 → version ≤ length fields.changes → (behind : List ℕ)
+        → ((k : ℕ) → k < length fields.services → slice_index behind k ≡ ((part before).packets_before k + length (slice_index_or (service_packets (part before)) k [])) % 16)
+        → (serving : Serving) → ((p : PartFields) → HasLists fields version (get_or lists version []) (counter_at fields version behind) p → Begins p serving) → Begins (part version) serving
+    next_begins built before version next within behind behind_is serving begun =
+        begun (part version) (has_lists fields datagrams lists listed slots version (counter_at fields version behind) within
+        (λ k known. subst (λ (v : ℕ). counter_at fields v behind k ≡ (part v).packets_before k % 16) (sym next)
+        (counter_is fields plan.whole datagrams slots k known (has_pids plan built k known) before (omega (arith, within, next)) behind (behind_is k known))))
+
+    -- the INT
+    module _ (last : ℕ) (last_is : IsLastOf (plan_fields plan) datagrams last) where
+      pub it_is : (version : ℕ) → version ≤ last → IsPartOf fields (part version)
+      it_is version le = part_is fields datagrams slots plan.whole (each_of fields plan.whole datagrams) last last_is version le
+
+      pub table_begins : (version : ℕ) (le : version ≤ last) (made : MadeUnits) → slice_get units version ≡ Some made → (counter : ℕ) (signals : IntPackets)
+          → ((int : IntFields) → fields.table ≡ Some int → counter ≡ (part version).table_before % 16)
+          → ((p : PartFields) → IsPartOf fields p → ((int : IntFields) → p.plan.table ≡ Some int → counter ≡ p.table_before % 16)
+          → ((int : IntFields) → p.plan.table ≡ Some int → made.section ≡ table_bytes (table_of p.plan int)) → IsTableAt p 0 signals)
+          → IsTableAt (part version) 0 signals
+      table_begins version le made is counter signals counter_so at =
+          at (part version) (it_is version le) counter_so (λ int table. (are.each version made is).section_is int table)
+
+      pub next_counter : (before version : ℕ) → version ≡ before + 1 → version ≤ last → (counter : ℕ)
+          → counter ≡ ((part before).table_before + (slots before / fields.cycle * table_packets (plan_in fields before) + min (slots before % fields.cycle) (table_packets (plan_in fields before)))) % 16
+          → counter ≡ (part version).table_before % 16
+      next_counter before version next le counter is =
+          counter_behind fields datagrams slots plan.whole (each_of fields plan.whole datagrams) last last_is before counter (omega (arith, next, le)) is
+          ∙ ap (λ (v : ℕ). (part v).table_before % 16) (sym next)
+
+      -- all stands before the first slot of a part
+      pub stands : (version : ℕ) (le : version ≤ last) (made : MadeUnits) → slice_get units version ≡ Some made → (counter slot : ℕ) (section : List ℕ) (signals : IntPackets) (serving : Serving)
+          → section ≡ made.section → ((int : IntFields) → fields.table ≡ Some int → counter ≡ (part version).table_before % 16)
+          → ((p : PartFields) → IsPartOf fields p → ((int : IntFields) → p.plan.table ≡ Some int → counter ≡ p.table_before % 16)
+          → ((int : IntFields) → p.plan.table ≡ Some int → section ≡ table_bytes (table_of p.plan int)) → IsTableAt p 0 signals)
+          → slot ≡ sum_by slots (earlier version) → Begins (part version) serving → StandBefore fields (part version) 0 slot serving signals
+      stands version le made is counter slot section signals serving section_is counter_so at slot_is begins =
+          part_begins fields datagrams slots plan.whole (each_of fields plan.whole datagrams) last last_is version slot serving signals le slot_is begins
+          (table_begins version le made is counter signals counter_so (λ p of_plan counted sections. at p of_plan counted (λ int table. section_is ∙ sections int table)))
+
+      -- and before that of the next
+      module _ (built : are_sent (plan_fields plan) ≡ true) (before version : ℕ) (next : version ≡ before + 1) (le : version ≤ last) (slot : ℕ) (old new : Option (List ℕ)) (back : List ℕ)
+          (old_serving serving : Serving) (old_signals signals : IntPackets)
+          (behind : IsBehind (plan_fields plan) datagrams (slots_of (plan_fields plan) plan.whole datagrams) before slot old new back old_serving old_signals)
+          (begun : (p : PartFields) → HasLists (plan_fields plan) version (get_or lists version []) (counter_at (plan_fields plan) version old_serving.behind) p → Begins p serving) where
+        pub next_begun : Begins (part version) serving
+        next_begun = next_begins built before version next (omega (arith, le, last_is.within)) old_serving.behind behind.behind serving begun
+
+        pub next_handed : HasHanded fields datagrams slots version slot old new back
+        next_handed = subst (λ (v : ℕ). HasHanded fields datagrams slots v slot old new back) (sym next) behind.handed
+
+        pub next_stands : (made : MadeUnits) → slice_get units version ≡ Some made → (counter : ℕ) (section : List ℕ) → section ≡ made.section
+            → ((p : PartFields) (place : ℕ) (int : IntFields) → p.plan.table ≡ Some int → IsTableAt p place old_signals
+            → counter ≡ (p.table_before + (place / p.plan.cycle * table_packets p.plan + min (place % p.plan.cycle) (table_packets p.plan))) % 16)
+            → ((p : PartFields) → IsPartOf fields p → ((int : IntFields) → p.plan.table ≡ Some int → counter ≡ p.table_before % 16)
+            → ((int : IntFields) → p.plan.table ≡ Some int → section ≡ table_bytes (table_of p.plan int)) → IsTableAt p 0 signals)
+            → StandBefore fields (part version) 0 slot serving signals
+        next_stands made is counter section section_is read at =
+            stands version le made is counter slot section signals serving section_is
+            (λ int table. next_counter before version next le counter (read (part before) (slots before) int table behind.stand.table)) at next_handed.slot_is next_begun

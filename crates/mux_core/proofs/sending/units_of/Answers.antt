@@ -1,0 +1,19 @@
+use Rattle.std.proofs.Common.{◌∙◌, List, length, get_or, [], ◌∷◌, ap, arith}
+use Rattle.std.proofs.lemmas.List.{length-map, length-append}
+use Rattle.plan.specs.Parts.{change_seen}
+use Rattle.plan.specs.PlanView.{plan_fields}
+use Rattle.stream_law.proofs.Wholes.{few_changes}
+use Rattle.mux_core.specs.PartUnits.{MadeUnits, AreUnitsOf}
+use Rattle.mux_core.proofs.Items.{each_pushed}
+use Rattle.mux_core.proofs.sending.units_of.Goals as goal
+
+pub overflow_cast-version-end : goal.overflow_cast-version-end
+overflow_cast-version-end c =
+    omega (arith, few_changes (plan_fields c.args.plan.now) c.args.plan.now.whole, c.requires.versions, c.versions-version-end.ensures.read, length-map c.args.plan.now.changes change_seen)
+
+pub loop-version-preserved : goal.loop-version-preserved
+loop-version-preserved c = record {
+  size = ap (λ (l : List MadeUnits). length l) c.in_ok-push.ensures.items ∙ length-append c.loop-version.units.items (c.in_ok-new.field-0 ∷ []) ∙ omega (arith, c.loop-version.invariant.size);
+  each = each_pushed (λ version (made : MadeUnits). AreUnitsOf (plan_fields c.args.plan.now) version (get_or c.args.lists.now version []) made) c.loop-version.units.items c.push.new.self.items c.in_ok-new.field-0 c.loop-version.version
+      c.loop-version.invariant.size c.in_ok-push.ensures.items c.loop-version.invariant.each c.in_ok-new.ensures.made;
+}
