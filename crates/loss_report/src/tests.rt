@@ -5,7 +5,7 @@ use addr_rules::{Rule, parse_rule};
 use ip_datagram::IpAddress;
 use std::test::Fail;
 
-/// Two services and a table: an MPE-FEC service of which 56 packets were lost in a row, and a ULE service that lost none.
+/// Two services, a table and a version: an MPE-FEC service of which 56 packets were lost in a row, and a ULE service that lost none.
 const REALISTIC: &[u8] = b"scope,name,value
 stream,records,1817
 stream,tail_bytes,0
@@ -40,6 +40,7 @@ files,rows_left,0
 files,datagrams,100
 table,units,1
 table,refused,0
+table,version,31
 rule,239.1.0.0/16,1
 rule,239.2.0.0/16,2
 ";
@@ -120,6 +121,7 @@ fn a_whole_report_is_printed(rt: HostRuntime) -> Result<(), Fail> {
     report.add_service("lecture", lecture)?;
     report.add_service("files", files)?;
     report.add_table(1, 0)?;
+    report.add_version(31)?;
     report.add_rule(&v4([239, 1, 0, 0], 16), 1)?;
     report.add_rule(&v4([239, 2, 0, 0], 16), 2)?;
     let text = report.text(rt.alloc())?;
