@@ -1,7 +1,9 @@
-pub mod Passing
-pub mod Pids
-pub mod Pairs
+pub mod Laws
+pub mod Counted
+pub mod OnPids
+pub mod PlacesFrom
+pub mod One
 pub mod Whole
+pub mod OnePacket
 pub mod Numbers
 pub mod Opened
-pub mod PlacesFrom

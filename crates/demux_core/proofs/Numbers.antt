@@ -1,5 +1,5 @@
 -- The numbers of the stream, one record more.
-use Rattle.std.proofs.Common.{◌≡◌, ℕ, ◌+◌, ◌-◌, ◌^◌, ◌<◌, Bool, true, false, cond, ◌&&◌, ◌||◌, Option, None, Some, List, [], ◌∷◌, ◌++◌, length, refl, ap, ap₂, sym, ◌∙◌, subst, arith}
+use Rattle.std.proofs.Common.{◌≡◌, ℕ, suc, ◌+◌, ◌-◌, ◌^◌, ◌<◌, ◌≤◌, Bool, true, false, cond, ◌&&◌, ◌||◌, Option, None, Some, List, [], ◌∷◌, ◌++◌, length, refl, ap, ap₂, sym, ◌∙◌, subst, arith}
 use Rattle.std.specs.Prelude.{◌==◌, not, min, is_some, is_none, count_by}
 use Rattle.std.proofs.lemmas.List.{length_push}
 use Rattle.std.proofs.lemmas.List.Sums.{sum_by_push, count_by-le-length}
@@ -7,16 +7,17 @@ use Rattle.ts_spec.specs.Packet.{fields_of, is_packet, lacks_sync, is_marked, ha
 use Rattle.ts_spec.specs.Recording.{Record}
 use Rattle.plan_spec.specs.Plan.{PlanFields}
 use Rattle.reception_spec.specs.Packets.{is_without_payload, is_pid_of, is_unreadable, lacks_content, is_other, is_on}
-use Rattle.reception_spec.specs.Numbers.{stream_numbers}
+use Rattle.reception_spec.specs.Spans.{version_at_end, version_at_place}
 use Rattle.reception_spec.specs.Delivered.{pairs_of_record}
+use Rattle.reception_spec.specs.Sums.{others_from, stream_numbers}
+use Rattle.plan_spec.specs.Changes.{plan_in}
 use Rattle.loss_report.specs.declared.counts.StreamCounts.{StreamCounts}
 use Rattle.demux_core.specs.Counts.{stream_counts_of}
 use Rattle.demux_core.specs.Services.{HaveAllReceived}
 use Rattle.demux_core.specs.declared.service.ServiceReceiver.{ServiceReceiver}
 use Rattle.demux_core.specs.declared.table.TableReceiver.{TableReceiver}
-use Rattle.demux_core.proofs.Passing.{int_passes}
-use Rattle.demux_core.proofs.Pids.{Misses, all_pass}
-use Rattle.demux_core.proofs.Pairs.{no_pairs}
+use Rattle.demux_core.proofs.Laws.{Laws}
+use Rattle.demux_core.proofs.Whole.{Misses, all_passed, nothing_given}
 
 -- Which record is counted where.
 
@@ -119,7 +120,23 @@ counts a u w o = record { records = a; tail_bytes = 0; unreadable = u; without_p
 abbrev pub raised_to : ℕ → ℕ → Type 0
 raised_to n old = n ≡ min (old + 1) (2 ^ 64 - 1)
 
-module _ (plan : PlanFields) (records : List Record) (r : Record) (s : StreamCounts) (are : s ≡ stream_counts_of (stream_numbers plan records)) (few : s.records < 2 ^ 32) where
+-- there are no more packets of other PIDs than records
+few_others : (plan : PlanFields) (all : List Record) (place : ℕ) (records : List Record) → others_from plan all place records ≤ length records
+few_others plan all place [] = omega arith
+few_others plan all place (r ∷ records) = by_test (is_other (plan_in plan (version_at_place plan all place)) r) (few_others plan all (place + 1) records)
+  where
+    by_test : (b : Bool) → others_from plan all (place + 1) records ≤ length records → cond b 1 0 + others_from plan all (place + 1) records ≤ suc (length records)
+    by_test true later = omega (arith, later)
+    by_test false later = omega (arith, later)
+
+module _ (plan : PlanFields) (laws : Laws plan) (records : List Record) (r : Record) (s : StreamCounts) (are : s ≡ stream_counts_of (stream_numbers plan records)) (few : s.records < 2 ^ 32) where
+  -- the plan that is in force
+  abbrev now : PlanFields
+  now = plan_in plan (version_at_end plan records)
+
+  abbrev others : List Record → ℕ
+  others all = others_from plan all 0 all
+
   pub count_is : s.records ≡ length records
   count_is = ap (λ (t : StreamCounts). t.records) are
 
@@ -140,7 +157,7 @@ module _ (plan : PlanFields) (records : List Record) (r : Record) (s : StreamCou
   longer : s.records + 1 ≡ length (records ++ r ∷ [])
   longer = ap (λ (n : ℕ). n + 1) count_is ∙ sym (length_push records r)
 
-  together : (a t u w o : ℕ) → a ≡ length (records ++ r ∷ []) → t ≡ 0 → u ≡ count_by is_unreadable (records ++ r ∷ []) → w ≡ count_by lacks_content (records ++ r ∷ []) → o ≡ count_by (is_other plan) (records ++ r ∷ [])
+  together : (a t u w o : ℕ) → a ≡ length (records ++ r ∷ []) → t ≡ 0 → u ≡ count_by is_unreadable (records ++ r ∷ []) → w ≡ count_by lacks_content (records ++ r ∷ []) → o ≡ others (records ++ r ∷ [])
       → record { records = a; tail_bytes = t; unreadable = u; without_payload = w; other = o } ≡ stream_counts_of (stream_numbers plan (records ++ r ∷ []))
   together a t u w o ea et eu ew eo =
       ap₂ (λ (x y : ℕ). record { records = x; tail_bytes = y; unreadable = u; without_payload = w; other = o }) ea et
@@ -156,53 +173,60 @@ module _ (plan : PlanFields) (records : List Record) (r : Record) (s : StreamCou
   without_are : s.without_payload ≡ count_by lacks_content records
   without_are = ap (λ (t : StreamCounts). t.without_payload) are
 
-  other_are : s.other ≡ count_by (is_other plan) records
+  other_are : s.other ≡ others records
   other_are = ap (λ (t : StreamCounts). t.other) are
 
-  pub unreadable_more : (n : ℕ) → raised_to n s.unreadable → IsCountedAs plan r true false false
+  other_kept : is_other now r ≡ false → s.other ≡ others (records ++ r ∷ [])
+  other_kept off =
+      let same : others records ≡ others records + 0 = omega arith in
+      other_are ∙ same ∙ ap (λ (b : Bool). others records + cond b 1 0) (sym off) ∙ sym (laws.other_more records r)
+
+  other_raised : (n : ℕ) → raised_to n s.other → is_other now r ≡ true → n ≡ others (records ++ r ∷ [])
+  other_raised n raised own =
+      let less : s.other < 2 ^ 32 = omega (arith, other_are, few_others plan records 0 records, few_records) in
+      let next : min (s.other + 1) (2 ^ 64 - 1) ≡ s.other + 1 = grind (arith, less) in
+      raised ∙ next ∙ ap (λ (t : ℕ). t + 1) other_are ∙ ap (λ (b : Bool). others records + cond b 1 0) (sym own) ∙ sym (laws.other_more records r)
+
+  pub unreadable_more : (n : ℕ) → raised_to n s.unreadable → IsCountedAs now r true false false
       → record { records = s.records + 1; tail_bytes = s.tail_bytes; unreadable = n; without_payload = s.without_payload; other = s.other } ≡ stream_counts_of (stream_numbers plan (records ++ r ∷ []))
   unreadable_more n raised told = together (s.records + 1) s.tail_bytes n s.without_payload s.other longer no_tail
       (raised_is n s.unreadable is_unreadable raised unreadable_are told.unreadable_is)
       (kept_is s.without_payload lacks_content without_are told.without_is)
-      (kept_is s.other (is_other plan) other_are told.other_is)
+      (other_kept told.other_is)
 
-  pub without_more : (n : ℕ) → raised_to n s.without_payload → IsCountedAs plan r false true false
+  pub without_more : (n : ℕ) → raised_to n s.without_payload → IsCountedAs now r false true false
       → record { records = s.records + 1; tail_bytes = s.tail_bytes; unreadable = s.unreadable; without_payload = n; other = s.other } ≡ stream_counts_of (stream_numbers plan (records ++ r ∷ []))
   without_more n raised told = together (s.records + 1) s.tail_bytes s.unreadable n s.other longer no_tail
       (kept_is s.unreadable is_unreadable unreadable_are told.unreadable_is)
       (raised_is n s.without_payload lacks_content raised without_are told.without_is)
-      (kept_is s.other (is_other plan) other_are told.other_is)
+      (other_kept told.other_is)
 
-  pub other_more : (n : ℕ) → raised_to n s.other → IsCountedAs plan r false false true
+  pub other_more : (n : ℕ) → raised_to n s.other → IsCountedAs now r false false true
       → record { records = s.records + 1; tail_bytes = s.tail_bytes; unreadable = s.unreadable; without_payload = s.without_payload; other = n } ≡ stream_counts_of (stream_numbers plan (records ++ r ∷ []))
   other_more n raised told = together (s.records + 1) s.tail_bytes s.unreadable s.without_payload n longer no_tail
       (kept_is s.unreadable is_unreadable unreadable_are told.unreadable_is)
       (kept_is s.without_payload lacks_content without_are told.without_is)
-      (raised_is n s.other (is_other plan) raised other_are told.other_is)
+      (other_raised n raised told.other_is)
 
-  pub records_more : IsCountedAs plan r false false false
+  pub records_more : IsCountedAs now r false false false
       → record { records = s.records + 1; tail_bytes = s.tail_bytes; unreadable = s.unreadable; without_payload = s.without_payload; other = s.other } ≡ stream_counts_of (stream_numbers plan (records ++ r ∷ []))
   records_more told = together (s.records + 1) s.tail_bytes s.unreadable s.without_payload s.other longer no_tail
       (kept_is s.unreadable is_unreadable unreadable_are told.unreadable_is)
       (kept_is s.without_payload lacks_content without_are told.without_is)
-      (kept_is s.other (is_other plan) other_are told.other_is)
+      (other_kept told.other_is)
 
 -- All receivers.
 
-misses_none : (r : Record) → IsOnNone r → (receivers : List ServiceReceiver) → Misses r receivers
-misses_none r none [] = tt
-misses_none r none (receiver ∷ receivers) = (none receiver.pid, misses_none r none receivers)
+pub misses_none : (r : Record) → IsOnNone r → (receivers : List ServiceReceiver) → Misses r receivers
+misses_none r none receivers = λ k receiver found. none receiver.pid
 
-pub all_miss : (plan : PlanFields) (receivers : List ServiceReceiver) (table : Option TableReceiver) (records : List Record) (r : Record) → IsOnNone r
+pub all_miss : (plan : PlanFields) (laws : Laws plan) (receivers : List ServiceReceiver) (table : Option TableReceiver) (records : List Record) (r : Record) → IsOnNone r
     → HaveAllReceived plan receivers table records → HaveAllReceived plan receivers table (records ++ r ∷ [])
-all_miss plan receivers table records r none all = record {
-  services = all_pass plan.services receivers records r (misses_none r none receivers) all.services;
-  int = int_passes plan.table table records r (λ pid own. none pid) all.int;
-}
+all_miss plan laws receivers table records r none all = all_passed plan laws receivers table records r all (λ pid own. none pid) (misses_none r none receivers)
 
-pub none_given : (plan : PlanFields) (receivers : List ServiceReceiver) (table : Option TableReceiver) (records : List Record) (r : Record) → IsOnNone r
+pub none_given : (plan : PlanFields) (laws : Laws plan) (receivers : List ServiceReceiver) (table : Option TableReceiver) (records : List Record) (r : Record) → IsOnNone r
     → HaveAllReceived plan receivers table records → pairs_of_record plan (records ++ r ∷ []) (length records) ≡ []
-none_given plan receivers table records r none all = no_pairs 0 plan.services receivers records r (misses_none r none receivers) all.services
+none_given plan laws receivers table records r none all = nothing_given plan laws receivers table records r all (misses_none r none receivers)
 
 -- the same under equal plans, receivers and records
 pub all_along : (a b : PlanFields) (xs ys : List ServiceReceiver) (table : Option TableReceiver) (rs ss : List Record) → a ≡ b → xs ≡ ys → rs ≡ ss

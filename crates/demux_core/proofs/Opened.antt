@@ -1,17 +1,22 @@
 -- A receiver that was given nothing, and what holds of its plan.
-use Rattle.std.proofs.Common.{◌≡◌, ℕ, zero, suc, ◌+◌, ◌≤◌, Bool, true, false, ◌&&◌, ◌||◌, Some, List, [], ◌∷◌, ◌++◌, length, map, take, drop, refl, ap, sym, ◌∙◌, subst, arith}
-use Rattle.std.specs.Prelude.{not, nat_le, slice_get}
+use Rattle.std.proofs.Common.{◌≡◌, ℕ, zero, suc, ◌+◌, Bool, true, false, ◌&&◌, ◌||◌, Some, List, [], ◌∷◌, ◌++◌, length, map, take, drop, get_or, refl, ap, sym, ◌∙◌, subst, arith}
+use Rattle.std.specs.Prelude.{◌==◌, not, slice_get}
 use Rattle.std.specs.List.{list_all}
-use Rattle.std.proofs.lemmas.Bool.{leb-true}
+use Rattle.std.proofs.lemmas.Bool.{eqb-true}
 use Rattle.std.proofs.lemmas.List.{map_push}
-use Rattle.ts_spec.specs.Recording.{Record}
-use Rattle.plan_spec.specs.Plan.{ServiceFields, PlanFields, is_baseband}
-use Rattle.plan_spec.specs.Checks.{has_wrong_carrier, has_same_name, has_same_pid, is_between}
-use Rattle.plan_spec.specs.Valid.{most_services, is_valid_frame_size, is_valid_int, has_valid_top, is_in_range, is_consistent, is_plan_of_settings, is_plan_of_pid, is_plan}
+use Rattle.plan_spec.specs.Plan.{KindFields, ule, mpe, fec, gse, ServiceFields, PlanFields, pid_of}
+use Rattle.plan_spec.specs.Checks.{has_wrong_carrier, has_same_name, has_same_pid}
+use Rattle.plan_spec.specs.Changes.{with_pid, on_pid, no_service, pid_in, has_wrong_change}
+use Rattle.plan_spec.specs.Valid.{is_in_range, is_consistent, is_plan_of_pid}
+use Rattle.plan_spec.specs.Wholes.{has_valid_changes, is_whole_of_settings, is_whole_of_pid, is_whole_plan}
+use Rattle.plan_law.proofs.Alone.{right_alone}
 use Rattle.plan.specs.Parts.{kind_seen, service_seen}
 use Rattle.plan.specs.declared.service.Service.{Service}
 use Rattle.plan_spec.specs.Built.{is_received}
-use Rattle.demux_core.specs.Services.{HasReceivedOne, HaveReceived}
+use Rattle.reception_spec.specs.Numbers.{no_numbers}
+use Rattle.reception_law.specs.Sums.{no_units, numbers_before, unit_numbers_before}
+use Rattle.demux_core.specs.Services.{IsReception, HaveReceived}
+use Rattle.demux_core.specs.Opening.{IsOpened, AreOpened}
 use Rattle.demux_core.specs.declared.service.ServiceReceiver.{ServiceReceiver}
 
 -- What holds of a plan.
@@ -24,35 +29,33 @@ not_true : (a : Bool) → not a ≡ true → a ≡ false
 not_true true e = absurd (cc)
 not_true false e = refl
 
-one_of_two : (a b c d x y : Bool) → ((((c && x) && (d && a))) || ((c && y) && (d && b))) ≡ true → (c ≡ true) × (d ≡ true)
-one_of_two a b true true x y e = (refl, refl)
-one_of_two a b false d x y e = absurd (cc)
-one_of_two a b true false x y e = absurd (neither x y e)
+no_item : {X : Type 0} (xs : List X) → length xs ≡ 0 → xs ≡ []
+no_item [] none = refl
+no_item (x ∷ xs) none = absurd (omega (arith, none))
+
+right_of_settings : (plan : PlanFields) → is_whole_of_settings plan ≡ true → has_wrong_change plan ≡ false
+unfolding is_whole_of_settings
+right_of_settings plan whole =
+    let changes = (both (plan.version == 0) _ whole).1 in
+    let right = (both (has_valid_changes plan) _ changes).1 in
+    not_true (has_wrong_change plan) (both (not (has_wrong_change plan)) _ right).0
+
+right_of_pid : (plan : PlanFields) → is_whole_of_pid plan ≡ true → has_wrong_change plan ≡ false
+unfolding is_whole_of_pid is_plan_of_pid is_consistent
+right_of_pid plan whole =
+    let first = both (plan.version == 0) ((length plan.changes == 0) && is_plan_of_pid plan) whole in
+    let none = both (length plan.changes == 0) (is_plan_of_pid plan) first.1 in
+    let consistent = (both (is_consistent plan) _ (both (is_in_range 0 plan) _ none.1).1).0 in
+    let differ = (both (not (has_same_pid plan)) _ (both (not (has_same_name plan)) _ (both (not (has_wrong_carrier plan)) _ consistent).1).1).0 in
+    right_alone plan (eqb-true plan.version 0 first.0) (no_item plan.changes (eqb-true (length plan.changes) 0 none.0)) (not_true (has_same_pid plan) differ)
+
+-- what changes it is right
+pub right_changes : (plan : PlanFields) → is_whole_plan plan ≡ true → has_wrong_change plan ≡ false
+right_changes plan whole = by_kind (is_whole_of_settings plan) refl
   where
-    neither : (s t : Bool) → ((s && false) || (t && false)) ≡ true → ⊥
-    neither true true h = cc
-    neither true false h = cc
-    neither false true h = cc
-    neither false false h = cc
-
-top_and_whole : (plan : PlanFields) → is_plan plan ≡ true → (has_valid_top plan ≡ true) × (is_consistent plan ≡ true)
-unfolding is_plan_of_settings is_plan_of_pid is_in_range
-top_and_whole plan valid = one_of_two _ _ (has_valid_top plan) (is_consistent plan) _ _ valid
-
-few_by : (bb : Bool) (n : ℕ) → is_between 1 (most_services bb) n ≡ true → n ≤ 64
-few_by true n e = omega (arith, leb-true n 16 (both (nat_le 1 n) (nat_le n 16) e).1)
-few_by false n e = omega (arith, leb-true n 64 (both (nat_le 1 n) (nat_le n 64) e).1)
-
-pub few_services : (plan : PlanFields) → is_plan plan ≡ true → length plan.services ≤ 64
-unfolding has_valid_top
-few_services plan valid =
-    few_by (is_baseband plan) (length plan.services) (both (is_between 1 (most_services (is_baseband plan)) (length plan.services)) _
-    (both (is_valid_int plan.table) _ (both (is_valid_frame_size plan.frame_bytes) _
-    (both (is_between 100 1000000 plan.cycle) _ (both (is_between 1 1000000 plan.packet_rate) _ (top_and_whole plan valid).0).1).1).1).1).0
-
-pub pids_differ : (plan : PlanFields) → is_plan plan ≡ true → has_same_pid plan ≡ false
-unfolding is_consistent
-pids_differ plan valid = not_true (has_same_pid plan) (both (not (has_same_pid plan)) _ (both (not (has_same_name plan)) _ (both (not (has_wrong_carrier plan)) _ (top_and_whole plan valid).1).1).1).0
+    by_kind : (b : Bool) → is_whole_of_settings plan ≡ b → has_wrong_change plan ≡ false
+    by_kind true is = right_of_settings plan is
+    by_kind false is = right_of_pid plan (ap (λ (b : Bool). b || is_whole_of_pid plan) (sym is) ∙ whole)
 
 -- Services.
 
@@ -69,32 +72,69 @@ built_seen [] = refl
 built_seen (s ∷ services) = ap (λ (b : Bool). is_received (kind_seen s.kind) && b) (built_seen services)
 
 -- one receiver more
-have_push : (services : List ServiceFields) (receivers : List ServiceReceiver) (it : ServiceFields) (receiver : ServiceReceiver) (records : List Record)
-    → HaveReceived services receivers records → HasReceivedOne it receiver records → HaveReceived (services ++ it ∷ []) (receivers ++ receiver ∷ []) records
-have_push [] [] it receiver records all has = (has, tt)
-have_push [] (r ∷ receivers) it receiver records all has = absurd all
-have_push (s ∷ services) [] it receiver records all has = absurd all
-have_push (s ∷ services) (r ∷ receivers) it receiver records all has = (all.0, have_push services receivers it receiver records all.1 has)
+opened_push : (services : List ServiceFields) (receivers : List ServiceReceiver) (it : ServiceFields) (receiver : ServiceReceiver)
+    → AreOpened services receivers → IsOpened it receiver → AreOpened (services ++ it ∷ []) (receivers ++ receiver ∷ [])
+opened_push [] [] it receiver all is = (is, tt)
+opened_push [] (r ∷ receivers) it receiver all is = absurd all
+opened_push (s ∷ services) [] it receiver all is = absurd all
+opened_push (s ∷ services) (r ∷ receivers) it receiver all is = (all.0, opened_push services receivers it receiver all.1 is)
 
 take_next : (services : List Service) (k : ℕ) (it : Service) → slice_get services k ≡ Some it → take (suc k) services ≡ take k services ++ it ∷ []
 take_next [] k it found = absurd (cc)
 take_next (s ∷ services) zero it found = let same : s ≡ it = cc in ap (λ (t : Service). t ∷ []) same
 take_next (s ∷ services) (suc k) it found = ap (λ (t : List Service). s ∷ t) (take_next services k it found)
 
-pub have_next : (services : List Service) (receivers : List ServiceReceiver) (k : ℕ) (it : Service) (receiver : ServiceReceiver) → slice_get services k ≡ Some it
-    → HaveReceived (map service_seen (take k services)) receivers [] → HasReceivedOne (service_seen it) receiver []
-    → HaveReceived (map service_seen (take (k + 1) services)) (receivers ++ receiver ∷ []) []
-have_next services receivers k it receiver found all has =
+pub opened_next : (services : List Service) (receivers : List ServiceReceiver) (k : ℕ) (it : Service) (receiver : ServiceReceiver) → slice_get services k ≡ Some it
+    → AreOpened (map service_seen (take k services)) receivers → IsOpened (service_seen it) receiver
+    → AreOpened (map service_seen (take (k + 1) services)) (receivers ++ receiver ∷ [])
+opened_next services receivers k it receiver found all is =
     let number : k + 1 ≡ suc k = omega arith in
-    subst (λ (t : List ServiceFields). HaveReceived t (receivers ++ receiver ∷ []) [])
+    subst (λ (t : List ServiceFields). AreOpened t (receivers ++ receiver ∷ []))
     (sym (ap (λ (n : ℕ). map service_seen (take n services)) number ∙ ap (map service_seen) (take_next services k it found) ∙ map_push service_seen (take k services) it))
-    (have_push (map service_seen (take k services)) receivers (service_seen it) receiver [] all has)
+    (opened_push (map service_seen (take k services)) receivers (service_seen it) receiver all is)
 
-pub as_many : (services : List ServiceFields) (receivers : List ServiceReceiver) (records : List Record) → HaveReceived services receivers records → length receivers ≡ length services
-as_many [] [] records all = refl
-as_many [] (r ∷ receivers) records all = absurd all
-as_many (s ∷ services) [] records all = absurd all
-as_many (s ∷ services) (r ∷ receivers) records all = ap suc (as_many services receivers records all.1)
+pub as_many : (services : List ServiceFields) (receivers : List ServiceReceiver) → AreOpened services receivers → length receivers ≡ length services
+as_many [] [] all = refl
+as_many [] (r ∷ receivers) all = absurd all
+as_many (s ∷ services) [] all = absurd all
+as_many (s ∷ services) (r ∷ receivers) all = ap suc (as_many services receivers all.1)
+
+opened_at : (services : List ServiceFields) (receivers : List ServiceReceiver) (k : ℕ) (receiver : ServiceReceiver) → AreOpened services receivers
+    → slice_get receivers k ≡ Some receiver → IsOpened (get_or services k no_service) receiver
+opened_at [] [] k receiver all found = absurd (cc)
+opened_at [] (r ∷ receivers) k receiver all found = absurd all
+opened_at (s ∷ services) [] k receiver all found = absurd all
+opened_at (s ∷ services) (r ∷ receivers) zero receiver all found =
+    let same : r ≡ receiver = cc in
+    subst (λ (t : ServiceReceiver). IsOpened s t) same all.0
+opened_at (s ∷ services) (r ∷ receivers) (suc k) receiver all found = opened_at services receivers k receiver all.1 found
+
+-- on its own PID a service is itself
+same_kind : (kind : KindFields) (pid : ℕ) → pid_of kind ≡ Some pid → with_pid kind pid ≡ kind
+same_kind (ule own address packing) pid is = let same : pid ≡ own = cc in ap (λ (p : ℕ). ule p address packing) same
+same_kind (mpe own) pid is = let same : pid ≡ own = cc in ap mpe same
+same_kind (fec own rows parity window) pid is = let same : pid ≡ own = cc in ap (λ (p : ℕ). fec p rows parity window) same
+same_kind (gse isi address) pid is = absurd (cc)
+
+same_service : (it : ServiceFields) (pid : ℕ) → pid_of it.kind ≡ Some pid → on_pid it pid ≡ it
+same_service it pid is = ap (λ (kind : KindFields). record it { kind = kind }) (same_kind it.kind pid is)
+
+-- receivers that were given nothing, under a plan
+pub received_nothing : (plan : PlanFields) (receivers : List ServiceReceiver) → ((k pid : ℕ) → numbers_before plan k pid [] ≡ no_numbers)
+    → ((k pid : ℕ) → unit_numbers_before plan k pid [] ≡ no_units) → AreOpened plan.services receivers → HaveReceived plan 0 receivers []
+unfolding pid_in
+received_nothing plan receivers none no_unit all = record {
+  count_is = as_many plan.services receivers all;
+  each = λ k receiver found.
+      let it : ServiceFields = get_or plan.services k no_service in
+      let opened : IsOpened it receiver = opened_at plan.services receivers k receiver all found in
+      record {
+        pid_is = opened.pid_is;
+        reception = subst (λ (t : ServiceFields). IsReception t receiver.reception []) (sym (same_service it receiver.pid opened.pid_is)) opened.reception;
+        before_on_pid = opened.before_on_pid ∙ sym (none k receiver.pid);
+        before_of_units = opened.before_of_units ∙ sym (no_unit k receiver.pid);
+      };
+}
 
 drop_next : (services : List Service) (k : ℕ) (it : Service) → slice_get services k ≡ Some it → drop k services ≡ it ∷ drop (suc k) services
 drop_next [] k it found = absurd (cc)

@@ -1,8 +1,10 @@
 -- The counts of a report, as numbers of a reception.
-use Rattle.std.specs.Prelude.{List}
+use Rattle.std.specs.Prelude.{ℕ, List}
 use Rattle.ts_spec.specs.Recording.{Record}
-use Rattle.plan_spec.specs.Plan.{ServiceFields}
-use Rattle.reception_spec.specs.Numbers.{StreamNumbers, PidNumbers, service_pid_numbers, units_of, UnitNumbers, unit_numbers}
+use Rattle.wire_spec.specs.Causes.{raised}
+use Rattle.plan_spec.specs.Plan.{PlanFields}
+use Rattle.reception_spec.specs.Numbers.{PidNumbers, UnitNumbers}
+use Rattle.reception_spec.specs.Sums.{StreamNumbers, numbers_of, unit_numbers_of}
 use Rattle.loss_report.specs.declared.counts.StreamCounts.{StreamCounts}
 use Rattle.loss_report.specs.declared.counts.ServiceCounts.{ServiceCounts}
 
@@ -34,5 +36,21 @@ service_counts_of on_pid of_units = record {
   datagrams = of_units.datagrams;
 }
 
-abbrev pub counts_of_service : ServiceFields → List Record → ServiceCounts
-counts_of_service service records = service_counts_of (service_pid_numbers service records) (unit_numbers service (units_of service records))
+-- of service k of a plan, over all its spans
+abbrev pub counts_of_service : PlanFields → ℕ → List Record → ServiceCounts
+counts_of_service plan k records = service_counts_of (numbers_of plan k records) (unit_numbers_of plan k records)
+
+-- Sums of counters, which stand still at the last value of a u64.
+abbrev pub raised_numbers : PidNumbers → PidNumbers → PidNumbers
+raised_numbers a b = record {
+  heard = raised a.heard b.heard;
+  repeats = raised a.repeats b.repeats;
+  gaps = raised a.gaps b.gaps;
+  units = raised a.units b.units;
+  bad_check = raised a.bad_check b.bad_check;
+  delimited = raised a.delimited b.delimited;
+  bad_length = raised a.bad_length b.bad_length;
+}
+
+abbrev pub raised_units : UnitNumbers → UnitNumbers → UnitNumbers
+raised_units a b = record { unread = raised a.unread b.unread; filtered = raised a.filtered b.filtered; datagrams = raised a.datagrams b.datagrams }

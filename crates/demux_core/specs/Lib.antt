@@ -2,5 +2,7 @@ pub mod Outlets
 pub mod Counts
 pub mod Contents
 pub mod Services
+pub mod Opening
+pub mod Moving
 pub mod Places
 pub mod Receiving

@@ -47,6 +47,25 @@ fn set_places(places: &mut [u8], receivers: &[ServiceReceiver<'_>])
     }
 }
 
+/// Clears the entries of all PIDs.
+fn clear_places(places: &mut [u8])
+    ensures size { length places.new ≡ length places.old }
+    ensures none { (asked : ℕ) → asked < length places.old → place_in places.new asked ≡ None }
+{
+    places.fill(NO_SERVICE);
+}
+
+/// Makes a table anew that of these receivers, whatever it was: no PID that they left has an entry.
+pub(crate) fn renew_places(places: &mut [u8], receivers: &[ServiceReceiver<'_>])
+    requires few { length receivers.now ≤ 64 }
+    requires size { length places.old ≡ 8192 }
+    ensures size { length places.new ≡ 8192 }
+    ensures set { ArePlacesOf places.new receivers.now }
+{
+    clear_places(places);
+    set_places(places, receivers);
+}
+
 /// The table of these receivers.
 pub(crate) fn open_places<'a>(
     arena: &'a Bump,

@@ -1,13 +1,15 @@
 //! The receiver: it takes one record at a time.
-ghost use Rattle.std.specs.Prelude.{◌≡◌, ℕ, ◌+◌, ◌^◌, ◌<◌, ◌≤◌, true, false, List, [], ◌∷◌, ◌++◌, length, Some, IsOk, IfOk, OnOk, OnErr, slice_get, option_copied};
+ghost use Rattle.std.specs.Prelude.{◌≡◌, ℕ, ◌+◌, ◌^◌, ◌<◌, ◌≤◌, true, false, List, [], ◌∷◌, ◌++◌, length, IsOk, IfOk, OnOk, OnErr, option_copied};
 ghost use Rattle.wire_spec.specs.Causes.{HasCause};
 ghost use Rattle.ts_spec.specs.Recording.{Record as ReadRecord};
-ghost use Rattle.plan_spec.specs.Plan.{ServiceFields, PlanFields};
+ghost use Rattle.plan_spec.specs.Plan.{PlanFields};
 ghost use Rattle.ts_record.specs.Reading.{record_seen};
 ghost use Rattle.plan.specs.PlanView.{plan_fields};
-ghost use Rattle.reception_spec.specs.Numbers.{stream_numbers};
-ghost use Rattle.reception_spec.specs.Delivered.{pairs_of_record};
-ghost use Rattle.reception_spec.specs.Table.{table_section, table_units};
+ghost use Rattle.reception_spec.specs.Sums.{stream_numbers};
+ghost use Rattle.reception_spec.specs.Delivered.{pairs_of_record, pairs_of_end};
+ghost use Rattle.reception_spec.specs.Table.{table_units};
+ghost use Rattle.reception_spec.specs.Shown.{table_section};
+ghost use Rattle.reception_spec.specs.Spans.{version_at_end};
 ghost use Rattle.demux_core.specs.Counts.{stream_counts_of, counts_of_service};
 ghost use Rattle.demux_core.specs.Outlets.{Delivers, DeliversFront};
 ghost use Rattle.demux_core.specs.Receiving.{HasReceived};
@@ -16,7 +18,7 @@ ghost use Rattle.plan_spec.specs.Built.{are_received};
 use crate::content::{Content, content_of};
 use crate::packet::receive_packet;
 use crate::services::{Services, open_services};
-use crate::table::{TableReceiver, open_table};
+use crate::table::{TableReceiver, open_table, version_in_force};
 use bumpalo::Bump;
 use ipe_io::{Failed, OutOfMemory, Outlet};
 use loss_report::{ServiceCounts, StreamCounts};
@@ -39,7 +41,7 @@ impl<'a> Model for Receiver<'a> {
     ghost use Rattle.plan.specs.PlanView.{plan_fields};
     ghost use Rattle.demux_core.specs.Services.{FitsPlan};
     ghost use Rattle.demux_core.specs.Places.{AreFound};
-    ghost use Rattle.std.specs.Prelude.{length};
+    ghost use Rattle.std.specs.Prelude.{◌≤◌, ◌^◌, length};
 
     ghost Value = { ReceiverState };
 
@@ -51,7 +53,8 @@ impl<'a> Model for Receiver<'a> {
       table = receiver.table;
     } };
 
-    ghost invariant = { λ receiver. FitsPlan (plan_fields receiver.plan.now) (length receiver.services.receivers.items) × AreFound receiver.services };
+    ghost invariant = { λ receiver. FitsPlan (plan_fields receiver.plan.now) (length receiver.services.receivers.items) receiver.table
+        × AreFound receiver.services × (receiver.stream.records ≤ 2 ^ 32) };
 }
 
 impl<'a> Receiver<'a> {
@@ -62,7 +65,7 @@ impl<'a> Receiver<'a> {
         ensures is_open { IfOk result (λ receiver. receiver.is_open ≡ true) }
         ensures plan { IfOk result (λ receiver. receiver.plan ≡ plan_fields plan.now) }
     {
-        let table = open_table(arena, &plan.table)?;
+        let table = open_table(arena, &plan.table, plan.changes.len() as u8)?;
         let services = open_services(arena, &plan.services)?;
         Ok(Receiver {
             plan,
@@ -158,11 +161,13 @@ impl<'a> Receiver<'a> {
 
     /// Ends the reception: the receiver is then not open, and its counts are those of the recording.
     ///
-    /// Services of SNDUs or datagram sections have nothing left to deliver.
+    /// Failed: the outlet refused a datagram. Services of SNDUs or datagram sections have none left to deliver.
     pub fn finish<T: Outlet>(&mut self, outlet: &mut T) -> Result<(), Failed>
         requires is_open { self.old.is_open ≡ true }
         requires served { length self.old.plan.services ≤ T.services outlet.old }
         ensures received { (plan : PlanFields) (records : List ReadRecord) → HasReceived plan records self.old → HasReceived plan records self.new }
+        ensures written { (plan : PlanFields) (records : List ReadRecord) → HasReceived plan records self.old
+            → OnOk result (Delivers (T.StandsFor outlet.old) (T.StandsFor outlet.new) (pairs_of_end plan records)) }
         ensures done { IsOk result }
         ensures unchanged { outlet.new ≡ outlet.old }
         ensures closed { self.new.is_open ≡ false }
@@ -188,11 +193,11 @@ impl<'a> Receiver<'a> {
         self.stream
     }
 
-    /// What was counted of a service, numbered from 0.
+    /// What was counted of a service, numbered from 0, on all its PIDs.
     pub fn counts(&self, service: u32) -> ServiceCounts
         requires { service < length self.now.plan.services }
         ensures read { (plan : PlanFields) (records : List ReadRecord) → HasReceived plan records self.now
-            → (fields : ServiceFields) → slice_get plan.services service ≡ Some fields → result ≡ counts_of_service fields records }
+            → result ≡ counts_of_service plan service records }
     {
         let counts = self.services.receivers[service as usize].counts();
         ServiceCounts {
@@ -212,7 +217,16 @@ impl<'a> Receiver<'a> {
         }
     }
 
-    /// The first accepted section with the table_id of an INT on the INT's PID (EN 301 192 clause 8.4).
+    /// The version of the plan that is in force: the greatest that an accepted section of the INT said, at first 0.
+    pub fn plan_in_force(&self) -> u8
+        ensures read { (plan : PlanFields) (records : List ReadRecord) → HasReceived plan records self.now
+            → result ≡ version_at_end plan records }
+    {
+        version_in_force(&self.table)
+    }
+
+    /// The section of the INT that put the version in force; at version 0 the first accepted section with the table_id of an INT
+    /// on the INT's PID (EN 301 192 clause 8.4).
     pub fn table_section(&self) -> Option<&[u8]>
         ensures read { (plan : PlanFields) (records : List ReadRecord) → HasReceived plan records self.now
             → option_copied result ≡ table_section plan records }

@@ -1,10 +1,10 @@
 //! The receivers of all services of a plan, in its order, and the place of each by its PID.
-ghost use Rattle.std.specs.Prelude.{◌≡◌, ◌==◌, ℕ, ◌≤◌, true, List, [], map, IfOk, length};
+ghost use Rattle.std.specs.Prelude.{◌≡◌, ◌==◌, ℕ, ◌≤◌, true, map, IfOk, length};
 ghost use Rattle.std.specs.List.{list_all, position};
 ghost use Rattle.plan.specs.Parts.{kind_seen, service_seen};
 ghost use Rattle.plan.specs.declared.service.Service.{Service};
 ghost use Rattle.plan_spec.specs.Built.{is_received};
-ghost use Rattle.demux_core.specs.Services.{HaveReceived};
+ghost use Rattle.demux_core.specs.Opening.{AreOpened};
 ghost use Rattle.demux_core.specs.Places.{AreFound};
 
 use crate::places::{NO_SERVICE, open_places};
@@ -26,7 +26,7 @@ fn open_receivers<'a>(
     list: &ServiceList,
 ) -> Result<Vec<ServiceReceiver<'a>, &'a Bump>, OutOfMemory>
     requires { list_all (λ (it : Service). is_received (kind_seen it.kind)) list.now ≡ true }
-    ensures received { IfOk result (λ receivers. HaveReceived (map service_seen list.now) receivers.items []) }
+    ensures opened { IfOk result (λ receivers. AreOpened (map service_seen list.now) receivers.items) }
 {
     let mut receivers = Vec::with_capacity(arena, list.len())?;
     for at in 0..list.len() {
@@ -43,7 +43,7 @@ pub(crate) fn open_services<'a>(
 ) -> Result<Services<'a>, OutOfMemory>
     requires known { list_all (λ (it : Service). is_received (kind_seen it.kind)) list.now ≡ true }
     requires few { length list.now ≤ 64 }
-    ensures received { IfOk result (λ services. HaveReceived (map service_seen list.now) services.receivers.items []) }
+    ensures opened { IfOk result (λ services. AreOpened (map service_seen list.now) services.receivers.items) }
     ensures found { IfOk result (λ services. AreFound services) }
 {
     let receivers = open_receivers(arena, list)?;

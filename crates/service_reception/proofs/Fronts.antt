@@ -1,6 +1,6 @@
 -- What some records deliver, with one record more.
-use Rattle.std.proofs.Common.{◌≡◌, ℕ, List, [], ◌∷◌, ◌++◌, length, length-append, ◌+◌, take, drop, map, flat_map, count_by, ◌-◌, false, refl, subst, ap, sym, ◌∙◌, append_assoc, arith, Option, None, Some}
-use Rattle.std.proofs.lemmas.List.{append-nil, drop_all, take_at, take_all}
+use Rattle.std.proofs.Common.{◌≡◌, ℕ, List, [], ◌∷◌, ◌++◌, length, drop, map, flat_map, count_by, ◌-◌, false, refl, subst, ap, sym, ◌∙◌, append_assoc, arith, Option, None, Some}
+use Rattle.std.proofs.lemmas.List.{append-nil, drop_all}
 use Rattle.ts_spec.specs.Form.{UnitForm, IsLawful}
 use Rattle.ts_spec.specs.Packet.{continues}
 use Rattle.ts_spec.specs.Packetized.{no_packet}
@@ -15,11 +15,11 @@ use Rattle.reassembly_law.specs.Records.{last_bytes}
 use Rattle.reassembly_law.proofs.Steps.{events_more}
 use Rattle.ule_unit.specs.Spans.{sndu_lawful}
 use Rattle.section_codec.specs.Spans.{section_lawful}
-use Rattle.plan_spec.specs.Plan.{KindFields, ule, mpe, fec, gse, ServiceFields, pid_of}
+use Rattle.plan_spec.specs.Plan.{KindFields, ule, mpe, fec, gse, ServiceFields, IntFields, PlanFields, pid_of}
 use Rattle.stream_spec.specs.Services.{form_of_kind}
 use Rattle.reception_spec.specs.Units.{delivered_by_unit}
 use Rattle.reception_spec.specs.Numbers.{PidNumbers, pid_numbers, gaps_in, is_unit, is_bad_check, is_delimit, is_bad_length, unit_numbers, units_on, units_of}
-use Rattle.reception_spec.specs.Delivered.{delivered_datagrams, given_by_record}
+use Rattle.reception_spec.specs.Delivered.{delivered_datagrams}
 use Rattle.service_reception.specs.Taking.{delivered_of}
 use Rattle.service_reception.specs.Reception.{ReceptionState, HasTaken, added_by}
 use Rattle.reception_spec.specs.Packets.{is_on}
@@ -78,14 +78,6 @@ delivered_stays it records r = by_pid (pid_of it.kind) refl
         ap (λ (t : List (List ℕ)). drop (length t) (delivered_datagrams it (records ++ r ∷ []))) (sym before)
         ∙ ap (λ (t : List (List ℕ)). t ++ added_by it records r) (sym before)
 
--- what the last record gives
-pub given_last : (it : ServiceFields) (records : List Record) (r : Record) → given_by_record it (records ++ r ∷ []) (length records) ≡ added_by it records r
-given_last it records r =
-    ap (λ (t : List Record). drop (length (delivered_datagrams it t)) (delivered_datagrams it (take (length records + 1) (records ++ r ∷ []))))
-    (take_at records (r ∷ []) (length records) refl)
-    ∙ ap (λ (t : List Record). drop (length (delivered_datagrams it records)) (delivered_datagrams it t))
-    (take_all (length records + 1) (records ++ r ∷ []) (omega (arith, length-append records (r ∷ []))))
-
 -- A record that is no packet of the PID.
 
 abbrev numbers_by : UnitForm → List Arrival → List Arrival → PidNumbers
@@ -137,10 +129,11 @@ received_stays it pid state records r pid_is off received =
       of_units_are = received.of_units_are ∙ ap (unit_numbers it) (sym (same_units_of it pid records r pid_is off));
     }
 
-pub table_stays : (pid : ℕ) (state : TableState) (records : List Record) (r : Record) → is_on pid r ≡ false
-    → HasReceivedTable pid state records → HasReceivedTable pid state (records ++ r ∷ [])
-table_stays pid state records r off received = record {
+pub table_stays : (plan : PlanFields) (int : IntFields) (pid : ℕ) (state : TableState) (records : List Record) (r : Record) → is_on pid r ≡ false
+    → HasReceivedTable plan int pid state records → HasReceivedTable plan int pid state (records ++ r ∷ [])
+table_stays plan int pid state records r off received = record {
+  table_is = received.table_is;
   last_is = received.last_is ∙ ap (last_bytes None) (sym (none_received pid records r off));
   stands = subst (λ (t : List Arrival). Stands section_form state.joiner t) (sym (none_received pid records r off)) received.stands;
-  kept_are = received.kept_are ∙ ap kept_of (sym (same_units section_form pid records r off));
+  kept_are = received.kept_are ∙ ap (kept_of plan int) (sym (same_units section_form pid records r off));
 }

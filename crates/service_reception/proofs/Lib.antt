@@ -8,4 +8,5 @@ pub mod Links
 pub mod Units
 pub mod Taken
 pub mod Fronts
+pub mod InForce
 pub mod Keeping

@@ -9,7 +9,7 @@ use Rattle.reassembly_law.proofs.Units.{of_events}
 use Rattle.plan_spec.specs.Plan.{ServiceFields, pid_of}
 use Rattle.stream_spec.specs.Services.{form_of_kind}
 use Rattle.reception_spec.specs.Units.{delivered_by_unit}
-use Rattle.reception_spec.specs.Numbers.{numbers_on, pid_numbers, service_pid_numbers, units_on, units_of}
+use Rattle.reception_spec.specs.Numbers.{numbers_if_on, pid_numbers, service_pid_numbers, units_on, units_of}
 use Rattle.reception_spec.specs.Delivered.{delivered_datagrams}
 use Rattle.service_reception.specs.Counting.{units_in}
 use Rattle.service_reception.specs.Taking.{delivered_of}
@@ -39,4 +39,4 @@ delivered_of_events form pid it records form_is pid_is = ap (flat_map (delivered
 pub numbers_of_pid : (form : UnitForm) (pid : ℕ) (it : ServiceFields) (records : List Record) → form_of_kind it.kind ≡ form → pid_of it.kind ≡ Some pid
     → service_pid_numbers it records ≡ pid_numbers form pid records
 numbers_of_pid form pid it records form_is pid_is =
-    ap (λ (f : UnitForm). numbers_on f (pid_of it.kind) records) form_is ∙ ap (λ (p : Option ℕ). numbers_on form p records) pid_is
+    ap (λ (f : UnitForm). numbers_if_on f (pid_of it.kind) records) form_is ∙ ap (λ (p : Option ℕ). numbers_if_on form p records) pid_is

@@ -36,7 +36,7 @@ pub struct Counts {
 
 impl Counts {
     /// Nothing was counted.
-    pub(crate) fn new() -> Counts
+    pub fn new() -> Counts
         ensures packets { on_pid result ≡ no_numbers }
         ensures units { of_units result ≡ record { unread = 0; filtered = 0; datagrams = 0 } }
     {

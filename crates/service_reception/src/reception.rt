@@ -58,6 +58,16 @@ impl<K: UnitReader, A: Allocator> Reception<K, A> {
         }
     }
 
+    /// Begins anew, as where the service goes on to another PID: nothing was received, and nothing is counted. A unit under way is
+    /// dropped without an event.
+    pub fn begin_anew(&mut self)
+        ensures received { (it : ServiceFields) (pid : ℕ) → pid_of it.kind ≡ Some pid → HasTaken it self.new [] }
+    {
+        self.continuity = Continuity::new();
+        self.joiner.forget();
+        self.counts = Counts::new();
+    }
+
     /// Takes one packet of the service's PID, which `parse` read from `bytes`, and the moment of its record.
     ///
     /// The datagrams that end in it and that `filter` wants go to the outlet, as those of this service. Failed: the outlet

@@ -1,4 +1,4 @@
-use Rattle.std.proofs.Common.{ℕ, ap, ◌∙◌, subst, Some}
+use Rattle.std.proofs.Common.{subst}
 use Rattle.service_reception.specs.Reception as one
 use Rattle.demux_core.specs.Services.{ReadsKind, state_of}
 use Rattle.demux_core.specs.declared.service.ByKind.{ByKind}
@@ -7,7 +7,7 @@ use Rattle.demux_core.proofs.service.ServiceReceiver.take.Goals as goal
 pub returns-in-Ule-clause-delivered : goal.returns-in-Ule-clause-delivered
 returns-in-Ule-clause-delivered g c = λ it records h. c.take.ensures.delivered it records (record {
   served = record { kind = subst (λ (b : ByKind). ReadsKind b it.kind) c.in-Ule.is h.has.reads; filter_is = h.filter_is };
-  of_pid = h.has.pid_is ∙ ap (λ (p : ℕ). Some p) h.of_pid;
+  of_pid = h.of_pid;
   few = h.few;
   received = subst (λ (b : ByKind). one.HasTaken it (state_of b) records) c.in-Ule.is h.has.received;
 })
@@ -15,7 +15,7 @@ returns-in-Ule-clause-delivered g c = λ it records h. c.take.ensures.delivered 
 pub returns-in-Mpe-clause-delivered : goal.returns-in-Mpe-clause-delivered
 returns-in-Mpe-clause-delivered g c = λ it records h. c.take-in-Mpe.ensures.delivered it records (record {
   served = record { kind = subst (λ (b : ByKind). ReadsKind b it.kind) c.in-Mpe.is h.has.reads; filter_is = h.filter_is };
-  of_pid = h.has.pid_is ∙ ap (λ (p : ℕ). Some p) h.of_pid;
+  of_pid = h.of_pid;
   few = h.few;
   received = subst (λ (b : ByKind). one.HasTaken it (state_of b) records) c.in-Mpe.is h.has.received;
 })

@@ -1,0 +1,38 @@
+-- Numbers that no counter of 64 bits reaches are summed as they are.
+use Rattle.std.proofs.Common.{◌≡◌, ℕ, ◌+◌, ◌*◌, ◌^◌, ◌≤◌, ap, ◌∙◌, arith}
+use Rattle.wire_spec.specs.Causes.{raised}
+use Rattle.reception_spec.specs.Numbers.{PidNumbers, UnitNumbers}
+use Rattle.reception_spec.specs.Sums.{sum_of_numbers}
+use Rattle.reception_law.specs.Sums.{sum_of_units, AreAtMost, UnitsAreAtMost}
+use Rattle.demux_core.specs.Counts.{raised_numbers, raised_units}
+
+below : (a b n : ℕ) → a ≤ 2 ^ 45 → b ≤ 189 * n → n ≤ 2 ^ 32 → raised a b ≡ a + b
+below a b n few_a few_b few = omega (arith, few_a, few_b, few)
+
+abbrev numbers : ℕ → ℕ → ℕ → ℕ → ℕ → ℕ → ℕ → PidNumbers
+numbers h r g u b d l = record { heard = h; repeats = r; gaps = g; units = u; bad_check = b; delimited = d; bad_length = l }
+
+same_numbers : {h i r s g k u v b c d e l m : ℕ} → h ≡ i → r ≡ s → g ≡ k → u ≡ v → b ≡ c → d ≡ e → l ≡ m → numbers h r g u b d l ≡ numbers i s k v c e m
+same_numbers {h} {i} {r} {s} {g} {k} {u} {v} {b} {c} {d} {e} {l} {m} one two three four five six seven =
+    ap (λ (x : ℕ). numbers x r g u b d l) one ∙ ap (λ (x : ℕ). numbers i x g u b d l) two ∙ ap (λ (x : ℕ). numbers i s x u b d l) three
+    ∙ ap (λ (x : ℕ). numbers i s k x b d l) four ∙ ap (λ (x : ℕ). numbers i s k v x d l) five ∙ ap (λ (x : ℕ). numbers i s k v c x l) six
+    ∙ ap (λ (x : ℕ). numbers i s k v c e x) seven
+
+pub numbers_summed : (a b : PidNumbers) (n : ℕ) → AreAtMost (2 ^ 45) a → AreAtMost (189 * n) b → n ≤ 2 ^ 32 → raised_numbers a b ≡ sum_of_numbers a b
+numbers_summed a b n most_a most_b few = same_numbers
+    (below a.heard b.heard n most_a.heard most_b.heard few)
+    (below a.repeats b.repeats n most_a.repeats most_b.repeats few)
+    (below a.gaps b.gaps n most_a.gaps most_b.gaps few)
+    (below a.units b.units n most_a.units most_b.units few)
+    (below a.bad_check b.bad_check n most_a.bad_check most_b.bad_check few)
+    (below a.delimited b.delimited n most_a.delimited most_b.delimited few)
+    (below a.bad_length b.bad_length n most_a.bad_length most_b.bad_length few)
+
+abbrev units_from : ℕ → ℕ → ℕ → UnitNumbers
+units_from u f d = record { unread = u; filtered = f; datagrams = d }
+
+pub units_summed : (a b : UnitNumbers) (n : ℕ) → UnitsAreAtMost (2 ^ 45) a → UnitsAreAtMost (189 * n) b → n ≤ 2 ^ 32 → raised_units a b ≡ sum_of_units a b
+units_summed a b n most_a most_b few =
+    ap (λ (x : ℕ). units_from x (raised a.filtered b.filtered) (raised a.datagrams b.datagrams)) (below a.unread b.unread n most_a.unread most_b.unread few)
+    ∙ ap (λ (x : ℕ). units_from (a.unread + b.unread) x (raised a.datagrams b.datagrams)) (below a.filtered b.filtered n most_a.filtered most_b.filtered few)
+    ∙ ap (λ (x : ℕ). units_from (a.unread + b.unread) (a.filtered + b.filtered) x) (below a.datagrams b.datagrams n most_a.datagrams most_b.datagrams few)
