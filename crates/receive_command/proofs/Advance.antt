@@ -14,7 +14,7 @@ use Rattle.ipe_io.specs.declared.faults.Recording.TheVariants.{Plain, Stamped, M
 use Rattle.ipe_io.proofs.Told.{raised-raised}
 use Rattle.ts_record.specs.Reading.{ReaderState, ReaderOf, ReadsRecord, ReadsEnd, form_of as form_read}
 use Rattle.plan.specs.Parts.{form_of as form_planned}
-use Rattle.reception_spec.specs.Delivered.{delivered_pairs, pairs_of_record}
+use Rattle.reception_spec.specs.Delivered.{told_pairs, pairs_of_record}
 use Rattle.demux_core.specs.Receiving.{ReceiverState, HasReceived}
 use Rattle.pcap_file.specs.Capture.{capture_record}
 use Rattle.receive_command.specs.Growth.{Grow, GrowTo, records_at, records_and}
@@ -64,7 +64,7 @@ grown_product a n = sym (mul-suc a n) ∙ ap (λ (m : ℕ). a * m) (sym (add-one
 -- nothing was read
 text_is_none : (plan : PlanFields) (first at : ℕ) → text_at plan first [] at ≡ []
 text_is_none plan first at =
-    ap (λ (records : List Record). records_at first (delivered_pairs plan records) at) (records_none plan.recording)
+    ap (λ (records : List Record). records_at first (told_pairs plan records) at) (records_none plan.recording)
     ∙ ap (λ (pairs : List (ℕ × List ℕ)). records_at first pairs at) (pairs_none plan)
 
 pub text_none : (plan : PlanFields) (first : ℕ) (a : Option (List File)) → Grow a a (text_at plan first [])
@@ -90,9 +90,9 @@ text_more : (plan : PlanFields) (first : ℕ) (pieces : List (List ℕ)) (piece 
     → text_at plan first pieces at ++ records_at first (pairs_of_record plan (records_in plan pieces ++ r ∷ []) (length (records_in plan pieces))) at
     ≡ text_at plan first (pieces ++ piece ∷ []) at
 text_more plan first pieces piece r at more =
-    records-append first (delivered_pairs plan (records_in plan pieces)) (pairs_of_record plan (records_in plan pieces ++ r ∷ []) (length (records_in plan pieces))) at
+    records-append first (told_pairs plan (records_in plan pieces)) (pairs_of_record plan (records_in plan pieces ++ r ∷ []) (length (records_in plan pieces))) at
     ∙ ap (λ (pairs : List (ℕ × List ℕ)). records_at first pairs at) (sym (pairs_next plan (records_in plan pieces) r))
-    ∙ ap (λ (records : List Record). records_at first (delivered_pairs plan records) at) (sym more)
+    ∙ ap (λ (records : List Record). records_at first (told_pairs plan records) at) (sym more)
 
 pub files_more : (plan : PlanFields) (first : ℕ) (pieces : List (List ℕ)) (piece : List ℕ) (r : Record) (a b c : Option (List File))
     → records_in plan (pieces ++ piece ∷ []) ≡ records_in plan pieces ++ r ∷ []
@@ -221,10 +221,10 @@ limit_at plan left now old new first pieces reader same stands full read files =
 -- the writing of what a record gives stopped
 stop_files : (plan : PlanFields) (first : ℕ) (pieces : List (List ℕ)) (a b c : Option (List File)) (service : ℕ) (text : List ℕ) (front : List (ℕ × List ℕ))
     → Grow a b (text_at plan first pieces) → Grow b c (records_and first service text front)
-    → Grow a c (records_and first service text (delivered_pairs plan (records_in plan pieces) ++ front))
+    → Grow a c (records_and first service text (told_pairs plan (records_in plan pieces) ++ front))
 stop_files plan first pieces a b c service text front before now =
-    grow_same a c (λ at. text_at plan first pieces at ++ records_and first service text front at) (records_and first service text (delivered_pairs plan (records_in plan pieces) ++ front))
-    (records_and-append first service text (delivered_pairs plan (records_in plan pieces)) front)
+    grow_same a c (λ at. text_at plan first pieces at ++ records_and first service text front at) (records_and first service text (told_pairs plan (records_in plan pieces) ++ front))
+    (records_and-append first service text (told_pairs plan (records_in plan pieces)) front)
     (grow_then a b c (text_at plan first pieces) (records_and first service text front) before now)
 
 pub stop_at : (plan : PlanFields) (left now : Option (List ℕ)) (a b c : Option (List File)) (first : ℕ) (pieces : List (List ℕ)) (piece : List ℕ) (r : Record) (reader : ReaderState)

@@ -2,7 +2,8 @@
 use Rattle.std.proofs.Common.{◌≡◌, ℕ, ◌+◌, ◌<◌, false, List, ◌++◌, length, take, sym, subst, arith, Option, IfSome}
 use Rattle.wire_spec.specs.Content.{File}
 use Rattle.plan_spec.specs.Plan.{PlanFields}
-use Rattle.reception_spec.specs.Delivered.{delivered_pairs}
+use Rattle.plan_spec.specs.Changes.{has_wrong_change}
+use Rattle.reception_spec.specs.Delivered.{told_pairs}
 use Rattle.pcap_file.specs.Capture.{capture_record}
 use Rattle.demux_core.specs.Receiving.{ReceiverState, HasReceived}
 use Rattle.receive_command.specs.Files.{AddsCaptures, AddsHeadsPart, head_of, capture_of}
@@ -26,7 +27,7 @@ ends_front plan left now a b c first size added front = record {
   behind = front.behind;
   read = front.read;
   fewer = front.fewer;
-  files = pairs_grown plan.services (delivered_pairs plan (records_in plan front.pieces)) a b c first size added front.files;
+  files = pairs_grown plan.services (told_pairs plan (records_in plan front.pieces)) a b c first size added front.files;
 }
 
 pub ends_at_limit : (plan : PlanFields) (left now : Option (List ℕ)) (a b c : Option (List File)) (first : ℕ) → IfSome a (λ told. length told ≡ first)
@@ -35,7 +36,7 @@ ends_at_limit plan left now a b c first size added limit = record {
   pieces = limit.pieces;
   read = limit.read;
   limit = limit.limit;
-  files = pairs_grown plan.services (delivered_pairs plan (records_in plan limit.pieces)) a b c first size added limit.files;
+  files = pairs_grown plan.services (told_pairs plan (records_in plan limit.pieces)) a b c first size added limit.files;
 }
 
 pub ends_in_record : (plan : PlanFields) (left now : Option (List ℕ)) (a b c : Option (List File)) (first : ℕ) → IfSome a (λ told. length told ≡ first)
@@ -52,26 +53,26 @@ ends_in_record plan left now a b c first size added stop = in_record (record {
   pairs = stop.pairs;
   count = stop.count;
   less = stop.less;
-  files = pairs_and_grown plan.services stop.service (take stop.count (capture_record stop.datagram)) (delivered_pairs plan (records_in plan stop.pieces) ++ stop.front) a b c first size added stop.files;
+  files = pairs_and_grown plan.services stop.service (take stop.count (capture_record stop.datagram)) (told_pairs plan (records_in plan stop.pieces) ++ stop.front) a b c first size added stop.files;
 })
 
-captures_whole : (plan : PlanFields) (receiver : ReceiverState) (left now : Option (List ℕ)) (a b c : Option (List File)) (first tail : ℕ) → IfSome a (λ told. length told ≡ first)
-    → AddsCaptures false head_of plan.services a b → (whole : ReadsWhole plan receiver left now b c first tail) → AddsCaptures false (capture_of (records_in plan whole.pieces)) plan.services a c
-captures_whole plan receiver left now a b c first tail size added whole =
-    captures_of_pairs plan (records_in plan whole.pieces) a c (pairs_grown plan.services (delivered_pairs plan (records_in plan whole.pieces)) a b c first size added whole.files)
+captures_whole : (plan : PlanFields) → has_wrong_change plan ≡ false → (receiver : ReceiverState) (left now : Option (List ℕ)) (a b c : Option (List File)) (first tail : ℕ) → IfSome a (λ told. length told ≡ first)
+    → AddsCaptures false head_of plan.services a b → (whole : ReadsWhole plan receiver left now b c first tail) → AddsCaptures false (capture_of plan (records_in plan whole.pieces)) plan.services a c
+captures_whole plan right receiver left now a b c first tail size added whole =
+    captures_of_pairs plan right (records_in plan whole.pieces) a c (pairs_grown plan.services (told_pairs plan (records_in plan whole.pieces)) a b c first size added whole.files)
 
-pub ends_whole : (plan : PlanFields) (receiver end_receiver : ReceiverState) (left now : Option (List ℕ)) (a b c d : Option (List File)) (first end tail : ℕ) → IfSome a (λ told. length told ≡ first)
+pub ends_whole : (plan : PlanFields) → has_wrong_change plan ≡ false → (receiver end_receiver : ReceiverState) (left now : Option (List ℕ)) (a b c d : Option (List File)) (first end tail : ℕ) → IfSome a (λ told. length told ≡ first)
     → AddsCaptures false head_of plan.services a b → (whole : ReadsWhole plan receiver left now b c first tail) → end ≡ first + length plan.services → Flush c d first end
     → HasReceived plan (records_in plan whole.pieces) end_receiver → WritesWhole plan end_receiver left now a d tail
-ends_whole plan receiver end_receiver left now a b c d first end tail size added whole all flushed received = record {
+ends_whole plan right receiver end_receiver left now a b c d first end tail size added whole all flushed received = record {
   ends = record {
     pieces = whole.pieces;
     tail = whole.behind;
     read = whole.read;
     fewer = whole.fewer;
     at_end = whole.at_end;
-    files = captures_flushed (capture_of (records_in plan whole.pieces)) plan.services a c d first size
-        (captures_whole plan receiver left now a b c first tail size added whole)
+    files = captures_flushed (capture_of plan (records_in plan whole.pieces)) plan.services a c d first size
+        (captures_whole plan right receiver left now a b c first tail size added whole)
         (subst (λ (e : ℕ). Flush c d first e) all flushed);
   };
   tail_is = whole.tail_is;
@@ -79,10 +80,10 @@ ends_whole plan receiver end_receiver left now a b c d first end tail size added
 }
 
 -- the flushing stopped
-pub ends_in_flush : (plan : PlanFields) (receiver : ReceiverState) (left now : Option (List ℕ)) (a b c d : Option (List File)) (first tail count : ℕ) → IfSome a (λ told. length told ≡ first)
+pub ends_in_flush : (plan : PlanFields) → has_wrong_change plan ≡ false → (receiver : ReceiverState) (left now : Option (List ℕ)) (a b c d : Option (List File)) (first tail count : ℕ) → IfSome a (λ told. length told ≡ first)
     → AddsCaptures false head_of plan.services a b → ReadsWhole plan receiver left now b c first tail → count < length plan.services → Flush c d first (first + count)
     → EndsInFiles plan left now a d
-ends_in_flush plan receiver left now a b c d first tail count size added whole less flushed = in_flush (record {
+ends_in_flush plan right receiver left now a b c d first tail count size added whole less flushed = in_flush (record {
   pieces = whole.pieces;
   behind = whole.behind;
   read = whole.read;
@@ -90,6 +91,6 @@ ends_in_flush plan receiver left now a b c d first tail count size added whole l
   at_end = whole.at_end;
   count = count;
   less = less;
-  files = captures_flushed_to (capture_of (records_in plan whole.pieces)) plan.services a c d first count size (omega (arith, less))
-      (captures_whole plan receiver left now a b c first tail size added whole) flushed;
+  files = captures_flushed_to (capture_of plan (records_in plan whole.pieces)) plan.services a c d first count size (omega (arith, less))
+      (captures_whole plan right receiver left now a b c first tail size added whole) flushed;
 })

@@ -4,6 +4,7 @@ pub mod Heads
 pub mod Grown
 pub mod Outlets
 pub mod Adding
+pub mod Parts
 pub mod Flushed
 pub mod Pairs
 pub mod Advance

@@ -1,15 +1,17 @@
 -- What the records of a front deliver stands at the front of what all deliver.
-use Rattle.std.proofs.Common.{◌≡◌, ℕ, List, [], ◌∷◌, ◌++◌, length, take, map, min, refl, ap, sym, ◌∙◌, arith, Option, None, Some, append_assoc}
-use Rattle.std.proofs.lemmas.List.{append-nil, take-append-le, take_min, map-append}
+use Rattle.std.proofs.Common.{◌≡◌, ℕ, ◌<◌, false, List, [], ◌∷◌, ◌++◌, length, map, refl, ap, sym, ◌∙◌, Option, None, Some, append_assoc}
+use Rattle.std.proofs.lemmas.List.{append-nil, map-append}
 use Rattle.std.specs.List.{flat_map}
 use Rattle.std.proofs.lemmas.Grind.{flat_map-append}
-use Rattle.wire_spec.specs.Content.{File}
 use Rattle.ts_spec.specs.Recording.{RecordingForm, plain, stamped, m2ts, Record, plain_record, stamped_record, m2ts_record, m2ts_records, m2ts_stamp, moment_behind, records_of}
-use Rattle.plan_spec.specs.Plan.{ServiceFields}
+use Rattle.plan_spec.specs.Plan.{PlanFields}
+use Rattle.plan_spec.specs.Changes.{has_wrong_change}
 use Rattle.pcap_file.specs.Capture.{capture_head, capture_record, capture_text}
-use Rattle.reception_spec.specs.Delivered.{delivered_datagrams, given_by_record}
-use Rattle.reception_law.proofs.Fronts.{delivered_more}
-use Rattle.receive_command.specs.Files.{IsPart, AreParts, capture_of}
+use Rattle.reception_spec.specs.Delivered.{delivered_of, told_pairs, pairs_of_record}
+use Rattle.reception_law.specs.Words.{datagram_of, datagrams_of}
+use Rattle.receive_command.specs.Files.{capture_of}
+use Rattle.receive_command.specs.Reading.{records_in}
+use Rattle.receive_command.proofs.Pairs.{pairs_next, told_part}
 
 text-append : (xs ys : List (List ℕ)) → capture_text (xs ++ ys) ≡ capture_text xs ++ flat_map capture_record ys
 text-append xs ys =
@@ -28,43 +30,34 @@ records_more plain xs ys = (map plain_record ys, map-append plain_record xs ys)
 records_more stamped xs ys = (map stamped_record ys, map-append stamped_record xs ys)
 records_more m2ts xs ys = m2ts_more None xs ys
 
-datagrams_more : (service : ServiceFields) (ys xs : List Record)
-    → (more : List (List ℕ)) × (delivered_datagrams service (xs ++ ys) ≡ delivered_datagrams service xs ++ more)
-datagrams_more service [] xs = ([], ap (delivered_datagrams service) (append-nil xs) ∙ sym (append-nil (delivered_datagrams service xs)))
-datagrams_more service (y ∷ ys) xs =
-    let rest : (more : List (List ℕ)) × (delivered_datagrams service ((xs ++ y ∷ []) ++ ys) ≡ delivered_datagrams service (xs ++ y ∷ []) ++ more) =
-    datagrams_more service ys (xs ++ y ∷ []) in
-    let given : List (List ℕ) = given_by_record service (xs ++ y ∷ []) (length xs) in (
+-- more records, more pairs
+pairs_go_on : (plan : PlanFields) (ys xs : List Record) → (more : List (ℕ × List ℕ)) × (told_pairs plan (xs ++ ys) ≡ told_pairs plan xs ++ more)
+pairs_go_on plan [] xs = ([], ap (told_pairs plan) (append-nil xs) ∙ sym (append-nil (told_pairs plan xs)))
+pairs_go_on plan (y ∷ ys) xs =
+    let rest : (more : List (ℕ × List ℕ)) × (told_pairs plan ((xs ++ y ∷ []) ++ ys) ≡ told_pairs plan (xs ++ y ∷ []) ++ more) = pairs_go_on plan ys (xs ++ y ∷ []) in
+    let given : List (ℕ × List ℕ) = pairs_of_record plan (xs ++ y ∷ []) (length xs) in (
       given ++ rest.0,
-      ap (delivered_datagrams service) (sym (append_assoc xs (y ∷ []) ys)) ∙ rest.1
-          ∙ ap (λ (t : List (List ℕ)). t ++ rest.0) (delivered_more service xs y)
-          ∙ append_assoc (delivered_datagrams service xs) given rest.0,
+      ap (told_pairs plan) (sym (append_assoc xs (y ∷ []) ys)) ∙ rest.1
+          ∙ ap (λ (t : List (ℕ × List ℕ)). t ++ rest.0) (pairs_next plan xs y)
+          ∙ append_assoc (told_pairs plan xs) given rest.0,
     )
 
-pub capture_more : (form : RecordingForm) (xs ys : List (List ℕ)) (service : ServiceFields)
-    → (more : List ℕ) × (capture_of (records_of form (xs ++ ys)) service ≡ capture_of (records_of form xs) service ++ more)
-capture_more form xs ys service =
-    let records : (more : List Record) × (records_of form (xs ++ ys) ≡ records_of form xs ++ more) = records_more form xs ys in
-    let datagrams : (more : List (List ℕ)) × (delivered_datagrams service (records_of form xs ++ records.0) ≡ delivered_datagrams service (records_of form xs) ++ more) =
-    datagrams_more service records.0 (records_of form xs) in (
+-- so more datagrams of a service
+datagrams_go_on : (plan : PlanFields) → has_wrong_change plan ≡ false → (k : ℕ) → k < length plan.services → (xs ys : List Record)
+    → (more : List (List ℕ)) × (delivered_of plan k (xs ++ ys) ≡ delivered_of plan k xs ++ more)
+datagrams_go_on plan right k there xs ys =
+    let pairs = pairs_go_on plan ys xs in (
+      datagrams_of k pairs.0,
+      sym (told_part plan right k (xs ++ ys) there) ∙ ap (datagrams_of k) pairs.1
+          ∙ flat_map-append (datagram_of k) (told_pairs plan xs) pairs.0
+          ∙ ap (λ (t : List (List ℕ)). t ++ datagrams_of k pairs.0) (told_part plan right k xs there),
+    )
+
+pub capture_more : (plan : PlanFields) → has_wrong_change plan ≡ false → (xs ys : List (List ℕ)) (k : ℕ) → k < length plan.services
+    → (more : List ℕ) × (capture_of plan (records_in plan (xs ++ ys)) k ≡ capture_of plan (records_in plan xs) k ++ more)
+capture_more plan right xs ys k there =
+    let records : (more : List Record) × (records_in plan (xs ++ ys) ≡ records_in plan xs ++ more) = records_more plan.recording xs ys in
+    let datagrams = datagrams_go_on plan right k there (records_in plan xs) records.0 in (
       flat_map capture_record datagrams.0,
-      ap (λ (r : List Record). capture_of r service) records.1 ∙ ap capture_text datagrams.1 ∙ text-append (delivered_datagrams service (records_of form xs)) datagrams.0,
+      ap (λ (r : List Record). capture_of plan r k) records.1 ∙ ap capture_text datagrams.1 ∙ text-append (delivered_of plan k (records_in plan xs)) datagrams.0,
     )
-
--- a part of a text is a part of a longer one
-part_of_longer : (text whole : ServiceFields → List ℕ) (service : ServiceFields) (file : File) → (more : List ℕ) × (whole service ≡ text service ++ more)
-    → IsPart text service file → IsPart whole service file
-part_of_longer text whole service file longer part = record {
-  name = part.name;
-  count = min part.count (length (text service));
-  bytes = part.bytes
-      ∙ sym (ap (take (min part.count (length (text service)))) longer.1
-      ∙ take-append-le (min part.count (length (text service))) (text service) longer.0 (omega arith) ∙ take_min part.count (text service));
-}
-
-pub parts_of_longer : (text whole : ServiceFields → List ℕ) → ((service : ServiceFields) → (more : List ℕ) × (whole service ≡ text service ++ more))
-    → (services : List ServiceFields) (files : List File) → AreParts text services files → AreParts whole services files
-parts_of_longer text whole longer services [] parts = tt
-parts_of_longer text whole longer [] (file ∷ files) parts = absurd parts
-parts_of_longer text whole longer (service ∷ services) (file ∷ files) parts =
-    (part_of_longer text whole service file (longer service) parts.0, parts_of_longer text whole longer services files parts.1)

@@ -1,10 +1,7 @@
 -- From what was read and given to one record more, or to an end.
-use Rattle.std.proofs.Common.{◌≡◌, ℕ, ◌+◌, ◌*◌, ◌^◌, ◌<◌, ◌≤◌, true, false, List, [], ◌∷◌, ◌++◌, length, refl, ap, sym, ◌∙◌, subst, arith, Option, Some, None, option_map, Err, IsErrOf}
-use Rattle.std.specs.Io.KnownBytes.{Consumes}
+use Rattle.std.proofs.Common.{◌≡◌, ℕ, ◌^◌, ◌<◌, true, false, List, [], ◌∷◌, ◌++◌, length, refl, ap, sym, ◌∙◌, subst, arith, Option, Some, None, option_map, Err, IsErrOf}
 use Rattle.wire_spec.specs.Causes.{Rose, raised}
-use Rattle.wire_spec.specs.Lists.{joined}
-use Rattle.wire_spec.specs.Content.{File}
-use Rattle.ts_spec.specs.Recording.{Record, RecordingForm, record_size, records_of}
+use Rattle.ts_spec.specs.Recording.{Record, RecordingForm, record_size}
 use Rattle.plan_spec.specs.Plan.{PlanFields}
 use Rattle.ipe_io.specs.Told.{InputTold, RackTold}
 use Rattle.ts_record.specs.Reading.{ReaderState, ReadsRecord, LendsRecord, ReadsEnd, TakesBytes, lent_seen}
@@ -15,7 +12,7 @@ use Rattle.receive_command.specs.Growth.{Grow, GrowTo, records_at}
 use Rattle.receive_command.specs.Reading.{records_in, HasGiven, GivesAll, FailsInInput, StopsAtLimit, FailsInFiles}
 use Rattle.receive_command.specs.declared.faults.ReceiveFault.{ReceiveFault}
 use Rattle.receive_command.specs.declared.faults.ReceiveFault.TheVariants as fault
-use Rattle.receive_command.proofs.Advance.{records_length, text_none, received_none, consumes_none, record_more, files_more, received_more, taken_more, consumed_more, whole_at_end, few_taken, front_at, front_taken, limit_at, limit_taken, stop_at, stop_taken}
+use Rattle.receive_command.proofs.Advance.{records_length, record_more, files_more, received_more, taken_more, consumed_more, whole_at_end, few_taken, front_at, front_taken, limit_at, limit_taken, stop_at, stop_taken}
 
 -- the receiver counts the records that the reader has read
 pub counted_alike : (plan : PlanFields) (first : ℕ) (input now : InputTold) (rack now_rack : RackTold) (reader : ReaderState) (receiver : ReceiverState) (pieces : List (List ℕ))

@@ -1,22 +1,22 @@
--- The delivered pairs, one record more, and the part of a service.
-use Rattle.std.proofs.Common.{◌≡◌, inl, inr, ℕ, ◌+◌, ◌<◌, Bool, cond, ◌==◌, List, [], ◌∷◌, ◌++◌, length, flat_map, refl, ap, ap₂, sym, ◌∙◌, arith, Some}
-use Rattle.std.specs.List.{slice_get}
+-- The told pairs, one record more, and the part of a service.
+use Rattle.std.proofs.Common.{◌≡◌, inl, inr, ℕ, ◌+◌, ◌<◌, Bool, false, cond, ◌==◌, List, [], ◌∷◌, ◌++◌, length, flat_map, refl, ap, ap₂, sym, ◌∙◌, arith}
 use Rattle.std.proofs.lemmas.List.{append-nil}
 use Rattle.std.proofs.lemmas.Grind.{flat_map-append}
 use Rattle.std.proofs.lemmas.Bool.{cases_eq, eq-eqb, ne_eqb}
 use Rattle.ts_spec.specs.Recording.{Record}
-use Rattle.plan_spec.specs.Plan.{ServiceFields, PlanFields}
+use Rattle.plan_spec.specs.Plan.{PlanFields}
+use Rattle.plan_spec.specs.Changes.{has_wrong_change}
 use Rattle.pcap_file.specs.Capture.{capture_record}
-use Rattle.reception_spec.specs.Delivered.{delivered_datagrams, delivered_pairs, pairs_of_record}
+use Rattle.reception_spec.specs.Delivered.{delivered_of, told_pairs, pairs_of_record}
 use Rattle.reception_law.specs.Words.{datagram_of, datagrams_of}
-use Rattle.reception_law.proofs.Pairs.{pairs_more, nothing_delivered, part_is}
+use Rattle.reception_law.proofs.DeliveredPairs.{pairs_more, all_told, part_is}
 use Rattle.receive_command.specs.Growth.{text_in, record_in_file, records_at}
 
-pub pairs_none : (plan : PlanFields) → delivered_pairs plan [] ≡ []
+pub pairs_none : (plan : PlanFields) → told_pairs plan [] ≡ []
 pairs_none plan = refl
 
 pub pairs_next : (plan : PlanFields) (records : List Record) (r : Record)
-    → delivered_pairs plan (records ++ r ∷ []) ≡ delivered_pairs plan records ++ pairs_of_record plan (records ++ r ∷ []) (length records)
+    → told_pairs plan (records ++ r ∷ []) ≡ told_pairs plan records ++ pairs_of_record plan (records ++ r ∷ []) (length records)
 pairs_next plan records r = pairs_more plan records r
 
 -- one pair: its record stands in the file of its service
@@ -37,12 +37,16 @@ records_of_service first k (pair ∷ pairs) =
     ap₂ (λ a b. a ++ b) (one_record first k pair) (records_of_service first k pairs)
     ∙ sym (flat_map-append capture_record (datagram_of k pair) (datagrams_of k pairs))
 
--- the file of a service has its datagrams
-pub part_of_service : (plan : PlanFields) (first k : ℕ) (service : ServiceFields) (records : List Record) → slice_get plan.services k ≡ Some service
-    → records_at first (delivered_pairs plan records) (first + k) ≡ flat_map capture_record (delivered_datagrams service records)
-part_of_service plan first k service records there =
-    records_of_service first k (delivered_pairs plan records)
-    ∙ ap (flat_map capture_record) (part_is plan k service there (nothing_delivered service) records)
+-- the datagrams of a service among the told pairs are its delivered ones
+pub told_part : (plan : PlanFields) → has_wrong_change plan ≡ false → (k : ℕ) (records : List Record) → k < length plan.services
+    → datagrams_of k (told_pairs plan records) ≡ delivered_of plan k records
+told_part plan right k records there = ap (datagrams_of k) (sym (all_told plan records)) ∙ part_is plan records k right there
+
+-- and its file has them
+pub part_of_service : (plan : PlanFields) → has_wrong_change plan ≡ false → (first k : ℕ) (records : List Record) → k < length plan.services
+    → records_at first (told_pairs plan records) (first + k) ≡ flat_map capture_record (delivered_of plan k records)
+part_of_service plan right first k records there =
+    records_of_service first k (told_pairs plan records) ∙ ap (flat_map capture_record) (told_part plan right k records there)
 
 -- and the files before the first have none
 pub none_before : (first at : ℕ) (pairs : List (ℕ × List ℕ)) → at < first → records_at first pairs at ≡ []

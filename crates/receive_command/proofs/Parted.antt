@@ -1,22 +1,21 @@
 -- However a reception stops, each file is a prefix of the capture of what the records read deliver.
-use Rattle.std.proofs.Common.{◌≡◌, inl, inr, ℕ, zero, suc, ◌+◌, ◌<◌, ◌≤◌, ◌==◌, Bool, true, false, cond, List, [], ◌∷◌, ◌++◌, length, map, take, drop, refl, ap, ap₂, sym, ◌∙◌, subst, arith, append_assoc, Option, None, Some}
-use Rattle.std.specs.List.{slice_get}
+use Rattle.std.proofs.Common.{◌≡◌, inl, inr, ℕ, suc, ◌+◌, ◌<◌, ◌≤◌, ◌==◌, Bool, true, false, cond, List, [], ◌∷◌, ◌++◌, length, take, drop, refl, ap, ap₂, sym, ◌∙◌, subst, arith, append_assoc, Option, None, Some}
 use Rattle.std.specs.Io.KnownBytes.{Consumes}
-use Rattle.std.proofs.lemmas.List.{take-append-le}
+use Rattle.std.proofs.lemmas.List.{map-append, take-append-le}
 use Rattle.std.proofs.Math.Seq.{take-append-add}
 use Rattle.wire_spec.specs.Content.{File}
 use Rattle.ts_spec.specs.Recording.{Record, RecordingForm, plain, stamped, m2ts, plain_record, stamped_record, m2ts_record, m2ts_stamp, moment_behind, m2ts_records, records_of}
 use Rattle.plan_spec.specs.Plan.{ServiceFields, PlanFields}
-use Rattle.reception_spec.specs.Delivered.{delivered_pairs, pairs_of_record}
+use Rattle.plan_spec.specs.Changes.{has_wrong_change}
+use Rattle.reception_spec.specs.Delivered.{told_pairs, pairs_of_record}
 use Rattle.pcap_file.specs.Capture.{capture_head, capture_record}
-use Rattle.std.proofs.lemmas.List.{map-append}
 use Rattle.receive_command.specs.Growth.{records_at, text_in}
-use Rattle.receive_command.specs.Files.{file_of, file_with, files_from, head_of, capture_of, capture_and, AreParts, AddsParts, AddsHeadsPart, AddsPairs}
+use Rattle.receive_command.specs.Files.{file_with, files_from, head_of, capture_of, capture_of_pairs, capture_and, AreParts, AddsParts, AddsHeadsPart, AddsCaptures}
 use Rattle.receive_command.specs.Reading.{HasRead, records_in}
 use Rattle.receive_command.specs.Ends.{EndsFront, EndsAtLimit, StopsInRecord, EndsInFiles, in_heads, in_record, in_flush}
-use Rattle.receive_command.proofs.Adding.{whole_part, parts_front, parts_next}
+use Rattle.receive_command.proofs.Parts.{parts_whole, parts_front, parts_next, flushed_parts, parts_of_heads}
 use Rattle.receive_command.proofs.Advance.{consumes_none, some_size, records_length}
-use Rattle.receive_command.proofs.Assembly.{captures_of_pairs, parts_whole, parts_of_heads}
+use Rattle.receive_command.proofs.Assembly.{captures_of_pairs}
 use Rattle.receive_command.proofs.Grown.{records-append}
 use Rattle.receive_command.proofs.Pairs.{pairs_next, part_of_service}
 
@@ -25,28 +24,30 @@ pub record EndsPart (plan : PlanFields) (left now : Option (List ℕ)) (old new 
   pub pieces : List (List ℕ)
   pub behind : List ℕ
   pub read : HasRead plan.recording left now pieces behind
-  pub files : AddsParts (capture_of (records_in plan pieces)) plan.services old new
+  pub files : AddsParts (capture_of plan (records_in plan pieces)) plan.services old new
 
 -- The captures of all pairs.
 
-pairs_parts : (plan : PlanFields) (records : List Record) (old new : Option (List File)) → AddsPairs (delivered_pairs plan records) plan.services old new
-    → AddsParts (capture_of records) plan.services old new
-pairs_parts plan records old new added = parts_whole false (capture_of records) plan.services old new (captures_of_pairs plan records old new added)
+pairs_parts : (plan : PlanFields) → has_wrong_change plan ≡ false → (records : List Record) (old new : Option (List File))
+    → AddsCaptures false (capture_of_pairs (told_pairs plan records)) plan.services old new → AddsParts (capture_of plan records) plan.services old new
+pairs_parts plan right records old new added = parts_whole false (capture_of plan records) plan.services old new (captures_of_pairs plan right records old new added)
 
-pub part_of_front : (plan : PlanFields) (left now : Option (List ℕ)) (a b : Option (List File)) → EndsFront plan left now a b → EndsPart plan left now a b
-part_of_front plan left now a b front = record {
+pub part_of_front : (plan : PlanFields) → has_wrong_change plan ≡ false → (left now : Option (List ℕ)) (a b : Option (List File)) → EndsFront plan left now a b
+    → EndsPart plan left now a b
+part_of_front plan right left now a b front = record {
   pieces = front.pieces;
   behind = front.behind;
   read = front.read;
-  files = pairs_parts plan (records_in plan front.pieces) a b front.files;
+  files = pairs_parts plan right (records_in plan front.pieces) a b front.files;
 }
 
-pub part_of_limit : (plan : PlanFields) (left now : Option (List ℕ)) (a b : Option (List File)) → EndsAtLimit plan left now a b → EndsPart plan left now a b
-part_of_limit plan left now a b limit = record {
+pub part_of_limit : (plan : PlanFields) → has_wrong_change plan ≡ false → (left now : Option (List ℕ)) (a b : Option (List File)) → EndsAtLimit plan left now a b
+    → EndsPart plan left now a b
+part_of_limit plan right left now a b limit = record {
   pieces = limit.pieces;
   behind = [];
   read = limit.read;
-  files = pairs_parts plan (records_in plan limit.pieces) a b limit.files;
+  files = pairs_parts plan right (records_in plan limit.pieces) a b limit.files;
 }
 
 -- Stopped at a head.
@@ -61,14 +62,14 @@ none_read form left now unread = record {
 parts_of_heads_part : (services : List ServiceFields) (count : ℕ) (a b : Option (List File)) → AddsHeadsPart services count a b → AddsParts head_of services a b
 parts_of_heads_part services count a b heads = elim heads.files [
   | inl whole ↦ record {
-    files = map (file_with false head_of) (take count services);
-    parts = parts_front false head_of services count;
+    files = files_from false 0 head_of (take count services);
+    parts = parts_front false 0 head_of services count;
     added = whole;
   }
   | inr some ↦ record {
-    files = map (file_with false head_of) (take count services) ++ file_of heads.service.name (take some.0 capture_head) ∷ [];
-    parts = parts_next false head_of services count heads.service (file_of heads.service.name (take some.0 capture_head)) heads.next
-        (record { name = refl; count = some.0; bytes = refl });
+    files = files_from false 0 head_of (take count services) ++ file_with false heads.service.name (take some.0 capture_head) ∷ [];
+    parts = parts_next false 0 head_of services count heads.service (file_with false heads.service.name (take some.0 capture_head)) heads.next
+        (record { name_is = refl; count = some.0; bytes = refl });
     added = some.2;
   }
 ]
@@ -91,12 +92,12 @@ records_next m2ts pieces piece = m2ts_next None pieces piece
 -- the pairs of all records are those of the first ones and those of the last
 last_pairs : (plan : PlanFields) (pieces : List (List ℕ)) (piece : List ℕ) (pairs : List (ℕ × List ℕ))
     → pairs_of_record plan (records_in plan (pieces ++ piece ∷ [])) (length pieces) ≡ pairs
-    → delivered_pairs plan (records_in plan (pieces ++ piece ∷ [])) ≡ delivered_pairs plan (records_in plan pieces) ++ pairs
+    → told_pairs plan (records_in plan (pieces ++ piece ∷ [])) ≡ told_pairs plan (records_in plan pieces) ++ pairs
 last_pairs plan pieces piece pairs same =
     let next = records_next plan.recording pieces piece in
-    ap (λ (records : List Record). delivered_pairs plan records) next.1
+    ap (λ (records : List Record). told_pairs plan records) next.1
     ∙ pairs_next plan (records_in plan pieces) next.0
-    ∙ ap (λ (ps : List (ℕ × List ℕ)). delivered_pairs plan (records_in plan pieces) ++ ps)
+    ∙ ap (λ (ps : List (ℕ × List ℕ)). told_pairs plan (records_in plan pieces) ++ ps)
     (ap₂ (λ (records : List Record) (n : ℕ). pairs_of_record plan records n) (sym next.1) (records_length plan.recording pieces) ∙ same)
 
 -- in the file of its service a prefix of the record, in the others nothing
@@ -122,79 +123,72 @@ pairs_cut service count datagram before rest k few =
           ∙ ap (λ (t : List ℕ). take n (capture_head ++ t)) (records-append 0 before ((service, datagram) ∷ rest) k),
     )
 
--- files by the numbers of their services
-numbered_parts : (text : ServiceFields → List ℕ) (services : List ServiceFields) (k : ℕ) (own : ℕ → List ℕ)
-    → ((i : ℕ) (service : ServiceFields) → slice_get services i ≡ Some service → (n : ℕ) × (own (k + i) ≡ take n (text service)))
-    → AreParts text services (files_from k own services)
-numbered_parts text [] k own each = tt
-numbered_parts text (service ∷ services) k own each =
-    let now = each 0 service refl in
-    let same : k ≡ k + 0 = omega arith in (
-      record { name = refl; count = now.0; bytes = ap own same ∙ now.1 },
-      numbered_parts text services (k + 1) own (λ i s there.
-          let later = each (suc i) s there in
-          let place : k + 1 + i ≡ k + suc i = omega arith in
-          (later.0, ap own place ∙ later.1)),
+-- files by the numbers of their services, each a part of a text
+numbered_parts : (from : ℕ) (text own : ℕ → List ℕ) (services : List ServiceFields)
+    → ((i : ℕ) → i < length services → (n : ℕ) × (own (from + i) ≡ take n (text (from + i)))) → AreParts from text services (files_from false from own services)
+numbered_parts from text own [] each = tt
+numbered_parts from text own (service ∷ services) each =
+    let first : from + 0 ≡ from = omega arith in
+    let now : (n : ℕ) × (own from ≡ take n (text from)) = subst (λ (m : ℕ). (n : ℕ) × (own m ≡ take n (text m))) first (each 0 (omega arith)) in (
+      record { name_is = refl; count = now.0; bytes = now.1 },
+      numbered_parts (from + 1) text own services (λ i low.
+          let on : from + suc i ≡ from + 1 + i = omega arith in
+          subst (λ (m : ℕ). (n : ℕ) × (own m ≡ take n (text m))) on (each (suc i) (omega (arith, low)))),
     )
 
-record_parts : (plan : PlanFields) (records : List Record) (before : List (ℕ × List ℕ)) (service : ℕ) (datagram : List ℕ) (rest : List (ℕ × List ℕ)) (count : ℕ)
-    → delivered_pairs plan records ≡ before ++ (service, datagram) ∷ rest → count < length (capture_record datagram)
-    → AreParts (capture_of records) plan.services (files_from 0 (capture_and service (take count (capture_record datagram)) before) plan.services)
-record_parts plan records before service datagram rest count all less =
-    numbered_parts (capture_of records) plan.services 0 (capture_and service (take count (capture_record datagram)) before)
-    (λ k s there.
-    let cut = pairs_cut service count datagram before rest (0 + k) (omega (arith, less)) in (
+record_parts : (plan : PlanFields) → has_wrong_change plan ≡ false
+    → (records : List Record) (before : List (ℕ × List ℕ)) (service : ℕ) (datagram : List ℕ) (rest : List (ℕ × List ℕ)) (count : ℕ)
+    → told_pairs plan records ≡ before ++ (service, datagram) ∷ rest → count < length (capture_record datagram)
+    → AreParts 0 (capture_of plan records) plan.services (files_from false 0 (capture_and service (take count (capture_record datagram)) before) plan.services)
+record_parts plan right records before service datagram rest count all less =
+    numbered_parts 0 (capture_of plan records) (capture_and service (take count (capture_record datagram)) before) plan.services
+    (λ k low.
+    let cut = pairs_cut service count datagram before rest (0 + k) (omega (arith, less)) in
+    let here : k ≡ 0 + k = omega arith in (
       cut.0,
       cut.1
           ∙ ap (λ (ps : List (ℕ × List ℕ)). take cut.0 (capture_head ++ records_at 0 ps (0 + k))) (sym all)
-          ∙ ap (λ (t : List ℕ). take cut.0 (capture_head ++ t)) (part_of_service plan 0 k s records there),
+          ∙ ap (λ (t : List ℕ). take cut.0 (capture_head ++ t)) (part_of_service plan right 0 k records low)
+          ∙ ap (λ (n : ℕ). take cut.0 (capture_of plan records n)) here,
     ))
 
-part_in_record : (plan : PlanFields) (left now : Option (List ℕ)) (a b : Option (List File)) → StopsInRecord plan left now a b → EndsPart plan left now a b
-part_in_record plan left now a b stop =
-    let before : List (ℕ × List ℕ) = delivered_pairs plan (records_in plan stop.pieces) ++ stop.front in
+part_in_record : (plan : PlanFields) → has_wrong_change plan ≡ false → (left now : Option (List ℕ)) (a b : Option (List File)) → StopsInRecord plan left now a b
+    → EndsPart plan left now a b
+part_in_record plan right left now a b stop =
+    let before : List (ℕ × List ℕ) = told_pairs plan (records_in plan stop.pieces) ++ stop.front in
     record {
       pieces = stop.pieces ++ stop.piece ∷ [];
       behind = [];
       read = stop.read;
       files = record {
-        files = files_from 0 (capture_and stop.service (take stop.count (capture_record stop.datagram)) before) plan.services;
-        parts = record_parts plan (records_in plan (stop.pieces ++ stop.piece ∷ [])) before stop.service stop.datagram stop.rest stop.count
+        files = files_from false 0 (capture_and stop.service (take stop.count (capture_record stop.datagram)) before) plan.services;
+        parts = record_parts plan right (records_in plan (stop.pieces ++ stop.piece ∷ [])) before stop.service stop.datagram stop.rest stop.count
             (last_pairs plan stop.pieces stop.piece (stop.front ++ (stop.service, stop.datagram) ∷ stop.rest) stop.pairs
-            ∙ sym (append_assoc (delivered_pairs plan (records_in plan stop.pieces)) stop.front ((stop.service, stop.datagram) ∷ stop.rest)))
+            ∙ sym (append_assoc (told_pairs plan (records_in plan stop.pieces)) stop.front ((stop.service, stop.datagram) ∷ stop.rest)))
             stop.less;
         added = stop.files;
       };
     }
 
--- Stopped at a flush.
+-- Stopped anywhere.
 
-all_parts : (b : Bool) (text : ServiceFields → List ℕ) (services : List ServiceFields) → AreParts text services (map (file_with b text) services)
-all_parts b text [] = tt
-all_parts b text (service ∷ services) = (whole_part b text service, all_parts b text services)
-
-flushed_parts : (text : ServiceFields → List ℕ) (services : List ServiceFields) (count : ℕ)
-    → AreParts text services (take count (map (file_with true text) services) ++ drop count (map (file_with false text) services))
-flushed_parts text [] zero = tt
-flushed_parts text [] (suc count) = tt
-flushed_parts text (service ∷ services) zero = (whole_part false text service, all_parts false text services)
-flushed_parts text (service ∷ services) (suc count) = (whole_part true text service, flushed_parts text services count)
-
-pub part_of_files : (plan : PlanFields) (left now : Option (List ℕ)) (a b : Option (List File)) → EndsInFiles plan left now a b → EndsPart plan left now a b
-part_of_files plan left now a b (in_heads stop) = record {
+pub part_of_files : (plan : PlanFields) → has_wrong_change plan ≡ false → (left now : Option (List ℕ)) (a b : Option (List File)) → EndsInFiles plan left now a b
+    → EndsPart plan left now a b
+part_of_files plan right left now a b (in_heads stop) = record {
   pieces = [];
   behind = [];
   read = none_read plan.recording left now stop.unread;
-  files = parts_of_heads (records_in plan []) plan.services a b (parts_of_heads_part plan.services stop.count a b stop.files);
+  files = parts_of_heads plan (records_in plan []) plan.services a b (parts_of_heads_part plan.services stop.count a b stop.files);
 }
-part_of_files plan left now a b (in_record stop) = part_in_record plan left now a b stop
-part_of_files plan left now a b (in_flush stop) = record {
+part_of_files plan right left now a b (in_record stop) = part_in_record plan right left now a b stop
+part_of_files plan right left now a b (in_flush stop) = record {
   pieces = stop.pieces;
   behind = stop.behind;
   read = stop.read;
   files = record {
-    files = take stop.count (map (file_with true (capture_of (records_in plan stop.pieces))) plan.services) ++ drop stop.count (map (file_with false (capture_of (records_in plan stop.pieces))) plan.services);
-    parts = flushed_parts (capture_of (records_in plan stop.pieces)) plan.services stop.count;
+    files = take stop.count (files_from true 0 (capture_of plan (records_in plan stop.pieces)) plan.services)
+        ++ drop stop.count (files_from false 0 (capture_of plan (records_in plan stop.pieces)) plan.services);
+    parts = flushed_parts 0 (capture_of plan (records_in plan stop.pieces)) plan.services stop.count;
     added = stop.files;
   };
 }

@@ -1,11 +1,15 @@
--- What holds of every plan: how many services it has, and their names.
-use Rattle.std.proofs.Common.{◌≡◌, ◌⊎◌, inl, inr, ℕ, zero, suc, ◌<◌, ◌≤◌, Bool, true, false, ◌&&◌, ◌||◌, Some, List, [], ◌∷◌, length, refl, subst, arith}
+-- What holds of every plan: how many services it has, their names, and that none of its changes is wrong.
+use Rattle.std.proofs.Common.{◌≡◌, ◌⊎◌, inl, inr, ℕ, zero, suc, ◌<◌, ◌≤◌, Bool, true, false, not, ◌&&◌, ◌||◌, Some, List, [], ◌∷◌, length, eqb, refl, subst, arith}
 use Rattle.std.specs.Prelude.{nat_le, slice_get}
 use Rattle.std.specs.List.{list_all}
-use Rattle.std.proofs.lemmas.Bool.{leb-true}
+use Rattle.std.proofs.lemmas.Bool.{eqb-true, leb-true}
 use Rattle.plan_spec.specs.Plan.{ServiceFields, PlanFields, is_baseband}
-use Rattle.plan_spec.specs.Checks.{is_between, is_service_name}
-use Rattle.plan_spec.specs.Valid.{most_services, is_valid_rule, has_valid_values, is_valid_service, is_valid_frame_size, is_valid_int, has_valid_top, is_in_range, is_plan_of_settings, is_plan_of_pid, is_plan}
+use Rattle.plan_spec.specs.Checks.{is_between, is_service_name, has_wrong_carrier, has_same_name, has_same_pid}
+use Rattle.plan_spec.specs.Changes.{has_wrong_change}
+use Rattle.plan_spec.specs.Valid.{most_services, is_valid_rule, has_valid_values, is_valid_service, is_valid_frame_size, is_valid_int, has_valid_top, is_in_range, is_consistent, is_plan_of_settings, is_plan_of_pid, is_plan}
+use Rattle.plan_spec.specs.Wholes.{has_valid_changes, is_whole_of_settings, is_whole_of_pid, is_whole_plan}
+use Rattle.plan_law.proofs.Lists.{not_false}
+use Rattle.plan_law.proofs.Alone.{right_alone}
 
 both : (a b : Bool) → (a && b) ≡ true → (a ≡ true) × (b ≡ true)
 both true b e = (refl, e)
@@ -57,3 +61,38 @@ names_at least (s ∷ services) valid (suc k) service there =
 
 pub services_named : (plan : PlanFields) → is_plan plan ≡ true → (k : ℕ) (service : ServiceFields) → slice_get plan.services k ≡ Some service → is_service_name service.name ≡ true
 services_named plan valid = names_at (ranges plan valid).least plan.services (ranges plan valid).services
+
+-- Its changes.
+
+right_of_settings : (plan : PlanFields) → is_whole_of_settings plan ≡ true → has_wrong_change plan ≡ false
+unfolding is_whole_of_settings
+right_of_settings plan whole =
+    let changes = (both (eqb plan.version 0) _ whole).1 in
+    not_false (has_wrong_change plan) (both (not (has_wrong_change plan)) _ (both (has_valid_changes plan) _ changes).1).0
+
+no_item : {X : Type 0} (xs : List X) → length xs ≡ 0 → xs ≡ []
+no_item [] none = refl
+no_item (x ∷ xs) none = absurd (omega (arith, none))
+
+differ : (plan : PlanFields) → is_consistent plan ≡ true → has_same_pid plan ≡ false
+unfolding is_consistent
+differ plan all =
+    let names = (both (not (has_wrong_carrier plan)) _ all).1 in
+    not_false (has_same_pid plan) (both (not (has_same_pid plan)) _ (both (not (has_same_name plan)) _ names).1).0
+
+differ_of_pid : (plan : PlanFields) → is_plan_of_pid plan ≡ true → has_same_pid plan ≡ false
+unfolding is_plan_of_pid
+differ_of_pid plan is = differ plan (both (is_consistent plan) _ (both (is_in_range 0 plan) _ is).1).0
+
+right_of_pid : (plan : PlanFields) → is_whole_of_pid plan ≡ true → has_wrong_change plan ≡ false
+unfolding is_whole_of_pid
+right_of_pid plan whole =
+    let parts = both (eqb plan.version 0) _ whole in
+    let rest = both (eqb (length plan.changes) 0) (is_plan_of_pid plan) parts.1 in
+    right_alone plan (eqb-true plan.version 0 parts.0) (no_item plan.changes (eqb-true (length plan.changes) 0 rest.0)) (differ_of_pid plan rest.1)
+
+pub changes_right : (plan : PlanFields) → is_whole_plan plan ≡ true → has_wrong_change plan ≡ false
+changes_right plan whole = elim (either (is_whole_of_settings plan) (is_whole_of_pid plan) whole) [
+  | inl settings ↦ right_of_settings plan settings
+  | inr pid ↦ right_of_pid plan pid
+]

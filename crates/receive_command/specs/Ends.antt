@@ -1,13 +1,13 @@
 -- How a reception into files ends, over an input, a rack and an output that may tell their content.
-use Rattle.std.specs.Prelude.{◌≡◌, ℕ, ◌<◌, true, List, [], ◌∷◌, ◌++◌, length, take, Option}
+use Rattle.std.specs.Prelude.{◌≡◌, ℕ, ◌<◌, true, false, List, [], ◌∷◌, ◌++◌, length, take, Option}
 use Rattle.std.specs.Io.KnownBytes.{Appends, IsAtEnd}
 use Rattle.wire_spec.specs.Content.{File}
 use Rattle.ts_spec.specs.Recording.{Record}
 use Rattle.plan_spec.specs.Plan.{PlanFields}
-use Rattle.reception_spec.specs.Delivered.{delivered_pairs, pairs_of_record}
+use Rattle.reception_spec.specs.Delivered.{told_pairs, pairs_of_record}
 use Rattle.pcap_file.specs.Capture.{capture_record}
 use Rattle.demux_core.specs.Receiving.{ReceiverState, HasReceived}
-use Rattle.receive_command.specs.Files.{AddsCaptures, AddsHeadsPart, AddsPairs, AddsPairsAnd, AddsFlushed, capture_of}
+use Rattle.receive_command.specs.Files.{AddsCaptures, AddsHeadsPart, AddsFlushed, capture_of, capture_of_pairs, capture_and}
 use Rattle.receive_command.specs.Reading.{HasRead, records_in, most_records}
 use Rattle.receive_command.specs.Report.{IsReport}
 
@@ -18,7 +18,7 @@ pub record EndsWhole (plan : PlanFields) (left now : Option (List ℕ)) (old new
   pub read : HasRead plan.recording left now pieces tail
   pub fewer : length pieces < most_records
   pub at_end : IsAtEnd now
-  pub files : AddsCaptures true (capture_of (records_in plan pieces)) plan.services old new
+  pub files : AddsCaptures true (capture_of plan (records_in plan pieces)) plan.services old new
 
 -- the same of a receiver that was given all records, and the number of bytes after the last
 pub record WritesWhole (plan : PlanFields) (receiver : ReceiverState) (left now : Option (List ℕ)) (old new : Option (List File)) (tail : ℕ) : Type 0 where
@@ -27,20 +27,20 @@ pub record WritesWhole (plan : PlanFields) (receiver : ReceiverState) (left now 
   pub received : HasReceived plan (records_in plan ends.pieces) receiver
 
 -- the input could not be read on: fewer records than the most were read, and less than one after them; each file has what these
--- records give, and nothing is flushed
+-- records tell, and nothing is flushed
 pub record EndsFront (plan : PlanFields) (left now : Option (List ℕ)) (old new : Option (List File)) : Type 0 where
   pub pieces : List (List ℕ)
   pub behind : List ℕ
   pub read : HasRead plan.recording left now pieces behind
   pub fewer : length pieces < most_records
-  pub files : AddsPairs (delivered_pairs plan (records_in plan pieces)) plan.services old new
+  pub files : AddsCaptures false (capture_of_pairs (told_pairs plan (records_in plan pieces))) plan.services old new
 
--- the most records were read, and nothing after them; each file has what these records give, and nothing is flushed
+-- the most records were read, and nothing after them; each file has what these records tell, and nothing is flushed
 pub record EndsAtLimit (plan : PlanFields) (left now : Option (List ℕ)) (old new : Option (List File)) : Type 0 where
   pub pieces : List (List ℕ)
   pub read : HasRead plan.recording left now pieces []
   pub limit : length pieces ≡ most_records
-  pub files : AddsPairs (delivered_pairs plan (records_in plan pieces)) plan.services old new
+  pub files : AddsCaptures false (capture_of_pairs (told_pairs plan (records_in plan pieces))) plan.services old new
 
 -- the files stopped at the head of one of them: nothing was read, the heads before it are whole, and of this one less than all was written
 pub record StopsInHeads (plan : PlanFields) (left now : Option (List ℕ)) (old new : Option (List File)) : Type 0 where
@@ -62,7 +62,7 @@ pub record StopsInRecord (plan : PlanFields) (left now : Option (List ℕ)) (old
   pub pairs : pairs_of_record plan (records_in plan (pieces ++ piece ∷ [])) (length pieces) ≡ front ++ (service, datagram) ∷ rest
   pub count : ℕ
   pub less : count < length (capture_record datagram)
-  pub files : AddsPairsAnd service (take count (capture_record datagram)) (delivered_pairs plan (records_in plan pieces) ++ front) plan.services old new
+  pub files : AddsCaptures false (capture_and service (take count (capture_record datagram)) (told_pairs plan (records_in plan pieces) ++ front)) plan.services old new
 
 -- the files stopped at the flush of one of them: the input was read to its end, all files are whole, and those before this one are flushed
 pub record StopsInFlush (plan : PlanFields) (left now : Option (List ℕ)) (old new : Option (List File)) : Type 0 where
@@ -73,7 +73,7 @@ pub record StopsInFlush (plan : PlanFields) (left now : Option (List ℕ)) (old 
   pub at_end : IsAtEnd now
   pub count : ℕ
   pub less : count < length plan.services
-  pub files : AddsFlushed count (capture_of (records_in plan pieces)) plan.services old new
+  pub files : AddsFlushed count (capture_of plan (records_in plan pieces)) plan.services old new
 
 -- a file could not be added, written or flushed
 pub data EndsInFiles (plan : PlanFields) (left now : Option (List ℕ)) (old new : Option (List File)) : Type 0 where

@@ -8,7 +8,7 @@ use Rattle.ts_spec.specs.Recording.{RecordingForm, record_size, Record, records_
 use Rattle.ipe_io.specs.Told.{InputTold, RackTold}
 use Rattle.ts_record.specs.Reading.{ReaderState, ReaderOf}
 use Rattle.plan_spec.specs.Plan.{PlanFields}
-use Rattle.reception_spec.specs.Delivered.{delivered_pairs, pairs_of_record}
+use Rattle.reception_spec.specs.Delivered.{told_pairs, pairs_of_record}
 use Rattle.pcap_file.specs.Capture.{capture_record}
 use Rattle.demux_core.specs.Receiving.{ReceiverState, HasReceived}
 use Rattle.receive_command.specs.Growth.{Grow, records_at, records_and}
@@ -28,9 +28,9 @@ abbrev pub records_in : PlanFields → List (List ℕ) → List Record
 records_in plan pieces = records_of plan.recording pieces
 
 abbrev pub text_at : PlanFields → ℕ → List (List ℕ) → ℕ → List ℕ
-text_at plan first pieces at = records_at first (delivered_pairs plan (records_in plan pieces)) at
+text_at plan first pieces at = records_at first (told_pairs plan (records_in plan pieces)) at
 
--- the input was read to its end, with this many bytes after the last record; the files grew by all that it delivers
+-- the input was read to its end, with this many bytes after the last record; the files grew by all that its records tell
 pub record ReadsWhole (plan : PlanFields) (receiver : ReceiverState) (left now : Option (List ℕ)) (old new : Option (List File)) (first tail : ℕ) : Type 0 where
   pub pieces : List (List ℕ)
   pub behind : List ℕ
@@ -41,7 +41,7 @@ pub record ReadsWhole (plan : PlanFields) (receiver : ReceiverState) (left now :
   pub files : Grow old new (text_at plan first pieces)
   pub received : HasReceived plan (records_in plan pieces) receiver
 
--- the reading stopped: fewer records than the most were read, and the files grew by what these give
+-- the reading stopped: fewer records than the most were read, and the files grew by what these tell
 pub record ReadsFront (plan : PlanFields) (left now : Option (List ℕ)) (old new : Option (List File)) (first : ℕ) : Type 0 where
   pub pieces : List (List ℕ)
   pub behind : List ℕ
@@ -49,7 +49,7 @@ pub record ReadsFront (plan : PlanFields) (left now : Option (List ℕ)) (old ne
   pub fewer : length pieces < most_records
   pub files : Grow old new (text_at plan first pieces)
 
--- the most records were read, and nothing after them; the files grew by what these give
+-- the most records were read, and nothing after them; the files grew by what these tell
 pub record ReadsToLimit (plan : PlanFields) (left now : Option (List ℕ)) (old new : Option (List File)) (first : ℕ) : Type 0 where
   pub pieces : List (List ℕ)
   pub read : HasRead plan.recording left now pieces []
@@ -70,11 +70,11 @@ pub record ReadsToStop (plan : PlanFields) (left now : Option (List ℕ)) (old n
   pub pairs : pairs_of_record plan (records_in plan (pieces ++ piece ∷ [])) (length pieces) ≡ front ++ (service, datagram) ∷ rest
   pub count : ℕ
   pub less : count < length (capture_record datagram)
-  pub files : Grow old new (records_and first service (take count (capture_record datagram)) (delivered_pairs plan (records_in plan pieces) ++ front))
+  pub files : Grow old new (records_and first service (take count (capture_record datagram)) (told_pairs plan (records_in plan pieces) ++ front))
 
 -- Record by record: an input and a rack as they were before the first, and as they are now.
 
--- these pieces were read, and the receiver was given their records; the files grew by what they give, and nothing failed
+-- these pieces were read, and the receiver was given their records; the files grew by what they tell, and nothing failed
 pub record HasGiven (plan : PlanFields) (first : ℕ) (input now : InputTold) (rack now_rack : RackTold) (reader : ReaderState) (receiver : ReceiverState) (pieces : List (List ℕ)) : Type 0 where
   pub form : reader.form ≡ plan.recording
   pub stands : ReaderOf reader pieces

@@ -5,7 +5,7 @@ ghost use Rattle.wire_spec.specs.Content.{Stays, AddsFile};
 ghost use Rattle.ipe_io.specs.Counts.{HasAddCause};
 ghost use Rattle.pcap_file.specs.Capture.{capture_head};
 ghost use Rattle.plan.specs.Parts.{service_seen};
-ghost use Rattle.receive_command.specs.Files.{file_name as name_of_file, file_of, AddsPart, AddsCaptures, AddsHeads, AddsHeadsPart, head_of};
+ghost use Rattle.receive_command.specs.Files.{file_name as name_of_file, file_with, AddsPart, AddsCaptures, AddsHeads, AddsHeadsPart, head_of};
 ghost use Rattle.receive_command.specs.Flushes.{Flush};
 
 use ipe_io::{AddFault, Failed, OutOfMemory, Rack, put_file};
@@ -26,7 +26,7 @@ fn file_name(alloc: Global, name: &str) -> Result<String, OutOfMemory>
 fn add_file<R: Rack>(alloc: Global, name: &str, rack: &mut R) -> Result<u32, AddFault>
     ensures place { IfOk result (λ at. (at ≡ (R.told rack.old).count) × (at < 2 ^ 32)) }
     ensures count { OnOk result ((R.told rack.new).count ≡ (R.told rack.old).count + 1) }
-    ensures written { OnOk result (AddsFile (R.told rack.old).files (R.told rack.new).files (file_of name.now capture_head)) }
+    ensures written { OnOk result (AddsFile (R.told rack.old).files (R.told rack.new).files (file_with false name.now capture_head)) }
     ensures failed { IsErrOf result AddFault.Failed → AddsPart name.now (R.told rack.old).files (R.told rack.new).files }
     ensures memory { IsErrOf result AddFault.OutOfMemory → ((R.told rack.new).count ≡ (R.told rack.old).count) × Stays (R.told rack.old).files (R.told rack.new).files }
     ensures cause { HasAddCause (R.told rack.old).faults (R.told rack.new).faults result }

@@ -1,5 +1,5 @@
 //! The report of a reception: counts and the address table -> lines of text.
-ghost use Rattle.std.specs.Prelude.{◌≡◌, ℕ, ◌≤◌, ◌++◌, true, List, flat_map, length, Some, slice_get, IfOk, OnOk};
+ghost use Rattle.std.specs.Prelude.{◌≡◌, ℕ, ◌≤◌, ◌++◌, true, List, length, Some, slice_get, IfOk, OnOk};
 ghost use Rattle.ts_spec.specs.Recording.{Record as ReadRecord};
 ghost use Rattle.int_spec.specs.Reading.{carried};
 ghost use Rattle.plan_spec.specs.Plan.{ServiceFields};
@@ -7,7 +7,8 @@ ghost use Rattle.plan_spec.specs.Checks.{is_service_name};
 ghost use Rattle.plan.specs.PlanView.{plan_fields};
 ghost use Rattle.demux_core.specs.Receiving.{HasReceived};
 ghost use Rattle.int_table.specs.Views.{entry_in};
-ghost use Rattle.receive_command.specs.Report.{IsReport, AddsTable, AddsSection, fault_number, lines_of_service, lines_of_entry, lines_of_rules};
+ghost use Rattle.loss_report.specs.Counts.{table_lines};
+ghost use Rattle.receive_command.specs.Report.{IsReport, AddsTable, AddsSection, fault_number, lines_from, lines_of_entry, lines_of_rules, lines_of_version, version_of};
 
 use demux_core::Receiver;
 use int_table::{IntEntry, IntFault, IntReadFault, IntTable};
@@ -47,7 +48,7 @@ fn add_services(
     requires few { length plan.now.services ≤ 64 }
     requires named { (k : ℕ) (service : ServiceFields) → slice_get (plan_fields plan.now).services k ≡ Some service → is_service_name service.name ≡ true }
     ensures written { (records : List ReadRecord) → HasReceived (plan_fields plan.now) records receiver.now
-        → OnOk result (report.new ≡ report.old ++ flat_map (lines_of_service records) (plan_fields plan.now).services) }
+        → OnOk result (report.new ≡ report.old ++ lines_from (plan_fields plan.now) records 0 (plan_fields plan.now).services) }
 {
     for k in 0..plan.services.len() {
         let counts = receiver.counts(k as u32);
@@ -71,9 +72,38 @@ fn add_table(
         Some(_) => {}
     }
     let units = receiver.table_units();
+    let version = version_shown(plan, receiver);
     match receiver.table_section() {
-        None => report.add_table(units, 0),
-        Some(section) => add_section(alloc, report, units, section),
+        None => add_table_lines(report, units, 0, version),
+        Some(section) => add_section(alloc, report, units, version, section),
+    }
+}
+
+/// The version of the plan that is in force, where the plan has changes.
+fn version_shown(plan: &Plan, receiver: &Receiver<'_>) -> Option<u8>
+    ensures read { (records : List ReadRecord) → HasReceived (plan_fields plan.now) records receiver.now
+        → result ≡ version_of (plan_fields plan.now) records }
+{
+    if plan.changes.len() == 0 {
+        None
+    } else {
+        Some(receiver.plan_in_force())
+    }
+}
+
+/// Adds the lines of the table before those of its rules.
+fn add_table_lines(
+    report: &mut Report,
+    units: u64,
+    refused: u8,
+    version: Option<u8>,
+) -> Result<(), OutOfMemory>
+    ensures written { OnOk result (report.new ≡ report.old ++ (table_lines units refused ++ lines_of_version version)) }
+{
+    report.add_table(units, refused)?;
+    match version {
+        Some(version) => report.add_version(version),
+        None => Ok(()),
     }
 }
 
@@ -82,16 +112,19 @@ fn add_section(
     alloc: Global,
     report: &mut Report,
     units: u64,
+    version: Option<u8>,
     section: &[u8],
 ) -> Result<(), OutOfMemory>
-    ensures written { OnOk result (AddsSection section.now units report.old report.new) }
+    ensures written { OnOk result (AddsSection section.now units version report.old report.new) }
 {
     let table = match IntTable::read(alloc, section) {
         Ok(table) => table,
-        Err(IntReadFault::Fault(fault)) => return report.add_table(units, number_of(fault)),
+        Err(IntReadFault::Fault(fault)) => {
+            return add_table_lines(report, units, number_of(fault), version);
+        }
         Err(IntReadFault::OutOfMemory) => return Err(OutOfMemory),
     };
-    report.add_table(units, 0)?;
+    add_table_lines(report, units, 0, version)?;
     add_rules(report, &table)
 }
 

@@ -97,6 +97,7 @@ const WHOLE_REPORT: Report = Report {
     table: Some(TableReport {
         units: 1,
         refused: 0,
+        version: None,
         rules: &[("239.1.0.0/16", 1), ("239.2.0.0/16", 2)],
     }),
 };
@@ -112,6 +113,7 @@ const REFUSED_TABLE: Report = Report {
     table: Some(TableReport {
         units: 1,
         refused: 5,
+        version: None,
         rules: &[],
     }),
     ..WHOLE_REPORT

@@ -6,7 +6,7 @@ use section_codec::SectionForm;
 use service_reception::{Counts, Reception, TableReception, UnitReader};
 use std::alloc::Global;
 use std::test::Fail;
-use test_recordings::units::{DATAGRAM, INT, NEXT_INT, OTHER, SECTION, SNDU};
+use test_recordings::units::{DATAGRAM, INT, INT_OF_TWO, NEXT_INT, OTHER, SECTION, SNDU};
 use test_recordings::{NotedOutlet, go_on, start};
 use ts_packet::parse;
 use ule_unit::UleForm;
@@ -185,7 +185,7 @@ static TABLES: [Table; 5] = [
 fn the_first_section_of_an_int_is_kept(rt: HostRuntime) -> Result<(), Fail> {
     let buffer = vec![in rt.alloc(); 0u8; SectionForm::LONGEST]?;
     let kept = vec![in rt.alloc(); 0u8; SectionForm::LONGEST]?;
-    let mut reception = TableReception::over(buffer, kept);
+    let mut reception = TableReception::over(buffer, kept, 1, 0);
     for (counter, case) in TABLES.iter().enumerate() {
         let bytes = start(counter as u8, 0, case.section);
         if let Ok(packet) = parse(&bytes) {
@@ -195,5 +195,100 @@ fn the_first_section_of_an_int_is_kept(rt: HostRuntime) -> Result<(), Fail> {
         let want: Option<&[u8]> = if case.is_kept { Some(&INT) } else { None };
         assert_eq!(rt; reception.section(), want);
     }
+    Ok(())
+}
+
+/// INT_OF_TWO as of versions 1 and 2: version_number stands in bits 1 to 5 of byte 5.
+const VERSION_1: [u8; 67] = [
+    0x4C, 0xF0, 0x40, 0x01, 0x01, 0xC3, 0x00, 0x00, 0x00, 0x00, 0x01, 0x00, 0xF0, 0x00, 0xF0, 0x07,
+    0x0F, 0x05, 0xEF, 0x01, 0x00, 0x00, 0x10, 0xF0, 0x10, 0x13, 0x09, 0x00, 0x02, 0x00, 0x03, 0x00,
+    0x04, 0x00, 0x0A, 0x01, 0x77, 0x03, 0xBB, 0x07, 0x70, 0xF0, 0x07, 0x0F, 0x05, 0xEF, 0x02, 0x00,
+    0x00, 0x10, 0xF0, 0x0B, 0x13, 0x09, 0x00, 0x02, 0x00, 0x03, 0x00, 0x04, 0x00, 0x0A, 0x02, 0x7E,
+    0x8B, 0xE1, 0xC2,
+];
+
+const VERSION_2: [u8; 67] = [
+    0x4C, 0xF0, 0x40, 0x01, 0x01, 0xC5, 0x00, 0x00, 0x00, 0x00, 0x01, 0x00, 0xF0, 0x00, 0xF0, 0x07,
+    0x0F, 0x05, 0xEF, 0x01, 0x00, 0x00, 0x10, 0xF0, 0x10, 0x13, 0x09, 0x00, 0x02, 0x00, 0x03, 0x00,
+    0x04, 0x00, 0x0A, 0x01, 0x77, 0x03, 0xBB, 0x07, 0x70, 0xF0, 0x07, 0x0F, 0x05, 0xEF, 0x02, 0x00,
+    0x00, 0x10, 0xF0, 0x0B, 0x13, 0x09, 0x00, 0x02, 0x00, 0x03, 0x00, 0x04, 0x00, 0x0A, 0x02, 0xD1,
+    0x3D, 0x00, 0xD5,
+];
+
+/// A section on the INT's PID, and after it the version in force and the section that is shown, where the plan has versions 0 and 1.
+#[derive(Clone, Copy)]
+struct InForce<'a> {
+    section: &'a [u8],
+    version: u8,
+    shown: &'a [u8],
+}
+
+static VERSIONS: [InForce; 4] = [
+    InForce {
+        section: &INT_OF_TWO,
+        version: 0,
+        shown: &INT_OF_TWO,
+    },
+    InForce {
+        section: &VERSION_2,
+        version: 0,
+        shown: &INT_OF_TWO,
+    },
+    InForce {
+        section: &VERSION_1,
+        version: 1,
+        shown: &VERSION_1,
+    },
+    InForce {
+        section: &INT_OF_TWO,
+        version: 1,
+        shown: &VERSION_1,
+    },
+];
+
+/// EN 301 192 clause 8.4: of the platform's sections the greatest version of the plan is in force; those of another put none in force.
+#[test]
+fn a_later_version_is_put_in_force(rt: HostRuntime) -> Result<(), Fail> {
+    for platform in 1..3u32 {
+        let buffer = vec![in rt.alloc(); 0u8; SectionForm::LONGEST]?;
+        let kept = vec![in rt.alloc(); 0u8; SectionForm::LONGEST]?;
+        let mut reception = TableReception::over(buffer, kept, platform, 1);
+        for (counter, case) in VERSIONS.iter().enumerate() {
+            let bytes = start(counter as u8, 0, case.section);
+            if let Ok(packet) = parse(&bytes) {
+                reception.take(&bytes, &packet, 0);
+            }
+            let of_platform = platform == 1;
+            let version = if of_platform { case.version } else { 0 };
+            assert_eq!(rt; reception.version(), version);
+            let shown = if of_platform { case.shown } else { &INT_OF_TWO };
+            assert_eq!(rt; reception.section(), Some(shown));
+        }
+        assert_eq!(rt; reception.units(), 4);
+    }
+    Ok(())
+}
+
+/// Where a reception begins anew, the unit under way is dropped without an event, and nothing is counted.
+#[test]
+fn a_unit_under_way_ends_where_a_reception_begins_anew(rt: HostRuntime) -> Result<(), Fail> {
+    let mut unit = [0u8; 200];
+    unit[..4].copy_from_slice(&[0x80, 0xC4, 8, 0]);
+    let filter = MacList::new(rt.alloc());
+    let buffer = vec![in rt.alloc(); 0u8; UleForm::LONGEST]?;
+    let mut reception = Reception::<UleForm, Global>::over(buffer);
+    let mut noted = NotedOutlet::new(100);
+    take(&mut reception, &start(0, 0, &unit), &filter, &mut noted)?;
+    reception.begin_anew();
+    assert_eq!(rt; reception.counts(), Counts::new());
+    take(&mut reception, &go_on(1, &unit[183..]), &filter, &mut noted)?;
+    take(&mut reception, &start(2, 0, &SNDU), &filter, &mut noted)?;
+    let counts = Counts {
+        heard: 2,
+        units: 1,
+        datagrams: 1,
+        ..Counts::new()
+    };
+    assert_eq!(rt; reception.counts(), counts);
     Ok(())
 }

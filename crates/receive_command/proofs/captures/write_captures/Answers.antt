@@ -8,6 +8,7 @@ use Rattle.plan.specs.PlanView.{plan_fields}
 use Rattle.receive_command.specs.Reading.{records_in}
 use Rattle.receive_command.proofs.Ends.{sized, ends_in_heads, ends_front, ends_at_limit, ends_in_record, ends_whole, ends_in_flush}
 use Rattle.ipe_io.proofs.Told.{raised-zero}
+use Rattle.receive_command.proofs.Plans.{changes_right}
 use Rattle.receive_command.proofs.CameUp.{came_up, comes_up, adding_failed, adding_not_failed, adding_no_memory}
 use Rattle.receive_command.proofs.captures.write_captures.Goals as goal
 
@@ -44,7 +45,7 @@ pub returns-in-Ok-clause-whole : goal.returns-in-Ok-clause-whole
 returns-in-Ok-clause-whole g c =
     let plan : PlanFields = plan_fields c.args.plan.now in
     let whole = c.in_ok-tail.ensures.whole in
-    ends_whole plan c.read_records.new.receiver c.end_captures.new.receiver (g.I.Source.told c.args.input.now).left (g.I.Source.told c.read_records.new.input).left
+    ends_whole plan (changes_right plan c.args.plan.now.whole) c.read_records.new.receiver c.end_captures.new.receiver (g.I.Source.told c.args.input.now).left (g.I.Source.told c.read_records.new.input).left
     (g.R.Rack.told c.args.rack.now).files (g.R.Rack.told c.add_files.new.rack).files (g.R.Rack.told c.read_records.new.rack).files (g.R.Rack.told c.end_captures.new.rack).files
     c.in_ok-first.first (c.in_ok-first.first + length c.args.plan.now.services) c.in_ok-tail.tail
     (sized (g.R.Rack.told c.args.rack.now).files (g.R.Rack.told c.args.rack.now).count c.in_ok-first.first c.in_ok-first.ensures.place (g.met.R.Rack.as_many c.args.rack.now)) c.in_ok-first.ensures.written
@@ -54,7 +55,7 @@ returns-in-Ok-clause-whole g c =
 pub returns-in-Err-clause-files : goal.returns-in-Err-clause-files
 returns-in-Err-clause-files g c = λ e.
     let stopped = c.in-Err.ensures.stopped in
-    ends_in_flush (plan_fields c.args.plan.now) c.read_records.new.receiver (g.I.Source.told c.args.input.now).left (g.I.Source.told c.read_records.new.input).left
+    ends_in_flush (plan_fields c.args.plan.now) (changes_right (plan_fields c.args.plan.now) c.args.plan.now.whole) c.read_records.new.receiver (g.I.Source.told c.args.input.now).left (g.I.Source.told c.read_records.new.input).left
     (g.R.Rack.told c.args.rack.now).files (g.R.Rack.told c.add_files.new.rack).files (g.R.Rack.told c.read_records.new.rack).files (g.R.Rack.told c.end_captures.new.rack).files
     c.in_ok-first.first c.in_ok-tail.tail stopped.0 (sized (g.R.Rack.told c.args.rack.now).files (g.R.Rack.told c.args.rack.now).count c.in_ok-first.first c.in_ok-first.ensures.place (g.met.R.Rack.as_many c.args.rack.now)) c.in_ok-first.ensures.written
     c.in_ok-tail.ensures.whole (omega (arith, stopped.1, length-map c.args.plan.now.services service_seen)) stopped.2

@@ -1,9 +1,6 @@
-use Rattle.std.proofs.Common.{◌≡◌, ◌-◌, ◌++◌, ◌∷◌, [], length, ap, sym, refl, ◌∙◌, arith, Ok, Err, Bool, List, ℕ}
-use Rattle.std.proofs.lemmas.List.{length_push}
+use Rattle.std.proofs.Common.{◌++◌, ◌∷◌, [], ap, arith, Ok, Err}
 use Rattle.plan.specs.PlanView.{plan_fields}
-use Rattle.receive_command.specs.Reading.{HasGiven}
 use Rattle.receive_command.specs.declared.faults.ReceiveFault.TheVariants as fault
-use Rattle.receive_command.proofs.Advance.{text_none, received_none, consumes_none}
 use Rattle.receive_command.proofs.CameUp.{came_up, comes_up}
 use Rattle.receive_command.proofs.Next.{counted_alike, one_of_three}
 use Rattle.receive_command.proofs.reading.read_records.Goals as goal

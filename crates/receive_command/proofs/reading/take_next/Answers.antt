@@ -1,4 +1,4 @@
-use Rattle.std.proofs.Common.{◌≡◌, ◌∙◌, ap, sym, true, false, Ok, Err, is_ok}
+use Rattle.std.proofs.Common.{◌∙◌, ap, sym, Ok, Err, is_ok}
 use Rattle.std.proofs.lemmas.Bool.{false≢true}
 use Rattle.ts_record.specs.Reading.{lent_seen, record_seen}
 use Rattle.receive_command.specs.Reading.{records_in}

@@ -6,8 +6,7 @@ use Rattle.plan.specs.Parts.{service_seen}
 use Rattle.plan.specs.PlanView.{plan_fields}
 use Rattle.loss_report.specs.Counts.{service_lines}
 use Rattle.loss_report.specs.declared.counts.ServiceCounts.{ServiceCounts}
-use Rattle.receive_command.specs.Report.{lines_of_service}
-use Rattle.receive_command.proofs.Lines.{flat_more}
+use Rattle.receive_command.proofs.Lines.{lines_more}
 use Rattle.receive_command.proofs.report.add_services.Goals as goal
 
 pub add_service-requires : goal.add_service-requires
@@ -19,9 +18,9 @@ pub loop-k-preserved : goal.loop-k-preserved
 loop-k-preserved c = λ records received.
     let there : slice_get (map service_seen c.args.plan.now.services) c.loop-k.k ≡ Some (service_seen c.at.result.now) =
     slice_get-map service_seen c.args.plan.now.services c.loop-k.k ∙ ap (option_map service_seen) c.at.ensures.read in
-    flat_more (lines_of_service records) (map service_seen c.args.plan.now.services) c.loop-k.k (service_seen c.at.result.now) c.args.report.now c.loop-k.report c.add_service.new.self
+    lines_more (plan_fields c.args.plan.now) records (map service_seen c.args.plan.now.services) c.loop-k.k (service_seen c.at.result.now) c.args.report.now c.loop-k.report c.add_service.new.self
     there (c.loop-k.invariant records received)
     (c.in_ok-add_service.ensures.written
     ∙ ap (λ (n : List ℕ). c.loop-k.report ++ service_lines n c.counts-counts.result) c.text.ensures.read
     ∙ ap (λ (counts : ServiceCounts). c.loop-k.report ++ service_lines c.at.result.now.name counts)
-    (c.counts-counts.ensures.read (plan_fields c.args.plan.now) records received (service_seen c.at.result.now) there))
+    (c.counts-counts.ensures.read (plan_fields c.args.plan.now) records received))
