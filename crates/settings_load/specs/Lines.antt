@@ -1,7 +1,8 @@
 -- Lines of text: what is wrong with a settings file, and the services of a plan. Profile: all of it.
-use Rattle.std.specs.Prelude.{ℕ, List, [], ◌∷◌, ◌++◌, map, codes, decimal}
+use Rattle.std.specs.Prelude.{ℕ, ◌+◌, ◌<◌, List, [], ◌∷◌, ◌++◌, map, codes, decimal, All}
 use Rattle.wire_spec.specs.Lists.{joined}
-use Rattle.plan_spec.specs.Plan.{KindFields, ule, mpe, fec, gse, ServiceFields, PlanFields}
+use Rattle.plan_spec.specs.Plan.{KindFields, ule, mpe, fec, gse, ServiceFields, MovedFields, ChangeFields, PlanFields}
+use Rattle.plan_spec.specs.Changes.{service_in}
 use Rattle.settings_spec.specs.Keys.{SettingsFault, no_document, missing, wrong_type, out_of_range, same_pid, same_name, wrong_rules, wrong_window, short_gap, long_cycle, no_stamps, wrong_carrier, unknown_key, wrong_change}
 use Rattle.settings_load.specs.Settings.{Refusal, too_long, refused}
 
@@ -61,6 +62,25 @@ kind_number (gse isi address) = isi
 abbrev pub service_line : ServiceFields → List ℕ
 service_line service = service.name ++ 32 ∷ kind_word service.kind ++ 32 ∷ decimal (kind_number service.kind) ++ 10 ∷ []
 
--- the lines of a plan, one for each service in order
+-- each service that moves is one of so many
+abbrev pub AreThere : ℕ → List MovedFields → Type 0
+AreThere count moves = All (λ (moved : MovedFields). moved.service < count) moves
+
+-- the lines of a change, from which on the plan has this version: the number of its record, and each service that it moves, as it is then
+abbrev pub moved_line : PlanFields → ℕ → MovedFields → List ℕ
+moved_line plan version moved = service_line (service_in plan version moved.service)
+
+abbrev pub change_line : ℕ → List ℕ
+change_line at = codes "change " ++ decimal at ++ 10 ∷ []
+
+abbrev pub change_text : PlanFields → ℕ → ChangeFields → List ℕ
+change_text plan version change = change_line change.at ++ joined (map (moved_line plan version) change.moved)
+
+-- those of changes, the first of which makes this version
+abbrev pub changes_text : PlanFields → ℕ → List ChangeFields → List ℕ
+changes_text plan version [] = []
+changes_text plan version (change ∷ changes) = change_text plan version change ++ changes_text plan (version + 1) changes
+
+-- the lines of a plan: one for each service in order, as it is at first, and behind them those of its changes
 abbrev pub check_text : PlanFields → List ℕ
-check_text plan = joined (map service_line plan.services)
+check_text plan = joined (map service_line plan.services) ++ changes_text plan 1 plan.changes
