@@ -1,5 +1,5 @@
 -- Runs of `ule` and `receive` that have a plan.
-use Rattle.std.proofs.Common.{◌≡◌, ◌≢◌, ◌⊎◌, inl, inr, ℕ, ◌*◌, ◌<◌, ◌≤◌, true, false, List, [], ◌++◌, length, take, refl, ap, sym, subst, ◌∙◌, arith, Option, None, Some, IfSome}
+use Rattle.std.proofs.Common.{◌≡◌, ◌≢◌, ◌⊎◌, inl, inr, ℕ, ◌+◌, ◌*◌, ◌<◌, ◌≤◌, true, false, List, [], ◌++◌, length, take, refl, ap, sym, subst, ◌∙◌, arith, Option, None, Some, IfSome}
 use Rattle.std.proofs.lemmas.List.{append-nil}
 use Rattle.std.specs.Io.KnownBytes.{Appends}
 use Rattle.wire_spec.specs.Causes.{Rose, raised}
@@ -10,6 +10,7 @@ use Rattle.ts_record.proofs.Cuts.{one_cut}
 use Rattle.ipe_io.specs.Counts.{IsFlushed}
 use Rattle.ipe_io.specs.Told.{InputTold, OutputTold, ShelfTold, RackTold}
 use Rattle.plan_spec.specs.Plan.{ServiceFields, PlanFields}
+use Rattle.plan_spec.specs.Changes.{has_wrong_change, pid_in, pids_in}
 use Rattle.plan_spec.specs.Given.{plan_of_pid}
 use Rattle.settings_load.specs.Settings.{Refusal, IsAcceptedFile}
 use Rattle.receive_command.specs.Files.{AddsFiles, AddsCaptures, AddsHeads, AddsParts, capture_of}
@@ -18,7 +19,7 @@ use Rattle.receive_command.specs.Ends.{EndsWhole, EndsFront, EndsAtLimit, EndsIn
 use Rattle.receive_command.specs.declared.faults.ReceiveFault.{ReceiveFault}
 use Rattle.receive_command.specs.declared.faults.ReceiveFault.TheVariants as fault
 use Rattle.receive_command.proofs.Parted.{EndsPart, part_of_front, part_of_limit, part_of_files}
-use Rattle.receive_command.proofs.Assembly.{parts_whole, parts_of_heads, parts_of_some}
+use Rattle.receive_command.proofs.Parts.{parts_whole, parts_of_heads, parts_of_some, parts_of_longer}
 use Rattle.ipencap_engine.specs.Statuses.{status_line, status_of_fault}
 use Rattle.ipencap_engine.specs.Built.{IsPlanInUse, IsRefusedForUse}
 use Rattle.ipencap_engine.specs.World.{World, world, Object, the_shelf, the_input, the_output, the_rack}
@@ -29,7 +30,7 @@ use Rattle.ipencap_engine.specs.Runs.{Runs, KeepsShelf, JudgesSettings, CountsFa
 use Rattle.ipencap_engine.specs.declared.status.Status.{Status}
 use Rattle.ipencap_engine.specs.declared.status.Status.TheVariants.{Done, Usage, Settings, Capture, ShelfFault, SourceFault, SinkFault, RackFault, OutOfMemory, TooLong}
 use Rattle.ipencap_engine.proofs.Pieces.{consumed, at_end_is, CutBehind, cut_behind}
-use Rattle.receive_command.proofs.Longer.{capture_more, parts_of_longer}
+use Rattle.receive_command.proofs.Longer.{capture_more}
 use Rattle.ipencap_engine.proofs.Plans.{told_of, told_name, one_given}
 use Rattle.ipencap_engine.proofs.Arriving.{arrives, alike_files, parts_stay}
 use Rattle.ipencap_engine.proofs.Settings.{done_line, judged, keeps_same}
@@ -54,15 +55,15 @@ whole_read : (plan : PlanFields) (left now : Option (List ℕ)) (old new : Optio
 whole_read plan left now old new bytes told ends = record { cut = whole_cut plan left now old new bytes told ends; fewer = ends.fewer; at_end = ends.at_end }
 
 captures : (plan : PlanFields) (left now : Option (List ℕ)) (old new : Option (List File)) (bytes : List ℕ) (pieces : List (List ℕ)) (tail : List ℕ) → left ≡ Some bytes
-    → IsCut (record_size plan.recording) bytes pieces tail → EndsWhole plan left now old new → AddsCaptures true (capture_of (records_in plan pieces)) plan.services old new
+    → IsCut (record_size plan.recording) bytes pieces tail → EndsWhole plan left now old new → AddsCaptures true (capture_of plan (records_in plan pieces)) plan.services old new
 captures plan left now old new bytes pieces tail told cut ends =
-    subst (λ (ps : List (List ℕ)). AddsCaptures true (capture_of (records_in plan ps)) plan.services old new)
+    subst (λ (ps : List (List ℕ)). AddsCaptures true (capture_of plan (records_in plan ps)) plan.services old new)
     ((one_cut (record_size plan.recording) bytes ends.pieces pieces ends.tail tail (whole_cut plan left now old new bytes told ends) cut).0) ends.files
 
 whole_parts : (plan : PlanFields) (left now : Option (List ℕ)) (old new : Option (List File)) (bytes : List ℕ) (pieces : List (List ℕ)) (tail : List ℕ) → left ≡ Some bytes
-    → IsCut (record_size plan.recording) bytes pieces tail → EndsWhole plan left now old new → AddsParts (capture_of (records_in plan pieces)) plan.services old new
+    → IsCut (record_size plan.recording) bytes pieces tail → EndsWhole plan left now old new → AddsParts (capture_of plan (records_in plan pieces)) plan.services old new
 whole_parts plan left now old new bytes pieces tail told cut ends =
-    parts_whole true (capture_of (records_in plan pieces)) plan.services old new (captures plan left now old new bytes pieces tail told cut ends)
+    parts_whole true (capture_of plan (records_in plan pieces)) plan.services old new (captures plan left now old new bytes pieces tail told cut ends)
 
 size_some : (form : RecordingForm) → 0 < record_size form
 size_some plain = omega arith
@@ -70,17 +71,18 @@ size_some stamped = omega arith
 size_some m2ts = omega arith
 
 -- parts of what was read are parts of what the whole input gives
-parts : (plan : PlanFields) (left now : Option (List ℕ)) (old new : Option (List File)) (bytes : List ℕ) (pieces : List (List ℕ)) (tail : List ℕ) → left ≡ Some bytes
-    → IsCut (record_size plan.recording) bytes pieces tail → EndsPart plan left now old new → AddsParts (capture_of (records_in plan pieces)) plan.services old new
-parts plan left now old new bytes pieces tail told cut part =
+parts : (plan : PlanFields) → has_wrong_change plan ≡ false → (left now : Option (List ℕ)) (old new : Option (List File)) (bytes : List ℕ) (pieces : List (List ℕ)) (tail : List ℕ)
+    → left ≡ Some bytes
+    → IsCut (record_size plan.recording) bytes pieces tail → EndsPart plan left now old new → AddsParts (capture_of plan (records_in plan pieces)) plan.services old new
+parts plan right left now old new bytes pieces tail told cut part =
     let behind : CutBehind (record_size plan.recording) bytes part.pieces =
     cut_behind (record_size plan.recording) bytes left now part.pieces part.behind (size_some plan.recording) told part.read.each part.read.consumed in
-    subst (λ (ps : List (List ℕ)). AddsParts (capture_of (records_in plan ps)) plan.services old new)
+    subst (λ (ps : List (List ℕ)). AddsParts (capture_of plan (records_in plan ps)) plan.services old new)
     ((one_cut (record_size plan.recording) bytes (part.pieces ++ behind.others) pieces behind.tail tail behind.cut cut).0)
     (record {
       files = part.files.files;
-      parts = parts_of_longer (capture_of (records_in plan part.pieces)) (capture_of (records_in plan (part.pieces ++ behind.others)))
-          (capture_more plan.recording part.pieces behind.others) plan.services part.files.files part.files.parts;
+      parts = parts_of_longer 0 (capture_of plan (records_in plan part.pieces)) (capture_of plan (records_in plan (part.pieces ++ behind.others)))
+          plan.services part.files.files (λ k there. capture_more plan right part.pieces behind.others (0 + k) (omega (arith, there))) part.files.parts;
       added = part.files.added;
     })
 
@@ -92,14 +94,14 @@ reception : (job : Job) (p : PlanFields) (end : Status) (line : List ℕ) (befor
     → ((bytes : List ℕ) → before.input.left ≡ Some bytes → Stands job p bytes end line before after)
     → (end ≡ OutOfMemory → LacksMemory job p before after) → IsLine job end line before after
     → ((bytes : List ℕ) (pieces : List (List ℕ)) (tail : List ℕ) → before.input.left ≡ Some bytes → IsCut (record_size p.recording) bytes pieces tail
-    → AddsParts (capture_of (records_in p pieces)) p.services before.rack.files after.rack.files)
+    → AddsParts (capture_of p (records_in p pieces)) p.services before.rack.files after.rack.files)
     → ((bytes : List ℕ) (pieces : List (List ℕ)) (tail : List ℕ) → before.input.left ≡ Some bytes → IsCut (record_size p.recording) bytes pieces tail → end ≡ Done
-    → AddsCaptures true (capture_of (records_in p pieces)) p.services before.rack.files after.rack.files)
+    → AddsCaptures true (capture_of p (records_in p pieces)) p.services before.rack.files after.rack.files)
     → Runs job end line before after same
 reception job p end line before after same one told_input ends settings unused counts reads stands memory line_is parts_are whole_are =
     let whole = λ (plan : PlanFields) (bytes : List ℕ) (pieces : List (List ℕ)) (tail : List ℕ) (is : IsPlanOf job before.shelf plan) (told : before.input.left ≡ Some bytes)
     (cut : IsCut (record_size plan.recording) bytes pieces tail) (done : end ≡ Done).
-    subst (λ (q : PlanFields). IsCut (record_size q.recording) bytes pieces tail → AddsCaptures true (capture_of (records_in q pieces)) q.services before.rack.files after.rack.files)
+    subst (λ (q : PlanFields). IsCut (record_size q.recording) bytes pieces tail → AddsCaptures true (capture_of q (records_in q pieces)) q.services before.rack.files after.rack.files)
     (one plan is) (λ c. whole_are bytes pieces tail told c done) cut in
     record {
       ends = ends;
@@ -112,7 +114,7 @@ reception job p end line before after same one told_input ends settings unused c
       line_is = line_is;
       loss = λ plan bytes pieces tail sent datagrams carries recorded r is told cut.
           arrives plan pieces sent datagrams carries recorded end before after
-          (subst (λ (q : PlanFields). IsCut (record_size q.recording) bytes pieces tail → AddsParts (capture_of (records_in q pieces)) q.services before.rack.files after.rack.files)
+          (subst (λ (q : PlanFields). IsCut (record_size q.recording) bytes pieces tail → AddsParts (capture_of q (records_in q pieces)) q.services before.rack.files after.rack.files)
           (one plan is) (λ c. parts_are bytes pieces tail told c) cut)
           (λ done. whole plan bytes pieces tail is told cut done);
       isolation = λ plan bytes pieces tail recordings r is told cut alike done.
@@ -139,6 +141,10 @@ pub record Fails (p : PlanFields) (why : ReceiveFault) (input taken : InputTold)
   pub rack_kept : why ≢ fault.Rack → racked.faults ≡ rack.faults
 
 -- `ule`.
+
+right_pid : (pid : ℕ) → has_wrong_change (plan_of_pid pid) ≡ false
+unfolding pids_in pid_in
+right_pid pid = refl
 
 one_pid : (pid : ℕ) (shelf : ShelfTold) (plan : PlanFields) → IsPlanOf (to_ule pid) shelf plan → plan_of_pid pid ≡ plan
 one_pid pid shelf plan is = sym is
@@ -193,7 +199,7 @@ ule_source_fault pid shelf input taken output rack racked same of_shelf of_outpu
     (goes_on, record { form = plain; is = λ plan is. ap (λ (q : PlanFields). q.recording) is; count = few.0; is_bound = few.1; taken = few.2 })
     (λ bytes told. ends)
     (λ e. absurd (cc)) refl
-    (λ bytes pieces tail told cut. parts (plan_of_pid pid) input.left taken.left rack.files racked.files bytes pieces tail told cut (part_of_front (plan_of_pid pid) input.left taken.left rack.files racked.files ends))
+    (λ bytes pieces tail told cut. parts (plan_of_pid pid) (right_pid pid) input.left taken.left rack.files racked.files bytes pieces tail told cut (part_of_front (plan_of_pid pid) (right_pid pid) input.left taken.left rack.files racked.files ends))
     (λ bytes pieces tail told cut done. absurd (cc))
 
 ule_rack_fault : (pid : ℕ) (shelf : ShelfTold) (input taken : InputTold) (output : OutputTold) (rack racked : RackTold) (same : Object → Type 0)
@@ -207,7 +213,7 @@ ule_rack_fault pid shelf input taken output rack racked same of_shelf of_output 
     (record { form = plain; is = λ plan is. ap (λ (q : PlanFields). q.recording) is; count = few.0; is_bound = few.1; taken = few.2 })
     (λ bytes told. ends)
     (λ e. absurd (cc)) refl
-    (λ bytes pieces tail told cut. parts (plan_of_pid pid) input.left taken.left rack.files racked.files bytes pieces tail told cut (part_of_files (plan_of_pid pid) input.left taken.left rack.files racked.files ends))
+    (λ bytes pieces tail told cut. parts (plan_of_pid pid) (right_pid pid) input.left taken.left rack.files racked.files bytes pieces tail told cut (part_of_files (plan_of_pid pid) (right_pid pid) input.left taken.left rack.files racked.files ends))
     (λ bytes pieces tail told cut done. absurd (cc))
 
 ule_too_long : (pid : ℕ) (shelf : ShelfTold) (input taken : InputTold) (output : OutputTold) (rack racked : RackTold) (same : Object → Type 0)
@@ -221,7 +227,7 @@ ule_too_long pid shelf input taken output rack racked same of_shelf of_output en
     (record { form = plain; is = λ plan is. ap (λ (q : PlanFields). q.recording) is; count = 188 * most_records; is_bound = refl; taken = all })
     (λ bytes told. ends)
     (λ e. absurd (cc)) refl
-    (λ bytes pieces tail told cut. parts (plan_of_pid pid) input.left taken.left rack.files racked.files bytes pieces tail told cut (part_of_limit (plan_of_pid pid) input.left taken.left rack.files racked.files ends))
+    (λ bytes pieces tail told cut. parts (plan_of_pid pid) (right_pid pid) input.left taken.left rack.files racked.files bytes pieces tail told cut (part_of_limit (plan_of_pid pid) (right_pid pid) input.left taken.left rack.files racked.files ends))
     (λ bytes pieces tail told cut done. absurd (cc))
 
 ule_no_memory : (pid : ℕ) (shelf : ShelfTold) (input taken : InputTold) (output : OutputTold) (rack racked : RackTold) (same : Object → Type 0)
@@ -234,7 +240,7 @@ ule_no_memory pid shelf input taken output rack racked same of_shelf of_output u
     tt
     (λ bytes told. tt)
     (λ e. in_memory (λ r. told_same) count stays) refl
-    (λ bytes pieces tail told cut. parts_stay (capture_of (records_in (plan_of_pid pid) pieces)) (plan_of_pid pid).services rack.files racked.files stays)
+    (λ bytes pieces tail told cut. parts_stay (capture_of (plan_of_pid pid) (records_in (plan_of_pid pid) pieces)) (plan_of_pid pid).services rack.files racked.files stays)
     (λ bytes pieces tail told cut done. absurd (cc))
 
 -- `ule` was not done
@@ -340,11 +346,12 @@ receive_sink_fault name p old new input taken output held rack racked same shelf
 
 receive_source_fault : (name : List ℕ) (p : PlanFields) (old new : ShelfTold) (input taken : InputTold) (output held : OutputTold) (rack racked : RackTold) (same : Object → Type 0)
     → KeepsShelf (to_receive name) false old new → IsPlanInUse (old.file name) p
+    → has_wrong_change p ≡ false
     → ((bytes : List ℕ) (refusal : Refusal) → old.file name ≡ Some bytes → IsRefusedForUse bytes refusal → ⊥)
     → EndsFront p input.left taken.left rack.files racked.files → (n : ℕ) × (n < record_size p.recording * most_records) × (taken.taken ≡ raised input.taken n) → (input.ended ≡ false → taken.ended ≡ false)
     → Rose input.faults taken.faults → held.faults ≡ output.faults → racked.faults ≡ rack.faults → same the_output
     → Runs (to_receive name) SourceFault (status_line SourceFault) (world old input output rack) (world new taken held racked) same
-receive_source_fault name p old new input taken output held rack racked same shelf is none ends few goes_on rose count_out count_rack unwritten =
+receive_source_fault name p old new input taken output held rack racked same shelf is right none ends few goes_on rose count_out count_rack unwritten =
     reception (to_receive name) p SourceFault (status_line SourceFault) (world old input output rack) (world new taken held racked) same
     (one_plan name old p is) (λ bytes told. told) refl (judged (to_receive name) SourceFault (world old input output rack) same (gives name old p is) (λ e. absurd (cc)) (none_refused name old none))
     (receive_used name SourceFault same refl refl (inl unwritten))
@@ -352,16 +359,17 @@ receive_source_fault name p old new input taken output held rack racked same she
     (goes_on, record { form = p.recording; is = recording_is name old p is; count = few.0; is_bound = few.1; taken = few.2 })
     (λ bytes told. ends)
     (λ e. absurd (cc)) refl
-    (λ bytes pieces tail told cut. parts p input.left taken.left rack.files racked.files bytes pieces tail told cut (part_of_front p input.left taken.left rack.files racked.files ends))
+    (λ bytes pieces tail told cut. parts p right input.left taken.left rack.files racked.files bytes pieces tail told cut (part_of_front p right input.left taken.left rack.files racked.files ends))
     (λ bytes pieces tail told cut done. absurd (cc))
 
 receive_rack_fault : (name : List ℕ) (p : PlanFields) (old new : ShelfTold) (input taken : InputTold) (output held : OutputTold) (rack racked : RackTold) (same : Object → Type 0)
     → KeepsShelf (to_receive name) false old new → IsPlanInUse (old.file name) p
+    → has_wrong_change p ≡ false
     → ((bytes : List ℕ) (refusal : Refusal) → old.file name ≡ Some bytes → IsRefusedForUse bytes refusal → ⊥)
     → EndsInFiles p input.left taken.left rack.files racked.files → (n : ℕ) × (n ≤ record_size p.recording * most_records) × (taken.taken ≡ raised input.taken n)
     → taken.faults ≡ input.faults → held.faults ≡ output.faults → Rose rack.faults racked.faults → same the_output
     → Runs (to_receive name) RackFault (status_line RackFault) (world old input output rack) (world new taken held racked) same
-receive_rack_fault name p old new input taken output held rack racked same shelf is none ends few count_in count_out rose unwritten =
+receive_rack_fault name p old new input taken output held rack racked same shelf is right none ends few count_in count_out rose unwritten =
     reception (to_receive name) p RackFault (status_line RackFault) (world old input output rack) (world new taken held racked) same
     (one_plan name old p is) (λ bytes told. told) refl (judged (to_receive name) RackFault (world old input output rack) same (gives name old p is) (λ e. absurd (cc)) (none_refused name old none))
     (receive_used name RackFault same refl refl (inl unwritten))
@@ -369,16 +377,17 @@ receive_rack_fault name p old new input taken output held rack racked same shelf
     (record { form = p.recording; is = recording_is name old p is; count = few.0; is_bound = few.1; taken = few.2 })
     (λ bytes told. ends)
     (λ e. absurd (cc)) refl
-    (λ bytes pieces tail told cut. parts p input.left taken.left rack.files racked.files bytes pieces tail told cut (part_of_files p input.left taken.left rack.files racked.files ends))
+    (λ bytes pieces tail told cut. parts p right input.left taken.left rack.files racked.files bytes pieces tail told cut (part_of_files p right input.left taken.left rack.files racked.files ends))
     (λ bytes pieces tail told cut done. absurd (cc))
 
 receive_too_long : (name : List ℕ) (p : PlanFields) (old new : ShelfTold) (input taken : InputTold) (output held : OutputTold) (rack racked : RackTold) (same : Object → Type 0)
     → KeepsShelf (to_receive name) false old new → IsPlanInUse (old.file name) p
+    → has_wrong_change p ≡ false
     → ((bytes : List ℕ) (refusal : Refusal) → old.file name ≡ Some bytes → IsRefusedForUse bytes refusal → ⊥)
     → EndsAtLimit p input.left taken.left rack.files racked.files → taken.taken ≡ raised input.taken (record_size p.recording * most_records)
     → taken.faults ≡ input.faults → held.faults ≡ output.faults → racked.faults ≡ rack.faults → same the_output
     → Runs (to_receive name) TooLong (status_line TooLong) (world old input output rack) (world new taken held racked) same
-receive_too_long name p old new input taken output held rack racked same shelf is none ends all count_in count_out count_rack unwritten =
+receive_too_long name p old new input taken output held rack racked same shelf is right none ends all count_in count_out count_rack unwritten =
     reception (to_receive name) p TooLong (status_line TooLong) (world old input output rack) (world new taken held racked) same
     (one_plan name old p is) (λ bytes told. told) refl (judged (to_receive name) TooLong (world old input output rack) same (gives name old p is) (λ e. absurd (cc)) (none_refused name old none))
     (receive_used name TooLong same refl refl (inl unwritten))
@@ -386,7 +395,7 @@ receive_too_long name p old new input taken output held rack racked same shelf i
     (record { form = p.recording; is = recording_is name old p is; count = record_size p.recording * most_records; is_bound = refl; taken = all })
     (λ bytes told. ends)
     (λ e. absurd (cc)) refl
-    (λ bytes pieces tail told cut. parts p input.left taken.left rack.files racked.files bytes pieces tail told cut (part_of_limit p input.left taken.left rack.files racked.files ends))
+    (λ bytes pieces tail told cut. parts p right input.left taken.left rack.files racked.files bytes pieces tail told cut (part_of_limit p right input.left taken.left rack.files racked.files ends))
     (λ bytes pieces tail told cut done. absurd (cc))
 
 -- an object that is the same tells the same
@@ -403,9 +412,9 @@ lacks name p old new input taken output held rack racked same (inr whole) = in_r
 
 lacking_parts : (p : PlanFields) (input taken : InputTold) (rack racked : RackTold) → ((taken ≡ input) × AddsHeads p.services rack.files racked.files) ⊎ EndsWhole p input.left taken.left rack.files racked.files
     → (bytes : List ℕ) (pieces : List (List ℕ)) (tail : List ℕ) → input.left ≡ Some bytes → IsCut (record_size p.recording) bytes pieces tail
-    → AddsParts (capture_of (records_in p pieces)) p.services rack.files racked.files
+    → AddsParts (capture_of p (records_in p pieces)) p.services rack.files racked.files
 lacking_parts p input taken rack racked (inl heads) bytes pieces tail told cut =
-    parts_of_heads (records_in p pieces) p.services rack.files racked.files (parts_of_some p.services rack.files racked.files heads.1)
+    parts_of_heads p (records_in p pieces) p.services rack.files racked.files (parts_of_some p.services rack.files racked.files heads.1)
 lacking_parts p input taken rack racked (inr whole) bytes pieces tail told cut = whole_parts p input.left taken.left rack.files racked.files bytes pieces tail told cut whole
 
 receive_no_memory : (name : List ℕ) (p : PlanFields) (old new : ShelfTold) (input taken : InputTold) (output held : OutputTold) (rack racked : RackTold) (same : Object → Type 0)
@@ -428,24 +437,25 @@ receive_no_memory name p old new input taken output held rack racked same shelf 
 -- `receive` was not done
 pub receive_fails : (name : List ℕ) (p : PlanFields) (why : ReceiveFault) (old new : ShelfTold) (input taken : InputTold) (output held : OutputTold) (rack racked : RackTold) (same : Object → Type 0)
     → KeepsShelf (to_receive name) false old new → IsPlanInUse (old.file name) p
+    → has_wrong_change p ≡ false
     → ((bytes : List ℕ) (refusal : Refusal) → old.file name ≡ Some bytes → IsRefusedForUse bytes refusal → ⊥)
     → Fails p why input taken rack racked
     → (why ≡ fault.Sink → EndsInReport p input.left taken.left rack.files racked.files output.held held.held) → (why ≡ fault.Sink → Stays output.flushed held.flushed)
     → (why ≡ fault.OutOfMemory → ((taken ≡ input) × AddsHeads p.services rack.files racked.files) ⊎ EndsWhole p input.left taken.left rack.files racked.files)
     → (why ≡ fault.Sink → Rose output.faults held.faults) → (why ≢ fault.Sink → held.faults ≡ output.faults) → (why ≢ fault.Sink → same the_output)
     → Runs (to_receive name) (status_of_fault why) (status_line (status_of_fault why)) (world old input output rack) (world new taken held racked) same
-receive_fails name p fault.Source old new input taken output held rack racked same shelf is none e report unflushed memory sink output_kept unwritten =
-    receive_source_fault name p old new input taken output held rack racked same shelf is none
+receive_fails name p fault.Source old new input taken output held rack racked same shelf is right none e report unflushed memory sink output_kept unwritten =
+    receive_source_fault name p old new input taken output held rack racked same shelf is right none
     (e.front refl) (e.front_taken refl) (e.not_ended refl) (e.source refl) (output_kept (λ f. absurd (cc))) (e.rack_kept (λ f. absurd (cc))) (unwritten (λ f. absurd (cc)))
-receive_fails name p fault.Sink old new input taken output held rack racked same shelf is none e report unflushed memory sink output_kept unwritten =
+receive_fails name p fault.Sink old new input taken output held rack racked same shelf is right none e report unflushed memory sink output_kept unwritten =
     receive_sink_fault name p old new input taken output held rack racked same shelf is none
     (report refl) (unflushed refl) (e.input_kept (λ f. absurd (cc))) (sink refl) (e.rack_kept (λ f. absurd (cc)))
-receive_fails name p fault.Rack old new input taken output held rack racked same shelf is none e report unflushed memory sink output_kept unwritten =
-    receive_rack_fault name p old new input taken output held rack racked same shelf is none
+receive_fails name p fault.Rack old new input taken output held rack racked same shelf is right none e report unflushed memory sink output_kept unwritten =
+    receive_rack_fault name p old new input taken output held rack racked same shelf is right none
     (e.files refl) (e.files_taken refl) (e.input_kept (λ f. absurd (cc))) (output_kept (λ f. absurd (cc))) (e.file refl) (unwritten (λ f. absurd (cc)))
-receive_fails name p fault.TooLong old new input taken output held rack racked same shelf is none e report unflushed memory sink output_kept unwritten =
-    receive_too_long name p old new input taken output held rack racked same shelf is none
+receive_fails name p fault.TooLong old new input taken output held rack racked same shelf is right none e report unflushed memory sink output_kept unwritten =
+    receive_too_long name p old new input taken output held rack racked same shelf is right none
     (e.limit refl) (e.limit_taken refl) (e.input_kept (λ f. absurd (cc))) (output_kept (λ f. absurd (cc))) (e.rack_kept (λ f. absurd (cc))) (unwritten (λ f. absurd (cc)))
-receive_fails name p fault.OutOfMemory old new input taken output held rack racked same shelf is none e report unflushed memory sink output_kept unwritten =
+receive_fails name p fault.OutOfMemory old new input taken output held rack racked same shelf is right none e report unflushed memory sink output_kept unwritten =
     receive_no_memory name p old new input taken output held rack racked same shelf is none
     (memory refl) (e.input_kept (λ f. absurd (cc))) (output_kept (λ f. absurd (cc))) (e.rack_kept (λ f. absurd (cc))) (unwritten (λ f. absurd (cc)))

@@ -10,7 +10,7 @@ use Rattle.ipe_io.specs.Told.{InputTold, OutputTold, ShelfTold, RackTold}
 use Rattle.pcap_file.specs.Reader.{is_cut}
 use Rattle.pcap_file.specs.declared.faults.CaptureFault.{CaptureFault}
 use Rattle.plan_spec.specs.Plan.{PlanFields}
-use Rattle.plan_spec.specs.Offered.{Records, not_ip_count, unrouted_count, too_long_count}
+use Rattle.plan_spec.specs.Offered.{Records, not_ip_count, unrouted_in_all, too_long_in_all}
 use Rattle.stream_law.specs.Captures.{given_by}
 use Rattle.settings_load.specs.Settings.{Refusal, IsAcceptedFile}
 use Rattle.send_command.specs.Sending.{SendsAll, SendsToFault, SendsFront, Reads}
@@ -52,12 +52,12 @@ not_begun (inr same) = same
 
 -- the numbers of a tally are its line
 numbers_line : (plan : PlanFields) (records : Records) (tally : Tally) → IsTally plan records tally
-    → tally_line tally ≡ tally_line (record { offered = offered_count plan records; not_ip = not_ip_count records; unrouted = unrouted_count plan records; too_long = too_long_count plan records })
+    → tally_line tally ≡ tally_line (record { offered = offered_count plan records; not_ip = not_ip_count records; unrouted = unrouted_in_all plan records; too_long = too_long_in_all plan records })
 numbers_line plan records tally is =
     ap (λ (n : ℕ). tally_line (record { offered = n; not_ip = tally.not_ip; unrouted = tally.unrouted; too_long = tally.too_long })) is.offered
     ∙ ap (λ (n : ℕ). tally_line (record { offered = offered_count plan records; not_ip = n; unrouted = tally.unrouted; too_long = tally.too_long })) is.not_ip
     ∙ ap (λ (n : ℕ). tally_line (record { offered = offered_count plan records; not_ip = not_ip_count records; unrouted = n; too_long = tally.too_long })) is.unrouted
-    ∙ ap (λ (n : ℕ). tally_line (record { offered = offered_count plan records; not_ip = not_ip_count records; unrouted = unrouted_count plan records; too_long = n })) is.too_long
+    ∙ ap (λ (n : ℕ). tally_line (record { offered = offered_count plan records; not_ip = not_ip_count records; unrouted = unrouted_in_all plan records; too_long = n })) is.too_long
 
 whole_done : (name bytes : List ℕ) (plan : PlanFields) (tally : Tally) (before after : World) → SendsAll plan bytes tally before.output.held after.output.held
     → IsFlushed after.output.held after.output.flushed → after.rack ≡ before.rack → StandsWhole (to_send name) plan bytes Done (tally_line tally) before after

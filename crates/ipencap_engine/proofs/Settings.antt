@@ -12,7 +12,7 @@ use Rattle.settings_load.specs.declared.fault.SettingsError.{SettingsError}
 use Rattle.settings_load.specs.declared.fault.SettingsError.TheVariants as error
 use Rattle.receive_command.specs.Files.{capture_of}
 use Rattle.receive_command.specs.Reading.{records_in}
-use Rattle.receive_command.proofs.Assembly.{parts_none}
+use Rattle.receive_command.proofs.Parts.{parts_none}
 use Rattle.ipencap_engine.specs.Statuses.{status_line, status_of, outcome_line, outcome_after}
 use Rattle.ipencap_engine.specs.World.{World, world, Object, the_shelf, the_input, the_output, the_rack}
 use Rattle.ipencap_engine.specs.Jobs.{Job, no_job, to_ule, to_check, to_send, to_receive, to_sample, Intake, no_input, a_capture, a_recording, row, is_command, may_use, TellsSettings, GivesPlan, IsRefusedFor, IsPlanOf}
@@ -107,7 +107,7 @@ runs_shelf_fault job name old new input output rack same e files later rose of_i
       line_is = refl;
       loss = λ plan bytes pieces tail sent datagrams carries recorded r is told cut.
           arrives plan pieces sent datagrams carries recorded ShelfFault (world old input output rack) (world new input output rack)
-          (parts_none (capture_of (records_in plan pieces)) plan.services rack.files) (λ f. absurd (cc));
+          (parts_none (capture_of plan (records_in plan pieces)) plan.services rack.files) (λ f. absurd (cc));
       isolation = λ plan bytes pieces tail recordings r is told cut alike f. absurd (cc);
     }
   where
@@ -182,7 +182,7 @@ runs_no_memory job old new input output rack same command shelf of_shelf of_inpu
   line_is = refl;
   loss = λ plan bytes pieces tail sent datagrams carries recorded r is told cut.
       arrives plan pieces sent datagrams carries recorded OutOfMemory (world old input output rack) (world new input output rack)
-      (parts_none (capture_of (records_in plan pieces)) plan.services rack.files) (λ f. absurd (cc));
+      (parts_none (capture_of plan (records_in plan pieces)) plan.services rack.files) (λ f. absurd (cc));
   isolation = λ plan bytes pieces tail recordings r is told cut alike f. absurd (cc);
 }
   where

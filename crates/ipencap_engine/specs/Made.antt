@@ -1,11 +1,11 @@
 -- What a job makes of its input, under its plan: files, output, line and status.
-use Rattle.std.specs.Prelude.{◌≡◌, ℕ, ◌<◌, true, List, [], length, map, Option, None, Some}
+use Rattle.std.specs.Prelude.{◌≡◌, ℕ, ◌<◌, true, List, [], length, Option, None, Some}
 use Rattle.std.specs.Io.KnownBytes.{IsAtEnd}
 use Rattle.wire_spec.specs.Lists.{joined, IsCut}
 use Rattle.wire_spec.specs.Content.{File}
 use Rattle.ts_spec.specs.Recording.{record_size, Record}
 use Rattle.plan_spec.specs.Plan.{PlanFields}
-use Rattle.plan_spec.specs.Offered.{not_ip_count, unrouted_count, too_long_count}
+use Rattle.plan_spec.specs.Offered.{not_ip_count, unrouted_in_all, too_long_in_all}
 use Rattle.stream_law.specs.Captures.{given_by}
 use Rattle.pcap_file.specs.Told.{place_of_fault}
 use Rattle.pcap_file.specs.declared.faults.CaptureFault.{CaptureFault}
@@ -13,7 +13,7 @@ use Rattle.settings_load.specs.Lines.{check_text}
 use Rattle.send_command.specs.Sending.{IsSendOf}
 use Rattle.send_command.specs.Tally.{offered_count}
 use Rattle.send_command.specs.Lines.{tally_line, fault_line}
-use Rattle.receive_command.specs.Files.{capture_of, file_with}
+use Rattle.receive_command.specs.Files.{capture_of, files_from}
 use Rattle.receive_command.specs.Reading.{records_in, most_records}
 use Rattle.receive_command.specs.Report.{IsReport}
 use Rattle.ipencap_engine.specs.Jobs.{Job, no_job, to_ule, to_check, to_send, to_receive, to_sample}
@@ -32,7 +32,7 @@ puts_out text = record { files = []; output = text; line = []; status = status.D
 
 -- the captures of what records deliver of each service, flushed, and an output
 abbrev pub adds_captures : PlanFields → List Record → List ℕ → Made
-adds_captures plan records text = record { files = map (file_with true (capture_of records)) plan.services; output = text; line = []; status = status.Done }
+adds_captures plan records text = record { files = files_from true 0 (capture_of plan records) plan.services; output = text; line = []; status = status.Done }
 
 -- a recording that was read to its end: its records, fewer than 2^32, and the bytes after the last
 pub record IsRead (plan : PlanFields) (bytes : List ℕ) (now : Option (List ℕ)) (pieces : List (List ℕ)) (tail : List ℕ) : Type 0 where
@@ -60,8 +60,8 @@ abbrev pub send_line : PlanFields → List ℕ → List (List ℕ) → Option Ca
 send_line plan bytes captured None = tally_line (record {
   offered = offered_count plan (given_by bytes captured);
   not_ip = not_ip_count (given_by bytes captured);
-  unrouted = unrouted_count plan (given_by bytes captured);
-  too_long = too_long_count plan (given_by bytes captured);
+  unrouted = unrouted_in_all plan (given_by bytes captured);
+  too_long = too_long_in_all plan (given_by bytes captured);
 })
 send_line plan bytes captured (Some fault) = fault_line fault (place_of_fault bytes captured)
 

@@ -1,5 +1,5 @@
 -- What a run is: all that the top call promises, by what the objects tell before and after.
-use Rattle.std.specs.Prelude.{◌≡◌, ◌≢◌, ◌⊎◌, ℕ, ◌*◌, ◌<◌, ◌≤◌, Bool, true, false, List, [], Contains, None, Some, ⊤}
+use Rattle.std.specs.Prelude.{◌≡◌, ◌≢◌, ◌⊎◌, ℕ, ◌*◌, ◌<◌, ◌≤◌, Bool, true, false, List, [], length, None, Some, ⊤}
 use Rattle.wire_spec.specs.Causes.{Rose, raised}
 use Rattle.wire_spec.specs.Lists.{IsCut}
 use Rattle.ts_spec.specs.Recording.{RecordingForm, record_size, Record}
@@ -7,10 +7,10 @@ use Rattle.pcap_file.specs.Capture.{capture_text}
 use Rattle.pcap_file.specs.Told.{Tells}
 use Rattle.pcap_file.specs.Reader.{is_cut, Takes, IsReadAhead, ShowsNoFault}
 use Rattle.pcap_file.specs.declared.faults.CaptureFault.{CaptureFault}
-use Rattle.plan_spec.specs.Plan.{ServiceFields, PlanFields, pid_of}
+use Rattle.plan_spec.specs.Plan.{PlanFields}
 use Rattle.stream_spec.specs.Services.{Carries}
-use Rattle.loss_law.specs.Isolation.{SamePackets}
-use Rattle.loss_law.specs.Loss.{service_at, IsRecorded, DeliversEach}
+use Rattle.loss_law.specs.Isolation.{SameForService}
+use Rattle.loss_law.specs.Spans.{IsRecordedInSpans, DeliversOverSpans}
 use Rattle.ipe_io.specs.Told.{ShelfTold, InputTold}
 use Rattle.settings_load.specs.Settings.{Refusal}
 use Rattle.settings_load.specs.Lines.{refusal_line}
@@ -159,17 +159,17 @@ IsLine job end line before after = line ≡ status_line end
 
 -- what each service delivers is what arrived intact of all that can have been sent under the plan; at Done that is in the files,
 -- and whatever the end is, the files are those of the first services, each with a prefix of it
-pub record Arrives (plan : PlanFields) (sent : List Record) (datagrams : ℕ → List (List ℕ)) (carries : Carries plan sent datagrams) (records : List Record)
-    (recorded : IsRecorded plan sent datagrams carries records) (end : Status) (before after : World) : Type 0 where
-  pub delivered : ServiceFields → List (List ℕ)
-  pub is : DeliversEach plan sent datagrams carries records recorded (λ k. delivered (service_at plan k))
-  pub whole : end ≡ status.Done → AddsCaptures true (λ service. capture_text (delivered service)) plan.services before.rack.files after.rack.files
-  pub front : AddsParts (λ service. capture_text (delivered service)) plan.services before.rack.files after.rack.files
+pub record Arrives (plan : PlanFields) (sent : List Record) (datagrams : ℕ → ℕ → List (List ℕ)) (carries : Carries plan sent datagrams) (records : List Record)
+    (recorded : IsRecordedInSpans plan sent datagrams carries records) (end : Status) (before after : World) : Type 0 where
+  pub delivered : ℕ → List (List ℕ)
+  pub each : (k : ℕ) → k < length plan.services → DeliversOverSpans plan sent datagrams carries records recorded k (delivered k)
+  pub whole : end ≡ status.Done → AddsCaptures true (λ k. capture_text (delivered k)) plan.services before.rack.files after.rack.files
+  pub front : AddsParts (λ k. capture_text (delivered k)) plan.services before.rack.files after.rack.files
 
--- of recordings with the same readable packets of a service's PID each, whatever their other records are
-abbrev pub AreAlike : PlanFields → List Record → (ServiceFields → List Record) → Type 0
-AreAlike plan records recordings = (service : ServiceFields) (pid : ℕ) → Contains plan.services service → pid_of service.kind ≡ Some pid
-    → SamePackets pid records (recordings service)
+-- of recordings with the same readable packets each for a service, on its PIDs and where the plan changes on the INT's, whatever their
+-- other records are
+abbrev pub AreAlike : PlanFields → List Record → (ℕ → List Record) → Type 0
+AreAlike plan records recordings = (k : ℕ) → k < length plan.services → SameForService plan k records (recordings k)
 
 -- The ten promises; `same` says of an object that it is the very one from before.
 pub record Runs (job : Job) (end : Status) (line : List ℕ) (before after : World) (same : Object → Type 0) : Type 0 where
@@ -191,12 +191,12 @@ pub record Runs (job : Job) (end : Status) (line : List ℕ) (before after : Wor
   -- the line that is reported
   pub line_is : IsLine job end line before after
   -- the loss law: the files have what arrived intact, whatever became of the records that were sent
-  pub loss : (plan : PlanFields) (bytes : List ℕ) (pieces : List (List ℕ)) (tail : List ℕ) (sent : List Record) (datagrams : ℕ → List (List ℕ))
-      (carries : Carries plan sent datagrams) (recorded : IsRecorded plan sent datagrams carries (records_in plan pieces))
+  pub loss : (plan : PlanFields) (bytes : List ℕ) (pieces : List (List ℕ)) (tail : List ℕ) (sent : List Record) (datagrams : ℕ → ℕ → List (List ℕ))
+      (carries : Carries plan sent datagrams) (recorded : IsRecordedInSpans plan sent datagrams carries (records_in plan pieces))
       → is_recording (row job).intake ≡ true → IsPlanOf job before.shelf plan → before.input.left ≡ Some bytes → IsCut (record_size plan.recording) bytes pieces tail
       → Arrives plan sent datagrams carries (records_in plan pieces) recorded end before after
-  -- isolation: no service's file depends on what is not on its PID
-  pub isolation : (plan : PlanFields) (bytes : List ℕ) (pieces : List (List ℕ)) (tail : List ℕ) (recordings : ServiceFields → List Record)
+  -- isolation: no service's file depends on what is not on its PIDs, or where the plan changes on the INT's
+  pub isolation : (plan : PlanFields) (bytes : List ℕ) (pieces : List (List ℕ)) (tail : List ℕ) (recordings : ℕ → List Record)
       → is_recording (row job).intake ≡ true → IsPlanOf job before.shelf plan → before.input.left ≡ Some bytes → IsCut (record_size plan.recording) bytes pieces tail
       → AreAlike plan (records_in plan pieces) recordings → end ≡ status.Done
-      → AddsCaptures true (λ service. capture_of (recordings service) service) plan.services before.rack.files after.rack.files
+      → AddsCaptures true (λ k. capture_of plan (recordings k) k) plan.services before.rack.files after.rack.files

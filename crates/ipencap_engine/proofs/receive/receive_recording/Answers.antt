@@ -2,6 +2,7 @@ use Rattle.std.proofs.Common.{◌≡◌, refl, ap, sym, ◌∙◌, Err, true, fa
 use Rattle.plan.specs.PlanView.{plan_fields}
 use Rattle.settings_load.specs.declared.fault.SettingsError.TheVariants.{ShelfFault}
 use Rattle.plan_spec.specs.Plan.{kinds}
+use Rattle.receive_command.proofs.Plans.{changes_right}
 use Rattle.ipencap_engine.specs.Jobs.{to_receive}
 use Rattle.ipencap_engine.proofs.Plans.{told_name, built_both}
 use Rattle.ipencap_engine.proofs.Settings.{runs_unsettled, runs_by, keeps}
@@ -35,7 +36,8 @@ returns g c =
     runs_by (to_receive c.args.name.now) (Ended c.from.result) (Ended (status_of_fault c.in-Err-receive.fault)) _ _ _ (ap (λ s. Ended s) c.from.ensures)
     (receive_fails c.args.name.now (plan_fields c.in-Ok.plan) c.in-Err-receive.fault (g.S.Shelf.told c.args.shelf.now) (g.S.Shelf.told c.plan_in_use.new.shelf) (g.I.Source.told c.args.input.now)
     (g.I.Source.told c.receive.new.input) (g.O.Sink.told c.args.output.now) (g.O.Sink.told c.receive.new.output) (g.R.Rack.told c.args.rack.now) (g.R.Rack.told c.receive.new.rack) _
-    (keeps (to_receive c.args.name.now) (g.S.Shelf.told c.args.shelf.now) (g.S.Shelf.told c.plan_in_use.new.shelf) c.in-Ok.ensures.unchanged c.in-Ok.ensures.later (c.in-Ok.ensures.kept (λ e. absurd (cc)))) c.in-Ok.ensures.read c.in-Ok.ensures.fails
+    (keeps (to_receive c.args.name.now) (g.S.Shelf.told c.args.shelf.now) (g.S.Shelf.told c.plan_in_use.new.shelf) c.in-Ok.ensures.unchanged c.in-Ok.ensures.later (c.in-Ok.ensures.kept (λ e. absurd (cc)))) c.in-Ok.ensures.read
+    (changes_right (plan_fields c.in-Ok.plan) c.in-Ok.plan.whole) c.in-Ok.ensures.fails
     (record {
       front = λ f. e.front (ap (λ x. Err x) f);
       front_taken = λ f. e.front_taken (ap (λ x. Err x) f);
