@@ -43,6 +43,7 @@ fn report_of_loss(alloc: Global, loss: &Loss<'_>) -> Result<String, Fail> {
     let table = TableReport {
         units: loss.tables,
         refused: 0,
+        version: None,
         rules: RULES.get(..count).ok_or("no such rules")?,
     };
     let report = Report {

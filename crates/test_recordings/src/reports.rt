@@ -35,11 +35,13 @@ pub struct ServiceReport {
     pub numbers: Numbers,
 }
 
-/// What is said of the INT: the sections, why the first was refused or 0, and the component_tag of each rule.
+/// What is said of the INT: the sections, why the one that is shown was refused or 0, the version in force where the plan changes, and
+/// the component_tag of each rule.
 #[derive(Clone, Copy)]
 pub struct TableReport<'a> {
     pub units: u64,
     pub refused: u64,
+    pub version: Option<u8>,
     pub rules: &'a [(&'static str, u64)],
 }
 
@@ -96,6 +98,9 @@ pub fn report_of(alloc: Global, report: &Report<'_>) -> Result<String, OutOfMemo
             "table,units,{}\ntable,refused,{}\n",
             table.units, table.refused
         )?;
+        if let Some(version) = table.version {
+            write!(&mut text, "table,version,{version}\n")?;
+        }
         for (rule, tag) in table.rules {
             write!(&mut text, "rule,{rule},{tag}\n")?;
         }
