@@ -1,0 +1,11 @@
+pub mod Groups
+pub mod Deliveries
+pub mod Numbers
+pub mod Answered
+pub mod Placed
+pub mod Joined
+pub mod Units
+pub mod Heard
+pub mod Few
+pub mod Taken
+pub mod Fronts

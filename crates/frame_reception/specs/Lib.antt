@@ -1,0 +1,7 @@
+pub mod Frames
+pub mod Counting
+pub mod Steps
+pub mod Delivering
+pub mod Reading
+pub mod Reception
+pub mod Hearing
