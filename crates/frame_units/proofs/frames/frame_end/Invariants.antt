@@ -1,0 +1,13 @@
+-- The datagrams up to here are in one frame, if no more come.
+use Rattle.std.proofs.Common.{◌≡◌, ◌*◌, ◌≤◌, length}
+use Rattle.wire_spec.specs.Lists.{joined}
+use Rattle.frame_units.specs.Parts.{part_of}
+use Rattle.frame_units.proofs.Fitting.{IsGoing}
+use Rattle.frame_units.proofs.frames.frame_end.Given as goal
+
+abbrev pub invariant-loop-end : goal.invariant-loop-end
+invariant-loop-end l = record {
+  used : l.used ≡ length (joined (part_of l.from l.end l.list));
+  fits : l.used ≤ 191 * l.rows;
+  going : IsGoing l.rows l.list l.from l.end;
+}

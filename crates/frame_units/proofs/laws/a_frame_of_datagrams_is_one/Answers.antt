@@ -1,0 +1,14 @@
+use Rattle.frame_spec.specs.Sender.{frame_of}
+use Rattle.stream_spec.specs.Units.{mac_for}
+use Rattle.frame_units.specs.Units.{sections_of_frame}
+use Rattle.frame_units.proofs.Sent.{all_sections_are, is_frame}
+use Rattle.frame_units.proofs.laws.a_frame_of_datagrams_is_one.Goals as goal
+
+pub returns : goal.returns
+unfolding sections_of_frame
+returns c = record {
+  sent = λ rows columns unicast delta datagrams rows_some least most some are bytes fits. record {
+    is = is_frame rows columns rows_some least most datagrams some are bytes fits;
+    sections_are = all_sections_are rows (frame_of rows columns datagrams) (mac_for unicast) delta;
+  };
+}

@@ -1,0 +1,3 @@
+pub mod Units
+pub mod Parts
+pub mod Held
