@@ -7,7 +7,6 @@ ghost use Rattle.frame_spec.specs.Sender.{parity_table};
 ghost use Rattle.frame_units.specs.Parts.{IsWithin, bytes_left, padded, part_of};
 ghost use Rattle.frame_units.specs.Units.{AreSendable};
 
-use frame_law::rows_have_parity;
 use ip_datagram::DatagramList;
 use rs_encode::Columns;
 
@@ -82,7 +81,6 @@ pub(crate) fn encode_frame<'p>(
     requires parity { length parity.old ≡ 64 * rows }
     ensures written { result.now ≡ parity_table rows (data_table rows (part_of from end list.now)) }
 {
-    rows_have_parity();
     let mut columns = Columns::over(rows, parity);
     let mut at = Place {
         datagram: from,

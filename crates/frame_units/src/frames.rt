@@ -1,5 +1,5 @@
 //! The datagrams of a service -> the units of its frames.
-ghost use Rattle.std.specs.Prelude.{◌≡◌, ◌++◌, ◌∷◌, ◌+◌, ◌-◌, ◌*◌, ◌^◌, ◌<◌, ◌≤◌, ℕ, [], length, drop, IfOk, OnOk};
+ghost use Rattle.std.specs.Prelude.{◌≡◌, ◌++◌, ◌∷◌, ◌+◌, ◌-◌, ◌*◌, ◌^◌, ◌<◌, ◌≤◌, [], length, drop, IfOk, OnOk};
 ghost use Rattle.wire_spec.specs.Lists.{joined};
 ghost use Rattle.section_spec.specs.Mpe.{IsRows};
 ghost use Rattle.frame_units.specs.Held.{Holds};
