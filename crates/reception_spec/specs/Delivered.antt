@@ -1,32 +1,47 @@
 -- The datagrams that a recording delivers: of each service, span by span, and of all services in the order of the records that give them.
-use Rattle.std.specs.Prelude.{ℕ, ◌+◌, List, ◌++◌, take, drop, length, map, flat_map, slice_index_or}
+use Rattle.std.specs.Prelude.{ℕ, ◌+◌, Bool, true, not, List, ◌++◌, take, drop, length, map, flat_map, slice_index_or}
 use Rattle.std.specs.List.{range_with_len}
-use Rattle.ts_spec.specs.Recording.{Record}
+use Rattle.ts_spec.specs.Recording.{RecordingForm, Record}
 use Rattle.plan_spec.specs.Plan.{ServiceFields, PlanFields}
-use Rattle.plan_spec.specs.Changes.{on_pid, no_service, pids_in}
+use Rattle.frame_spec.specs.Delivered.{datagrams_of_frames}
+use Rattle.plan_spec.specs.Changes.{on_pid, no_service, pid_in, pids_in, has_pid}
 use Rattle.reception_spec.specs.Units.{delivered_by_unit}
 use Rattle.reception_spec.specs.Numbers.{units_of}
-use Rattle.reception_spec.specs.Spans.{span_of}
+use Rattle.reception_spec.specs.Frames.{told_frames, rows_of}
+use Rattle.reception_spec.specs.Spans.{version_at_end, span_of}
 
--- what a service delivers of some records: what its accepted units give, in order
+-- what the accepted units of a service give by themselves, of some records, in order
 abbrev pub delivered_datagrams : ServiceFields → List Record → List (List ℕ)
 delivered_datagrams service records = flat_map (delivered_by_unit service) (units_of service records)
+
+-- what a service tells of the records of a span: what its units give by themselves, and what its frames do: all of them where no more
+-- records come (ended), otherwise those to which none can be added. A service has its datagrams in one of these two ways
+abbrev pub told_by : Bool → RecordingForm → ServiceFields → List Record → List (List ℕ)
+told_by ended form service records =
+    delivered_datagrams service records ++ datagrams_of_frames (rows_of service.kind) (told_frames ended form service.kind records)
 
 -- service k of a plan, on one of its PIDs
 abbrev pub service_on : PlanFields → ℕ → ℕ → ServiceFields
 service_on plan k pid = on_pid (slice_index_or plan.services k no_service) pid
 
--- what the records tell of service k: what its spans deliver, one after another. (Of a kind whose datagrams come in frames, without
--- those of a frame to which a later record may add; none of the kinds so far)
+-- behind the records service k is not heard on this PID: no section can be added to a frame on it, since a PID that was left is not
+-- taken again. (On a PID that the service comes to later there is no frame yet)
+abbrev pub is_not_heard : PlanFields → List Record → ℕ → ℕ → Bool
+is_not_heard plan records k pid = not (has_pid (pid_in plan (version_at_end plan records) k) pid)
+
+-- what the records tell of service k: what its spans do, one after another, where sections may come to the frames of the span in force
 abbrev pub told_on : PlanFields → ℕ → List Record → ℕ → List (List ℕ)
-told_on plan k records pid = delivered_datagrams (service_on plan k pid) (span_of plan k pid records)
+told_on plan k records pid = told_by (is_not_heard plan records k pid) plan.recording (service_on plan k pid) (span_of plan k pid records)
 
 abbrev pub told_of : PlanFields → ℕ → List Record → List (List ℕ)
 told_of plan k records = flat_map (told_on plan k records) (pids_in plan k)
 
--- what service k delivers where the recording ends: the same with those frames
+-- what service k delivers where the recording ends: no more sections come to any frame
+abbrev pub delivered_on : PlanFields → ℕ → List Record → ℕ → List (List ℕ)
+delivered_on plan k records pid = told_by true plan.recording (service_on plan k pid) (span_of plan k pid records)
+
 abbrev pub delivered_of : PlanFields → ℕ → List Record → List (List ℕ)
-delivered_of plan k records = told_of plan k records
+delivered_of plan k records = flat_map (delivered_on plan k records) (pids_in plan k)
 
 -- the datagrams that the record at a place gives: those that the records up to it tell, after those that the records before it tell
 abbrev pub given_by_record : PlanFields → ℕ → List Record → ℕ → List (List ℕ)

@@ -1,8 +1,8 @@
 -- Small receptions, to try the definitions on.
-use Rattle.std.specs.Prelude.{ℕ, false, true, List, [], ◌∷◌, replicate, codes, None, Some}
+use Rattle.std.specs.Prelude.{ℕ, true, List, [], ◌∷◌, replicate, codes, None, Some}
 use Rattle.ts_spec.specs.Packet.{null_packet}
 use Rattle.ts_spec.specs.Recording.{plain, Record}
-use Rattle.plan_spec.specs.Plan.{ule, mpe, ServiceFields, PlanFields}
+use Rattle.plan_spec.specs.Plan.{ule, ServiceFields, PlanFields}
 
 -- a service of SNDUs on a PID, without filter
 abbrev pub small_service : ℕ → ServiceFields

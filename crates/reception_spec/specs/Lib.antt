@@ -1,6 +1,7 @@
 pub mod Units
 pub mod Packets
 pub mod Numbers
+pub mod Frames
 pub mod Table
 pub mod Spans
 pub mod Delivered

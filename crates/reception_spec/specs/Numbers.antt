@@ -85,7 +85,7 @@ units_on form (Some pid) records = map (λ (accepted : PlacedUnit). accepted.uni
 abbrev pub units_of : ServiceFields → List Record → List (List ℕ)
 units_of service records = units_on (form_of_kind service.kind) (pid_of service.kind) records
 
--- units that carry no datagram; units that carry one and are not wanted; delivered datagrams
+-- units that are not read; units that are and are not wanted; the datagrams that units give by themselves
 pub record UnitNumbers : Type 0 where
   pub unread : ℕ
   pub filtered : ℕ

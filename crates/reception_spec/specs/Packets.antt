@@ -1,5 +1,5 @@
 -- Which records are packets of a service, of the INT, or of neither (ISO/IEC 13818-1 clause 2.4.3.2).
-use Rattle.std.specs.Prelude.{ℕ, Bool, true, false, not, ◌&&◌, ◌||◌, List, ◌++◌, ◌==◌, Option, Some, None, is_none, is_some}
+use Rattle.std.specs.Prelude.{ℕ, Bool, not, ◌&&◌, ◌||◌, List, ◌++◌, ◌==◌, is_none, is_some}
 use Rattle.std.specs.List.{list_any}
 use Rattle.ts_spec.specs.Packet.{fields_of, is_packet, lacks_sync, is_marked, has_bad_adaptation, lacks_payload}
 use Rattle.ts_spec.specs.Recording.{Record}

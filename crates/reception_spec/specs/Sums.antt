@@ -1,12 +1,13 @@
 -- The numbers that a report has: of the whole recording, and of each service over its spans.
-use Rattle.std.specs.Prelude.{ℕ, ◌+◌, List, [], ◌∷◌, length, map, fold, flat_map, count_by, slice_index_or, if◌then◌else◌}
+use Rattle.std.specs.Prelude.{ℕ, ◌+◌, Bool, true, List, [], ◌∷◌, length, map, fold, flat_map, count_by, slice_index_or, if◌then◌else◌}
 use Rattle.ts_spec.specs.Recording.{Record}
 use Rattle.plan_spec.specs.Plan.{PlanFields}
 use Rattle.plan_spec.specs.Changes.{plan_in, no_service, pids_in}
 use Rattle.reception_spec.specs.Packets.{is_unreadable, lacks_content, is_other}
 use Rattle.reception_spec.specs.Numbers.{PidNumbers, no_numbers, UnitNumbers, units_of, unit_numbers, service_pid_numbers}
 use Rattle.reception_spec.specs.Spans.{version_at_place, span_of}
-use Rattle.reception_spec.specs.Delivered.{service_on}
+use Rattle.reception_spec.specs.Frames.{told_frames, rows_of, FrameNumbers, no_frames, sum_of_frames, frame_numbers}
+use Rattle.reception_spec.specs.Delivered.{service_on, is_not_heard}
 
 -- the records that are packets of no service and not of the INT, each by the version in force at its place
 abbrev pub others_from : PlanFields → List Record → ℕ → List Record → ℕ
@@ -51,3 +52,17 @@ units_in_spans plan k records = flat_map (λ pid. units_of (service_on plan k pi
 
 abbrev pub unit_numbers_of : PlanFields → ℕ → List Record → UnitNumbers
 unit_numbers_of plan k records = unit_numbers (slice_index_or plan.services k no_service) (units_in_spans plan k records)
+
+-- What the frames of its spans give. Of one span: of all its frames, or of those that are closed while sections may come.
+abbrev pub frame_numbers_on : Bool → PlanFields → ℕ → List Record → ℕ → FrameNumbers
+frame_numbers_on ended plan k records pid =
+    frame_numbers (rows_of (service_on plan k pid).kind)
+    (told_frames ended plan.recording (service_on plan k pid).kind (span_of plan k pid records))
+
+-- told so far, and where the recording ends
+abbrev pub told_frame_numbers : PlanFields → ℕ → List Record → FrameNumbers
+told_frame_numbers plan k records =
+    fold sum_of_frames no_frames (map (λ pid. frame_numbers_on (is_not_heard plan records k pid) plan k records pid) (pids_in plan k))
+
+abbrev pub frame_numbers_of : PlanFields → ℕ → List Record → FrameNumbers
+frame_numbers_of plan k records = fold sum_of_frames no_frames (map (frame_numbers_on true plan k records) (pids_in plan k))

@@ -1,6 +1,7 @@
 -- Small transmissions, to try the definitions on: cycles of five slots, of which the first is the INT's; and a plan that changes.
-use Rattle.std.specs.Prelude.{ℕ, zero, suc, List, [], ◌∷◌, ◌++◌, map, replicate}
+use Rattle.std.specs.Prelude.{ℕ, zero, suc, List, [], ◌∷◌, ◌++◌, map, replicate, None}
 use Rattle.std.specs.List.{range_with_len}
+use Rattle.plan_spec.specs.Plan.{fec, ServiceFields, PlanFields}
 use Rattle.plan_spec.specs.Examples.{plan_that_changes}
 use Rattle.stream_spec.specs.Slots.{Slot, kept_for_table, slot_at}
 use Rattle.stream_spec.specs.Parts.{PartFields}
@@ -35,3 +36,13 @@ slots_of_files (suc version) = 3
 
 abbrev pub second_part : PartFields
 second_part = part_of plan_that_changes two_of_each slots_of_files 1
+
+-- the same files in MPE-FEC frames of 256 rows
+abbrev pub in_frames : ServiceFields → ServiceFields
+in_frames service = record service { kind = fec 513 256 64 None }
+
+abbrev pub framed_plan : PlanFields
+framed_plan = record plan_that_changes { services = map in_frames plan_that_changes.services }
+
+abbrev pub second_part_in_frames : PartFields
+second_part_in_frames = part_of framed_plan two_of_each slots_of_files 1

@@ -14,22 +14,23 @@ use Rattle.stream_spec.specs.Units.{packets_of}
 use Rattle.stream_spec.specs.Slots.{Slot, of_table, of_service, empty, kept_for_table, slot_at}
 
 -- the plan of a version; what stands in the stream before its part: so many slots, so many packets of the INT, and of each service,
--- by its place, so many on the PID that it has in the part; the datagrams of each service
+-- by its place, so many packets on the PID that it has in the part, and so many frames in all; the datagrams of each service
 pub record PartFields : Type 0 where
   pub plan : PlanFields
   pub slots_before : ℕ
   pub table_before : ℕ
   pub packets_before : ℕ → ℕ
+  pub frames_before : ℕ → ℕ
   pub datagrams : ℕ → List (List ℕ)
 
--- the packets of services, with counters that go on from those before the part; k is the first of them
-abbrev pub packets_from : ℕ → List ServiceFields → (ℕ → ℕ) → (ℕ → List (List ℕ)) → List (List PacketFields)
-packets_from k [] before datagrams = []
-packets_from k (service ∷ services) before datagrams =
-    packets_of service (before k % 16) (datagrams k) ∷ packets_from (k + 1) services before datagrams
+-- the packets of services, with counters and numbers of frames that go on from those before the part; k is the first of them
+abbrev pub packets_from : ℕ → List ServiceFields → (packets frames : ℕ → ℕ) → (ℕ → List (List ℕ)) → List (List PacketFields)
+packets_from k [] packets frames datagrams = []
+packets_from k (service ∷ services) packets frames datagrams =
+    packets_of service (packets k % 16) (frames k) (datagrams k) ∷ packets_from (k + 1) services packets frames datagrams
 
 abbrev pub service_packets : PartFields → List (List PacketFields)
-service_packets part = packets_from 0 part.plan.services part.packets_before part.datagrams
+service_packets part = packets_from 0 part.plan.services part.packets_before part.frames_before part.datagrams
 
 -- the packets of the INT in a cycle: its section is packetized anew in each, and the counter goes on
 abbrev pub int_packets : PartFields → Option IntFields → ℕ → List PacketFields

@@ -1,20 +1,33 @@
 -- The sender's stream: one part for each version of the plan, in order.
 -- Profile: a part begins a cycle, and one without datagrams has no slots; the last one with datagrams ends with its last packet of a
 -- service, each other with the cycle of that packet.
-use Rattle.std.specs.Prelude.{◌≡◌, ℕ, ◌+◌, ◌-◌, ◌*◌, ◌/◌, ◌≤◌, Bool, false, not, List, length, sum_by, flat_map, nat_lt, if◌then◌else◌, Option, Some, None}
+use Rattle.std.specs.Prelude.{◌≡◌, ℕ, ◌+◌, ◌-◌, ◌*◌, ◌/◌, ◌≤◌, Bool, true, false, not, List, length, sum_by, flat_map, nat_lt, if◌then◌else◌, Option, Some, None}
 use Rattle.std.specs.List.{range_with_len, list_any}
 use Rattle.plan_spec.specs.Plan.{PlanFields}
+use Rattle.plan_spec.specs.Built.{are_sent}
 use Rattle.plan_spec.specs.Changes.{plan_in, service_in, pid_in, has_pid, versions}
 use Rattle.plan_spec.specs.Signalling.{table_packets}
-use Rattle.stream_spec.specs.Units.{packets_of}
+use Rattle.stream_spec.specs.Units.{packets_of, frame_count}
 use Rattle.stream_spec.specs.Slots.{IsSlotCount}
 use Rattle.stream_spec.specs.Parts.{PartFields, slot_in, records_of_slots}
 
 -- The datagrams are those of each version and, in it, of each service by its place: datagrams version k.
 
--- how many packets service k has in a version
+-- the versions before one
+abbrev pub earlier : ℕ → List ℕ
+earlier version = range_with_len 0 version
+
+-- how many frames service k has in a version, and in all those before it
+abbrev pub frame_count_in : PlanFields → (ℕ → ℕ → List (List ℕ)) → ℕ → ℕ → ℕ
+frame_count_in plan datagrams k version = frame_count (service_in plan version k).kind (datagrams version k)
+
+abbrev pub frame_count_before : PlanFields → (ℕ → ℕ → List (List ℕ)) → ℕ → ℕ → ℕ
+frame_count_before plan datagrams k version = sum_by (frame_count_in plan datagrams k) (earlier version)
+
+-- how many packets it has in a version
 abbrev pub packet_count : PlanFields → (ℕ → ℕ → List (List ℕ)) → ℕ → ℕ → ℕ
-packet_count plan datagrams k version = length (packets_of (service_in plan version k) 0 (datagrams version k))
+packet_count plan datagrams k version =
+    length (packets_of (service_in plan version k) 0 (frame_count_before plan datagrams k version) (datagrams version k))
 
 -- of these, those on the PID that it has in another version
 abbrev pub shares_pid : Option ℕ → Option ℕ → Bool
@@ -25,10 +38,6 @@ abbrev pub packet_count_on : PlanFields → (ℕ → ℕ → List (List ℕ)) �
 packet_count_on plan datagrams k other version =
     if shares_pid (pid_in plan other k) (pid_in plan version k) then packet_count plan datagrams k version else 0
 
--- the versions before one
-abbrev pub earlier : ℕ → List ℕ
-earlier version = range_with_len 0 version
-
 -- the part of a version, where the parts have so many slots, those before it whole cycles
 abbrev pub part_of : PlanFields → (ℕ → ℕ → List (List ℕ)) → (ℕ → ℕ) → ℕ → PartFields
 part_of plan datagrams slots version = record {
@@ -36,6 +45,7 @@ part_of plan datagrams slots version = record {
   slots_before = sum_by slots (earlier version);
   table_before = sum_by (λ v. slots v / plan.cycle * table_packets (plan_in plan v)) (earlier version);
   packets_before = λ k. sum_by (packet_count_on plan datagrams k version) (earlier version);
+  frames_before = λ k. frame_count_before plan datagrams k version;
   datagrams = datagrams version;
 }
 
@@ -58,8 +68,9 @@ pub record IsPartCount (plan : PlanFields) (datagrams : ℕ → ℕ → List (Li
   pub count : IsSlotCount (slot_in (part_of plan datagrams slots version)) least
   pub slots_are : slots version ≡ (if is_last plan datagrams version then least else whole_cycles plan.cycle least)
 
--- the records, one after another, are the stream of these datagrams
+-- the records, one after another, are the stream of these datagrams; all services are of kinds whose packets are defined so far
 pub record IsStream (plan : PlanFields) (datagrams : ℕ → ℕ → List (List ℕ)) (records : List (List ℕ)) : Type 0 where
+  pub defined : are_sent plan ≡ true
   pub slots : ℕ → ℕ
   pub each : (version : ℕ) → version ≤ length plan.changes → IsPartCount plan datagrams slots version
   pub records_are : records ≡ flat_map (λ version. records_of_slots (part_of plan datagrams slots version) (slots version)) (versions plan)

@@ -10,7 +10,8 @@ ghost use Rattle.stream_spec.specs.Slots.{of_table, of_service, empty, IsSlotCou
 ghost use Rattle.stream_spec.specs.Parts.{stamp_bytes};
 ghost use Rattle.plan_spec.specs.Examples.{plan_that_changes};
 ghost use Rattle.stream_spec.specs.Stream.{IsPartCount};
-ghost use Rattle.stream_spec.specs.Examples.{small_slot, small_slots, idle_slot, two_of_each, slots_of_files, second_part};
+ghost use Rattle.stream_spec.specs.Units.{datagrams_by_frame};
+ghost use Rattle.stream_spec.specs.Examples.{small_slot, small_slots, idle_slot, datagram_of_100, two_of_each, slots_of_files, second_part, second_part_in_frames};
 
 /// Two services in rotation, the table at the head of each cycle, and null packets after the last.
 pub fn small_transmissions()
@@ -33,4 +34,10 @@ pub fn parts_of_a_stream()
     ensures slots { second_part.slots_before ≡ 100 }
     ensures table { second_part.table_before ≡ 1 }
     ensures counter { second_part.packets_before 0 ≡ 0 }
+{}
+
+/// The same files in MPE-FEC frames: two datagrams share one, and the first frame of the second part has number 1.
+pub fn frames_of_a_stream()
+    ensures share { datagrams_by_frame 256 (datagram_of_100 ∷ datagram_of_100 ∷ []) ≡ (datagram_of_100 ∷ datagram_of_100 ∷ []) ∷ [] }
+    ensures before { second_part_in_frames.frames_before 0 ≡ 1 }
 {}
