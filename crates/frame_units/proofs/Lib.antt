@@ -1,10 +1,6 @@
 pub mod Held
 pub mod Padded
-pub mod Tables
 pub mod Parts
-pub mod Fitting
+pub mod Going
 pub mod Filling
-pub mod Macs
 pub mod Written
-pub mod Sent
-pub mod Carried

@@ -6,7 +6,7 @@ use Rattle.section_spec.specs.Mpe.{IsRows}
 use Rattle.frame_spec.specs.Frame.{datagram_start}
 use Rattle.frame_law.proofs.Places.{datagram_long, start_most}
 use Rattle.frame_units.specs.Parts.{part_of}
-use Rattle.frame_units.specs.Units.{AreSendable, IsSendable}
+use Rattle.sent_frame_law.specs.Frames.{AreSendable, IsSendable}
 
 pub joined-append : (xs ys : List (List ℕ)) → joined (xs ++ ys) ≡ joined xs ++ joined ys
 joined-append [] ys = refl

@@ -1,5 +1,5 @@
 -- A unit more of a frame.
-use Rattle.std.proofs.Common.{◌≡◌, ℕ, ◌+◌, ◌-◌, ◌*◌, ◌%◌, Bool, false, eqb, List, [], ◌∷◌, ◌++◌, length, map, take, drop, Some, refl, ap, ap₂, sym, ◌∙◌, arith, append_assoc}
+use Rattle.std.proofs.Common.{◌<◌, ◌≡◌, ℕ, ◌+◌, ◌-◌, ◌*◌, ◌%◌, Bool, false, eqb, List, [], ◌∷◌, ◌++◌, length, map, take, drop, Some, refl, ap, ap₂, sym, ◌∙◌, arith, append_assoc}
 use Rattle.std.specs.List.{range_with_len}
 use Rattle.std.proofs.lemmas.List.{take_at, map-append}
 use Rattle.std.proofs.lemmas.List.FromFn.{map-range_with_len_more}
@@ -7,10 +7,9 @@ use Rattle.wire_spec.specs.Lists.{joined}
 use Rattle.section_spec.specs.Mpe.{FecFields, RealTimeFields, fec_bytes, mpe_bytes, mpe_to_write}
 use Rattle.frame_spec.specs.Frame.{datagram_at, datagram_start, data_table}
 use Rattle.frame_spec.specs.Sections.{data_section, parity_section}
-use Rattle.frame_spec.specs.Sender.{padding_of, parity_table, frame_of, section_of_datagram, section_of_column, section_unit}
-use Rattle.stream_spec.specs.Units.{mac_for}
+use Rattle.frame_spec.specs.Sender.{padding_of, parity_table, frame_of, section_of_datagram, section_of_column, section_unit, sections_to_send}
+use Rattle.stream_spec.specs.Units.{mac_for, units_of_frame, units_of_frames}
 use Rattle.frame_units.specs.Parts.{column_fields, column_units, data_time, data_unit, data_units}
-use Rattle.frame_units.specs.Units.{index_of, sections_of_frame, units_of_frame, units_of_frames}
 
 -- a unit that stands at the front of a buffer
 pub front_unit : (unit rest into : List ℕ) (size : ℕ) → into ≡ unit ++ rest → size ≡ length unit → take size into ≡ unit
@@ -82,10 +81,13 @@ columns_same rows columns delta ds (x ∷ xs) =
     ap (λ (us : List (List ℕ)). fec_bytes (column_fields rows columns (padding_of rows (length (joined ds))) (parity_table rows (data_table rows ds)) delta x) ∷ us)
     (columns_same rows columns delta ds xs)
 
+-- the units of a frame whose sections have this delta_t
+abbrev units_at : ℕ → ℕ → List ℕ → ℕ → List (List ℕ) → List (List ℕ)
+units_at rows columns unicast delta ds = map section_unit (sections_to_send rows (frame_of rows columns ds) (mac_for unicast) (λ (i : ℕ). delta))
+
 pub frame_units_are : (rows columns delta : ℕ) (unicast : List ℕ) (ds : List (List ℕ)) (count padding : ℕ) (parity : List ℕ)
     → length ds ≡ count → padding ≡ padding_of rows (length (joined ds)) → parity ≡ parity_table rows (data_table rows ds)
-    → data_units unicast ds delta count ++ column_units rows columns padding parity delta columns ≡ units_of_frame rows columns unicast (λ (i : ℕ). delta) ds
-unfolding sections_of_frame
+    → data_units unicast ds delta count ++ column_units rows columns padding parity delta columns ≡ units_at rows columns unicast delta ds
 frame_units_are rows columns delta unicast ds count padding parity size pads is =
     ap₂ (λ (x y : List (List ℕ)). x ++ y)
     (ap (λ (n : ℕ). data_units unicast ds delta n) (sym size) ∙ sym (data_same rows columns delta unicast ds (range_with_len 0 (length ds))))
@@ -96,23 +98,26 @@ frame_units_are rows columns delta unicast ds count padding parity size pads is 
 
 pub frame_written : (rows r columns delta : ℕ) (unicast : List ℕ) (ds : List (List ℕ)) (count padding : ℕ) (parity : List ℕ) (before put : List (List ℕ))
     → r ≡ rows → length ds ≡ count → padding ≡ padding_of rows (length (joined ds)) → parity ≡ parity_table r (data_table r ds)
-    → put ≡ before ++ data_units unicast ds delta count
-    → put ++ column_units r columns padding parity delta columns ≡ before ++ units_of_frame rows columns unicast (λ (i : ℕ). delta) ds
-frame_written rows r columns delta unicast ds count padding parity before put same size pads is written =
+    → put ≡ before ++ data_units unicast ds delta count → delta < 4096
+    → put ++ column_units r columns padding parity delta columns ≡ before ++ units_of_frame rows columns unicast delta ds
+frame_written rows r columns delta unicast ds count padding parity before put same size pads is written below =
+    let number : delta ≡ delta % 4096 = omega (arith, below) in
     ap₂ (λ (us : List (List ℕ)) (k : ℕ). us ++ column_units k columns padding parity delta columns) written same
     ∙ append_assoc before (data_units unicast ds delta count) (column_units rows columns padding parity delta columns)
     ∙ ap (λ (us : List (List ℕ)). before ++ us)
     (frame_units_are rows columns delta unicast ds count padding parity size pads (is ∙ ap (λ (k : ℕ). parity_table k (data_table k ds)) same))
+    ∙ ap (λ (n : ℕ). before ++ units_at rows columns unicast n ds) number
 
 -- A frame more of a service.
 
-pub frame_more : (rows columns : ℕ) (unicast : List ℕ) (first j index : ℕ) (ds : List (List ℕ)) (later : List (List (List ℕ))) (units new all : List (List ℕ)) (left : List (List (List ℕ)))
-    → index ≡ (first + j) % 4096 → left ≡ ds ∷ later → units ++ units_of_frames rows columns unicast (index_of first) j left ≡ all
-    → new ≡ units ++ units_of_frame rows columns unicast (λ (i : ℕ). index) ds
-    → new ++ units_of_frames rows columns unicast (index_of first) (j + 1) later ≡ all
-frame_more rows columns unicast first j index ds later units new all left number parts so_far put =
-    ap (λ (us : List (List ℕ)). us ++ units_of_frames rows columns unicast (index_of first) (j + 1) later)
-    (put ∙ ap (λ (n : ℕ). units ++ units_of_frame rows columns unicast (λ (i : ℕ). n) ds) number)
-    ∙ append_assoc units (units_of_frame rows columns unicast (index_of first j) ds) (units_of_frames rows columns unicast (index_of first) (j + 1) later)
-    ∙ ap (λ (fs : List (List (List ℕ))). units ++ units_of_frames rows columns unicast (index_of first) j fs) (sym parts)
+pub frame_more : (rows columns : ℕ) (unicast : List ℕ) (number index : ℕ) (ds : List (List ℕ)) (later : List (List (List ℕ))) (units new all : List (List ℕ)) (left : List (List (List ℕ)))
+    → index ≡ number % 4096 → left ≡ ds ∷ later → units ++ units_of_frames rows columns unicast number left ≡ all
+    → new ≡ units ++ units_of_frame rows columns unicast index ds
+    → new ++ units_of_frames rows columns unicast (number + 1) later ≡ all
+frame_more rows columns unicast number index ds later units new all left is parts so_far put =
+    let same : index % 4096 ≡ number % 4096 = omega (arith, is) in
+    ap (λ (us : List (List ℕ)). us ++ units_of_frames rows columns unicast (number + 1) later)
+    (put ∙ ap (λ (n : ℕ). units ++ units_at rows columns unicast n ds) same)
+    ∙ append_assoc units (units_of_frame rows columns unicast number ds) (units_of_frames rows columns unicast (number + 1) later)
+    ∙ ap (λ (fs : List (List (List ℕ))). units ++ units_of_frames rows columns unicast number fs) (sym parts)
     ∙ so_far

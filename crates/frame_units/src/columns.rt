@@ -5,7 +5,7 @@ ghost use Rattle.section_spec.specs.Mpe.{IsRows};
 ghost use Rattle.frame_spec.specs.Frame.{data_table};
 ghost use Rattle.frame_spec.specs.Sender.{parity_table};
 ghost use Rattle.frame_units.specs.Parts.{IsWithin, bytes_left, padded, part_of};
-ghost use Rattle.frame_units.specs.Units.{AreSendable};
+ghost use Rattle.sent_frame_law.specs.Frames.{AreSendable};
 
 use ip_datagram::DatagramList;
 use rs_encode::Columns;

@@ -4,7 +4,8 @@ ghost use Rattle.wire_spec.specs.Lists.{joined};
 ghost use Rattle.section_spec.specs.Mpe.{IsRows};
 ghost use Rattle.frame_units.specs.Held.{Holds};
 ghost use Rattle.frame_units.specs.Parts.{part_of};
-ghost use Rattle.frame_units.specs.Units.{AreSendable, frame_count, frames_of, indexed_units, units_of_frame};
+ghost use Rattle.stream_spec.specs.Units.{datagrams_by_frame, units_of_frame, units_of_frames};
+ghost use Rattle.sent_frame_law.specs.Frames.{AreSendable};
 
 use crate::columns::{DATA_COLUMNS, encode_frame};
 use crate::sections::{LONGEST, put_columns, put_data};
@@ -29,7 +30,7 @@ fn frame_end(list: &DatagramList, rows: u16, from: usize) -> usize
     ensures some { from < result }
     ensures within { result ≤ length list.now }
     ensures fits { length (joined (part_of from result list.now)) ≤ 191 * rows }
-    ensures frame { frames_of rows (drop from list.now) ≡ part_of from result list.now ∷ frames_of rows (drop result list.now) }
+    ensures frame { datagrams_by_frame rows (drop from list.now) ≡ part_of from result list.now ∷ datagrams_by_frame rows (drop result list.now) }
 {
     let room = DATA_COLUMNS * usize::from(rows);
     let count = list.len();
@@ -48,7 +49,7 @@ fn frames_in(list: &DatagramList, rows: u16) -> u32
     requires datagrams { AreSendable list.now }
     requires rows { IsRows rows }
     requires few { length list.now < 2 ^ 32 }
-    ensures counted { result ≡ frame_count rows list.now }
+    ensures counted { result ≡ length (datagrams_by_frame rows list.now) }
     ensures most { result ≤ length list.now }
 {
     let mut frames = 0;
@@ -143,7 +144,7 @@ fn put_frame(
     requires column { length column.old ≡ shape.rows }
     requires parity { length parity.old ≡ 64 * shape.rows }
     requires section { length section.old ≡ 4096 }
-    ensures written { OnOk result (units.new ≡ units.old ++ units_of_frame shape.rows shape.columns shape.unicast (λ i. delta) (part_of from end list.now)) }
+    ensures written { OnOk result (units.new ≡ units.old ++ units_of_frame shape.rows shape.columns shape.unicast delta (part_of from end list.now)) }
 {
     let rows = usize::from(shape.rows);
     let used = data_bytes(list, from, end);
@@ -171,8 +172,8 @@ pub fn make_units(
     requires columns { (1 ≤ columns) × (columns ≤ 64) }
     requires datagrams { AreSendable list.now }
     requires few { length list.now < 2 ^ 32 }
-    ensures written { IfOk result (λ made. Holds made (indexed_units rows columns unicast first list.now)) }
-    ensures frames { IfOk result (λ made. made.frames ≡ frame_count rows list.now) }
+    ensures written { IfOk result (λ made. Holds made (units_of_frames rows columns unicast first (datagrams_by_frame rows list.now))) }
+    ensures frames { IfOk result (λ made. made.frames ≡ length (datagrams_by_frame rows list.now)) }
 {
     let shape = Shape {
         rows,

@@ -6,7 +6,7 @@ ghost use Rattle.section_spec.specs.Mpe.{IsRealTime, IsRows, IsWritableFec, fec_
 ghost use Rattle.mpe_section.specs.Views.{fec_in, real_time_in};
 ghost use Rattle.stream_spec.specs.Units.{mac_for};
 ghost use Rattle.frame_units.specs.Parts.{column_units, data_units, part_of};
-ghost use Rattle.frame_units.specs.Units.{AreSendable};
+ghost use Rattle.sent_frame_law.specs.Frames.{AreSendable};
 
 use crate::units::UnitList;
 use addr_rules::mac_of;

@@ -1,6 +1,6 @@
 //! Frames of 256 rows, by hand from EN 301 192 clause 9.
 ghost use Rattle.std.specs.Prelude.{◌<◌, ◌^◌, length, IfOk};
-ghost use Rattle.frame_units.specs.Units.{AreSendable, IsSendable};
+ghost use Rattle.sent_frame_law.specs.Frames.{AreSendable, IsSendable};
 
 use super::*;
 use ip_datagram::{DatagramList, front};

@@ -32,31 +32,31 @@ same_on {X} g h (x ∷ xs) each =
 
 -- PIDs by number, each a PID, and what goes with each number.
 module _ {X : Type 0} (pid_at : ℕ → Option ℕ) (all : (v : ℕ) → (pid : ℕ) × (pid_at v ≡ Some pid)) (items : ℕ → List X) where
-  abbrev pids : ℕ → List ℕ
+  abbrev pub pids : ℕ → List ℕ
   pids n = fold with_pid_behind [] (map pid_at (range_with_len 0 n))
 
   -- what is on a PID
-  abbrev on : ℕ → ℕ → List X
+  abbrev pub on : ℕ → ℕ → List X
   on n pid = flat_map (λ v. cond (has_pid (pid_at v) pid) (items v) []) (range_with_len 0 n)
 
   numbers_next : (n : ℕ) → range_with_len 0 (suc n) ≡ range_with_len 0 n ++ n ∷ []
   numbers_next n = let one : suc n ≡ n + 1 = omega arith in ap (range_with_len 0) one ∙ range_append 0 n 1 n (omega arith)
 
-  pids_next : (n : ℕ) → pids (suc n) ≡ with_last (pids n) (all n).0
+  pub pids_next : (n : ℕ) → pids (suc n) ≡ with_last (pids n) (all n).0
   pids_next n =
       ap (λ (l : List ℕ). fold with_pid_behind [] (map pid_at l)) (numbers_next n)
       ∙ ap (λ (l : List (Option ℕ)). fold with_pid_behind [] l) (map-append pid_at (range_with_len 0 n) (n ∷ []))
       ∙ fold-append with_pid_behind [] (map pid_at (range_with_len 0 n)) (pid_at n ∷ [])
       ∙ ap (λ (o : Option ℕ). with_pid_behind (pids n) o) (all n).1
 
-  on_next : (n pid : ℕ) → on (suc n) pid ≡ on n pid ++ cond (eqb (all n).0 pid) (items n) []
+  pub on_next : (n pid : ℕ) → on (suc n) pid ≡ on n pid ++ cond (eqb (all n).0 pid) (items n) []
   on_next n pid =
       ap (flat_map (λ v. cond (has_pid (pid_at v) pid) (items v) [])) (numbers_next n)
       ∙ flat_map-append (λ v. cond (has_pid (pid_at v) pid) (items v) []) (range_with_len 0 n) (n ∷ [])
       ∙ ap (λ (l : List X). on n pid ++ l) (append-nil (cond (has_pid (pid_at n) pid) (items n) []) ∙ ap (λ (o : Option ℕ). cond (has_pid o pid) (items n) []) (all n).1)
 
   -- each PID of the numbers before is there
-  there : (n v : ℕ) → v < n → is_in (all v).0 (pids n) ≡ true
+  pub there : (n v : ℕ) → v < n → is_in (all v).0 (pids n) ≡ true
   there zero v less = absurd (omega (arith, less))
   there (suc n) v less = ap (is_in (all v).0) (pids_next n) ∙ by_last (with_last_is (pids n) (all n).0) (cases_lt v n) (λ before. there n v before)
     where
@@ -73,7 +73,7 @@ module _ {X : Type 0} (pid_at : ℕ → Option ℕ) (all : (v : ℕ) → (pid : 
           ap (is_in (all v).0) (more ∙ ap (λ (i : ℕ). pids n ++ (all i).0 ∷ []) (sym (last le))) ∙ in_last (all v).0 (pids n)
 
   -- so that on another PID there is nothing
-  nothing_on : (n pid : ℕ) → is_in pid (pids n) ≡ false → on n pid ≡ []
+  pub nothing_on : (n pid : ℕ) → is_in pid (pids n) ≡ false → on n pid ≡ []
   nothing_on n pid absent = flat_map_same (λ v. cond (has_pid (pid_at v) pid) (items v) []) nothing 0 n (λ v less. other v (omega (arith, less))) ∙ none 0 n
     where
       nothing : ℕ → List X
@@ -153,7 +153,7 @@ module _ {X : Type 0} (pid_at : ℕ → Option ℕ) (all : (v : ℕ) → (pid : 
                   absurd (cc)
 
 -- Of a service of transport packets.
-has_pid_in : (plan : PlanFields) (k pid : ℕ) → pid_of (kind_at plan k) ≡ Some pid → (version : ℕ) → (own : ℕ) × (pid_in plan version k ≡ Some own)
+pub has_pid_in : (plan : PlanFields) (k pid : ℕ) → pid_of (kind_at plan k) ≡ Some pid → (version : ℕ) → (own : ℕ) × (pid_in plan version k ≡ Some own)
 has_pid_in plan k pid is version = by_pid (pid_in plan version k) refl (ap is_some (pid_of_version plan version k) ∙ part_kept (λ kind. is_some (pid_of kind)) stays plan version k ∙ ap is_some is)
   where
     stays : (kind : KindFields) (new : ℕ) → is_some (pid_of (with_pid kind new)) ≡ is_some (pid_of kind)

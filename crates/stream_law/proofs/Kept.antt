@@ -1,12 +1,13 @@
 -- What no version changes of a service.
-use Rattle.std.proofs.Common.{◌≡◌, ℕ, zero, suc, get_or, List, [], ◌∷◌, map, refl, sym, ap, ◌∙◌}
+use Rattle.std.proofs.Common.{◌≡◌, ℕ, zero, suc, get_or, List, [], ◌∷◌, map, refl, sym, ap, ◌∙◌, Some, None}
 use Rattle.std.proofs.Math.ListN.{get_or-map}
 use Rattle.plan_spec.specs.Plan.{KindFields, ule, mpe, fec, gse, ServiceFields, MovedFields, PlanFields, pid_of}
 use Rattle.plan_spec.specs.Changes.{with_pid, no_service, services_in, plan_in, service_in, pid_in}
 use Rattle.plan_spec.specs.Built.{is_sent}
 use Rattle.plan_law.proofs.Kept.{kept}
-use Rattle.stream_spec.specs.Units.{unit_of}
+use Rattle.stream_spec.specs.Units.{frame_count, units_of_kind}
 use Rattle.stream_spec.specs.Services.{kind_at, form_of_kind, carried_by_unit}
+use Rattle.stream_law.specs.Words.{is_single}
 
 -- the kind of service k in a version, and its PID there
 pub kind_of_version : (plan : PlanFields) (version k : ℕ) → kind_at (plan_in plan version) k ≡ (service_in plan version k).kind
@@ -59,16 +60,39 @@ sent_kept plan version k = part_kept is_sent stays plan version k
     stays : (kind : KindFields) (pid : ℕ) → is_sent (with_pid kind pid) ≡ is_sent kind
     stays (ule old address packing) pid = refl
     stays (mpe old) pid = refl
-    stays (fec old rows parity window) pid = refl
+    stays (fec old rows parity None) pid = refl
+    stays (fec old rows parity (Some window)) pid = refl
     stays (gse isi address) pid = refl
 
-pub unit_kept : (plan : PlanFields) (version k : ℕ) (mac datagram : List ℕ) → unit_of (kind_at (plan_in plan version) k) mac datagram ≡ unit_of (kind_at plan k) mac datagram
-unit_kept plan version k mac datagram = part_kept (λ kind. unit_of kind mac datagram) stays plan version k
+pub single_kept : (plan : PlanFields) (version k : ℕ) → is_single (kind_at (plan_in plan version) k) ≡ is_single (kind_at plan k)
+single_kept plan version k = part_kept is_single stays plan version k
   where
-    stays : (kind : KindFields) (pid : ℕ) → unit_of (with_pid kind pid) mac datagram ≡ unit_of kind mac datagram
+    stays : (kind : KindFields) (pid : ℕ) → is_single (with_pid kind pid) ≡ is_single kind
     stays (ule old address packing) pid = refl
     stays (mpe old) pid = refl
     stays (fec old rows parity window) pid = refl
+    stays (gse isi address) pid = refl
+
+pub units_kept : (plan : PlanFields) (version k : ℕ) (mac : List ℕ) (number : ℕ) (datagrams : List (List ℕ))
+    → units_of_kind (kind_at (plan_in plan version) k) mac number datagrams ≡ units_of_kind (kind_at plan k) mac number datagrams
+units_kept plan version k mac number datagrams = part_kept (λ kind. units_of_kind kind mac number datagrams) stays plan version k
+  where
+    stays : (kind : KindFields) (pid : ℕ) → units_of_kind (with_pid kind pid) mac number datagrams ≡ units_of_kind kind mac number datagrams
+    stays (ule old address packing) pid = refl
+    stays (mpe old) pid = refl
+    stays (fec old rows parity None) pid = refl
+    stays (fec old rows parity (Some window)) pid = refl
+    stays (gse isi address) pid = refl
+
+pub frame_count_kept : (plan : PlanFields) (version k : ℕ) (datagrams : List (List ℕ))
+    → frame_count (kind_at (plan_in plan version) k) datagrams ≡ frame_count (kind_at plan k) datagrams
+frame_count_kept plan version k datagrams = part_kept (λ kind. frame_count kind datagrams) stays plan version k
+  where
+    stays : (kind : KindFields) (pid : ℕ) → frame_count (with_pid kind pid) datagrams ≡ frame_count kind datagrams
+    stays (ule old address packing) pid = refl
+    stays (mpe old) pid = refl
+    stays (fec old rows parity None) pid = refl
+    stays (fec old rows parity (Some window)) pid = refl
     stays (gse isi address) pid = refl
 
 -- nor the address of its receivers

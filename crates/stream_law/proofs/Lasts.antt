@@ -1,5 +1,5 @@
 -- A part without datagrams has no slots, so that one with slots is followed by none after the last with datagrams.
-use Rattle.std.proofs.Common.{◌≡◌, ℕ, zero, suc, ◌+◌, ◌-◌, ◌*◌, ◌/◌, ◌%◌, ◌<◌, ◌≤◌, Bool, true, false, cond, not, ltb, get_or, List, [], length, map, refl, ap, ◌∙◌, arith}
+use Rattle.std.proofs.Common.{◌≡◌, ℕ, zero, suc, ◌+◌, ◌-◌, ◌*◌, ◌/◌, ◌%◌, ◌<◌, ◌≤◌, Bool, true, false, cond, not, ltb, get_or, List, [], length, map, refl, ap, ◌∙◌, arith, Some, None}
 use Rattle.std.specs.Prelude.{slice_index}
 use Rattle.std.specs.List.{list_any, range_with_len}
 use Rattle.std.proofs.lemmas.Bool.{or_left, or_right}
@@ -23,11 +23,12 @@ use Rattle.stream_law.proofs.Wholes.{no_item}
 use Rattle.stream_law.proofs.Sent.{packets_at}
 use Rattle.stream_law.proofs.OnPid.{length-packets_from, count_of}
 
-none_of_kind : (kind : KindFields) (unicast : List ℕ) (counter : ℕ) → packets_of_kind kind unicast counter [] ≡ []
-none_of_kind (ule pid address packing) unicast counter = refl
-none_of_kind (mpe pid) unicast counter = refl
-none_of_kind (fec pid rows parity window) unicast counter = refl
-none_of_kind (gse isi address) unicast counter = refl
+none_of_kind : (kind : KindFields) (unicast : List ℕ) (counter number : ℕ) → packets_of_kind kind unicast counter number [] ≡ []
+none_of_kind (ule pid address packing) unicast counter number = refl
+none_of_kind (mpe pid) unicast counter number = refl
+none_of_kind (fec pid rows parity None) unicast counter number = refl
+none_of_kind (fec pid rows parity (Some window)) unicast counter number = refl
+none_of_kind (gse isi address) unicast counter number = refl
 
 any_at : (p : ℕ → Bool) (start n i x : ℕ) → x ≡ start + i → i < n → p x ≡ true → list_any p (range_with_len start n) ≡ true
 any_at p start zero i x e less is = absurd (omega (arith, less))
@@ -57,14 +58,14 @@ module _ (plan : PlanFields) (some_cycle : 1 ≤ plan.cycle) (datagrams : ℕ �
           arith,
           less,
           length-map (service_packets part) (λ (list : List PacketFields). length list),
-          length-packets_from part.packets_before part.datagrams 0 (plan_in plan version).services,
+          length-packets_from part.packets_before part.frames_before part.datagrams 0 (plan_in plan version).services,
         ) in
         count_of (service_packets part) j
         ∙ ap (λ (l : List PacketFields). length l)
-        (packets_at part.packets_before part.datagrams (plan_in plan version).services 0 j j (omega arith) known
-        ∙ ap (packets_of_kind (kind_at (plan_in plan version) j) (get_or (map (λ (service : ServiceFields). service.unicast) (plan_in plan version).services) j []) (part.packets_before j % 16))
+        (packets_at part.packets_before part.frames_before part.datagrams (plan_in plan version).services 0 j j (omega arith) known
+        ∙ ap (packets_of_kind (kind_at (plan_in plan version) j) (get_or (map (λ (service : ServiceFields). service.unicast) (plan_in plan version).services) j []) (part.packets_before j % 16) (part.frames_before j))
         (no_datagrams j (omega (arith, known, length-services_in plan version)))
-        ∙ none_of_kind (kind_at (plan_in plan version) j) (get_or (map (λ (service : ServiceFields). service.unicast) (plan_in plan version).services) j []) (part.packets_before j % 16))
+        ∙ none_of_kind (kind_at (plan_in plan version) j) (get_or (map (λ (service : ServiceFields). service.unicast) (plan_in plan version).services) j []) (part.packets_before j % 16) (part.frames_before j))
 
     no_least : it.least ≡ 0
     no_least = by_least it.least refl

@@ -10,6 +10,13 @@ pub mod OnPid
 pub mod Plans
 pub mod Lists
 pub mod Kept
+pub mod Frames
+pub mod Framed
+pub mod FramesCarried
+pub mod FrameLaws
+pub mod KindRanges
+pub mod Begun
+pub mod Numbered
 pub mod PidsIn
 pub mod Wholes
 pub mod Datagrams

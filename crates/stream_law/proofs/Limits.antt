@@ -17,6 +17,7 @@ use Rattle.unit_stream.specs.Packing.{filled, may_begin, begin_piece, middle_pie
 use Rattle.unit_stream.proofs.Written.{length-numbered}
 use Rattle.int_spec.specs.Table.{table_bytes, IsRule}
 use Rattle.plan_spec.specs.Plan.{KindFields, ule, mpe, fec, gse, ServiceFields, IntFields, PlanFields, rule_lists}
+use Rattle.plan_spec.specs.Route.{longest_of}
 use Rattle.plan_spec.specs.Signalling.{table_of, packets_of_table, table_packets}
 use Rattle.plan_spec.specs.Valid.{is_plan}
 use Rattle.plan_spec.specs.Changes.{plan_in, records_of_version}
@@ -24,7 +25,7 @@ use Rattle.plan_spec.specs.Wholes.{is_whole_plan}
 use Rattle.plan_spec.specs.Offered.{datagrams as datagrams_of, service_of_datagram, is_offered_to, offered_in}
 use Rattle.stream_spec.specs.Services.{kind_at}
 use Rattle.stream_spec.specs.Slots.{IsSlotCount}
-use Rattle.stream_spec.specs.Units.{mac_for, sndu_of, section_of, packets_of_kind}
+use Rattle.stream_spec.specs.Units.{mac_for, sndu_of, section_of, datagrams_by_frame, units_of_frames, packets_of_kind}
 use Rattle.wire_spec.specs.Datagram.{ether_type_of}
 use Rattle.stream_spec.specs.Parts.{PartFields, service_packets, packet_counts, slot_in}
 use Rattle.stream_spec.specs.Stream.{part_of, is_last, whole_cycles, IsPartCount}
@@ -35,6 +36,8 @@ use Rattle.stream_law.proofs.Ends.{total}
 use Rattle.stream_law.proofs.Ranges.{sum_most}
 use Rattle.stream_law.proofs.Sent.{packets_at}
 use Rattle.stream_law.proofs.Units.{IsTaken, AreTaken}
+use Rattle.stream_law.proofs.Framed.{AreShort, framed_size}
+use Rattle.stream_law.proofs.KindRanges.{HasFrames, kind_has_frames, rows_within}
 use Rattle.stream_law.proofs.Versions.{limits_of_version, taken_in_version}
 use Rattle.stream_law.proofs.Wholes.{few_changes, version_accepted}
 use Rattle.stream_law.proofs.OnPid.{length-packets_from}
@@ -63,7 +66,7 @@ packets_most : (form : UnitForm) (packing : Bool) (pid counter : ℕ) (units : L
 packets_most form packing pid counter units =
     omega (arith, length-numbered pid counter (pieces (byte_count units) form.start packing [] units), pieces_most (byte_count units) form.start packing [] units)
 
--- Units have at most 16 bytes more than their datagrams.
+-- Units by themselves have at most 16 bytes more than their datagrams.
 
 sndu_size : (npa : Option (List ℕ)) (first_type : ℕ) (datagram : List ℕ) → length (address_bytes npa) ≤ 6 → length (sndu_bytes npa first_type datagram) ≤ length datagram + 16
 sndu_size npa first_type datagram le =
@@ -96,17 +99,29 @@ module _ (unicast : List ℕ) (is_mac : IsMac unicast) where
   units_size kind unit each [] taken = omega arith
   units_size kind unit each (datagram ∷ datagrams) taken = omega (arith, each datagram taken.0, units_size kind unit each datagrams taken.1)
 
-  kind_most : (kind : KindFields) (counter : ℕ) (datagrams : List (List ℕ)) → AreTaken kind datagrams → length (packets_of_kind kind unicast counter datagrams) ≤ byte_count datagrams + 16 * length datagrams
-  kind_most (ule pid address packing) counter datagrams taken =
+  short_of : (kind : KindFields) → longest_of kind ≤ 4080 → (datagrams : List (List ℕ)) → AreTaken kind datagrams → AreShort datagrams
+  short_of kind le [] taken = tt
+  short_of kind le (datagram ∷ datagrams) taken = (omega (arith, le, taken.0.size), short_of kind le datagrams taken.1)
+
+  kind_most : (kind : KindFields) → HasFrames kind → (counter number : ℕ) (datagrams : List (List ℕ)) → AreTaken kind datagrams
+      → length (packets_of_kind kind unicast counter number datagrams) ≤ 3 * byte_count datagrams + 16 * length datagrams + 89632
+  kind_most (ule pid address packing) has counter number datagrams taken =
       omega (
         arith,
         packets_most sndu_form packing pid counter (map (sndu_of address unicast) datagrams),
         units_size (ule pid address packing) (sndu_of address unicast) (of_sndu (ule pid address packing) address) datagrams taken,
       )
-  kind_most (mpe pid) counter datagrams taken =
+  kind_most (mpe pid) has counter number datagrams taken =
       omega (arith, packets_most section_form true pid counter (map (section_of unicast) datagrams), units_size (mpe pid) (section_of unicast) (of_section (mpe pid)) datagrams taken)
-  kind_most (fec pid rows parity window) counter datagrams taken = omega arith
-  kind_most (gse isi address) counter datagrams taken = omega arith
+  kind_most (fec pid rows parity None) has counter number datagrams taken =
+      omega (
+        arith,
+        packets_most section_form true pid counter (units_of_frames rows parity unicast number (datagrams_by_frame rows datagrams)),
+        framed_size rows parity unicast (rows_within rows has.0).0 (rows_within rows has.0).1 has.2 number datagrams
+            (short_of (fec pid rows parity None) (omega arith) datagrams taken),
+      )
+  kind_most (fec pid rows parity (Some window)) has counter number datagrams taken = omega arith
+  kind_most (gse isi address) has counter number datagrams taken = omega arith
 
 -- some of the datagrams are not more than all
 filtered_most : (test : List ℕ → Bool) (datagrams : List (List ℕ)) → (byte_count (filter test datagrams) ≤ byte_count datagrams) × (length (filter test datagrams) ≤ length datagrams)
@@ -149,25 +164,25 @@ few_packets plan services rules all = omega (arith, unfolding_table plan, of_tab
 
 -- One part: each service has no more datagrams than a capture.
 module _ (part : PartFields) (accepted : is_plan part.plan ≡ true) (of_bytes : IsOfBytes part.plan) (taken : (k : ℕ) → AreTaken (kind_at part.plan k) (part.datagrams k))
-    (few : (k : ℕ) → byte_count (part.datagrams k) + 16 * length (part.datagrams k) ≤ 335544320) (least : ℕ) (count : IsSlotCount (slot_in part) least) where
+    (few : (k : ℕ) → 3 * byte_count (part.datagrams k) + 16 * length (part.datagrams k) + 89632 ≤ 872504864) (least : ℕ) (count : IsSlotCount (slot_in part) least) where
   -- of each service
-  service_most : (k : ℕ) → k < length (service_packets part) → length (slice_index_or (service_packets part) k []) ≤ 335544320
+  service_most : (k : ℕ) → k < length (service_packets part) → length (slice_index_or (service_packets part) k []) ≤ 872504864
   service_most k less =
-      let known : k < length part.plan.services = omega (arith, less, length-packets_from part.packets_before part.datagrams 0 part.plan.services) in
+      let known : k < length part.plan.services = omega (arith, less, length-packets_from part.packets_before part.frames_before part.datagrams 0 part.plan.services) in
       let is : slice_index_or (service_packets part) k []
-      ≡ packets_of_kind (kind_at part.plan k) (get_or (map (λ (service : ServiceFields). service.unicast) part.plan.services) k []) (part.packets_before k % 16) (part.datagrams k)
-      = packets_at part.packets_before part.datagrams part.plan.services 0 k k (omega arith) known in
-      let most : length (packets_of_kind (kind_at part.plan k) (get_or (map (λ (service : ServiceFields). service.unicast) part.plan.services) k []) (part.packets_before k % 16) (part.datagrams k))
-      ≤ byte_count (part.datagrams k) + 16 * length (part.datagrams k)
+      ≡ packets_of_kind (kind_at part.plan k) (get_or (map (λ (service : ServiceFields). service.unicast) part.plan.services) k []) (part.packets_before k % 16) (part.frames_before k) (part.datagrams k)
+      = packets_at part.packets_before part.frames_before part.datagrams part.plan.services 0 k k (omega arith) known in
+      let most : length (packets_of_kind (kind_at part.plan k) (get_or (map (λ (service : ServiceFields). service.unicast) part.plan.services) k []) (part.packets_before k % 16) (part.frames_before k) (part.datagrams k))
+      ≤ 3 * byte_count (part.datagrams k) + 16 * length (part.datagrams k) + 89632
       = kind_most (get_or (map (λ (service : ServiceFields). service.unicast) part.plan.services) k [])
       (of_bytes.unicast k [] (omega (arith, known, length-map part.plan.services (λ (service : ServiceFields). service.unicast))))
-      (kind_at part.plan k) (part.packets_before k % 16) (part.datagrams k) (taken k) in
+      (kind_at part.plan k) (kind_has_frames part.plan accepted k) (part.packets_before k % 16) (part.frames_before k) (part.datagrams k) (taken k) in
       omega (arith, ap (λ (l : List PacketFields). length l) is, most, few k)
 
-  pub least_below : least ≤ 42950672960
+  pub least_below : least ≤ 111681622592
   least_below =
-      let services : length (service_packets part) ≤ 64 = omega (arith, length-packets_from part.packets_before part.datagrams 0 part.plan.services, few_services part.plan accepted) in
-      let all : total (packet_counts (service_packets part)) ≤ length (service_packets part) * 335544320 = total_most (service_packets part) 335544320 service_most in
+      let services : length (service_packets part) ≤ 64 = omega (arith, length-packets_from part.packets_before part.frames_before part.datagrams 0 part.plan.services, few_services part.plan accepted) in
+      let all : total (packet_counts (service_packets part)) ≤ length (service_packets part) * 872504864 = total_most (service_packets part) 872504864 service_most in
       let table : table_packets part.plan ≤ 21 = few_packets part.plan (few_services part.plan accepted) (few_rules part.plan accepted) of_bytes.rules in
       let long : 100 ≤ part.plan.cycle = at_least 100 1000000 part.plan.cycle (ranges part.plan accepted).cycle in
       let short : part.plan.cycle ≤ 1000000 = at_most 100 1000000 part.plan.cycle (ranges part.plan accepted).cycle in
@@ -183,7 +198,7 @@ module _ (part : PartFields) (accepted : is_plan part.plan ≡ true) (of_bytes :
 -- All parts, at most 32.
 module _ (plan : PlanFields) (whole : is_whole_plan plan ≡ true) (of_bytes : AreOfBytes plan) (gives : List (Option (List ℕ))) (are : All IsByteDatagram (datagrams_of gives))
     (limits : IsWithinLimits (datagrams_of gives)) (slots : ℕ → ℕ) (each : (version : ℕ) → version ≤ length plan.changes → IsPartCount plan (offered_in plan gives) slots version) where
-  few_offered : (version k : ℕ) → byte_count (offered_in plan gives version k) + 16 * length (offered_in plan gives version k) ≤ 335544320
+  few_offered : (version k : ℕ) → 3 * byte_count (offered_in plan gives version k) + 16 * length (offered_in plan gives version k) + 89632 ≤ 872504864
   few_offered version k =
       let some : (byte_count (offered_in plan gives version k) ≤ byte_count (datagrams_of (records_of_version plan version gives)))
       × (length (offered_in plan gives version k) ≤ length (datagrams_of (records_of_version plan version gives)))
@@ -191,7 +206,7 @@ module _ (plan : PlanFields) (whole : is_whole_plan plan ≡ true) (of_bytes : A
       let within : IsWithinLimits (datagrams_of (records_of_version plan version gives)) = limits_of_version plan version gives limits in
       omega (arith, some.0, some.1, within.count, within.size)
 
-  slots_below : (version : ℕ) → version ≤ length plan.changes → slots version ≤ 42951672960
+  slots_below : (version : ℕ) → version ≤ length plan.changes → slots version ≤ 111682622592
   slots_below version within = by_count (each version within)
     where
       accepted : is_plan (plan_in plan version) ≡ true
@@ -200,27 +215,27 @@ module _ (plan : PlanFields) (whole : is_whole_plan plan ≡ true) (of_bytes : A
       short : plan.cycle ≤ 1000000
       short = at_most 100 1000000 plan.cycle (ranges (plan_in plan version) accepted).cycle
 
-      by_count : IsPartCount plan (offered_in plan gives) slots version → slots version ≤ 42951672960
+      by_count : IsPartCount plan (offered_in plan gives) slots version → slots version ≤ 111682622592
       by_count it = by_last (is_last plan (offered_in plan gives) version) it.slots_are
         where
-          below : it.least ≤ 42950672960
+          below : it.least ≤ 111681622592
           below =
               least_below (part_of plan (offered_in plan gives) slots version) accepted (of_bytes version within) (λ k. taken_in_version plan version gives k are) (λ k. few_offered version k) it.least it.count
 
           cycles_below : whole_cycles plan.cycle it.least ≤ it.least + plan.cycle
           cycles_below = omega (arith, div-add-mod' (it.least + plan.cycle - 1) plan.cycle)
 
-          by_last : (last : Bool) → slots version ≡ cond last it.least (whole_cycles plan.cycle it.least) → slots version ≤ 42951672960
+          by_last : (last : Bool) → slots version ≡ cond last it.least (whole_cycles plan.cycle it.least) → slots version ≤ 111682622592
           by_last true e = omega (arith, e, below)
           by_last false e = omega (arith, e, below, cycles_below, short)
 
   pub in_time : HaveMoments plan slots
   in_time version s within less = by_form plan.recording
     where
-      early : records_before slots version + s < 32 * 42951672960
+      early : records_before slots version + s < 32 * 111682622592
       early =
-          let before : records_before slots version ≤ version * 42951672960 = sum_most slots 42951672960 0 version (λ v below. slots_below v (omega (arith, below, within))) in
-          let few : version * 42951672960 ≤ 31 * 42951672960 = mul-le version 42951672960 31 42951672960 (omega (arith, within, few_changes plan whole)) (omega arith) in
+          let before : records_before slots version ≤ version * 111682622592 = sum_most slots 111682622592 0 version (λ v below. slots_below v (omega (arith, below, within))) in
+          let few : version * 111682622592 ≤ 31 * 111682622592 = mul-le version 111682622592 31 111682622592 (omega (arith, within, few_changes plan whole)) (omega arith) in
           omega (arith, before, few, slots_below version within, less)
 
       by_form : (form : RecordingForm) → HasMoment form plan.packet_rate (records_before slots version + s)

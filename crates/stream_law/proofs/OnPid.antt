@@ -31,9 +31,10 @@ pub record IsSendable (plan : PlanFields) : Type 0 where
   pub service_most : (k pid : ℕ) → k < length (kinds plan) → pid_of (kind_at plan k) ≡ Some pid → pid ≤ 8190
   pub leaves : table_packets plan < plan.cycle
 
-pub length-packets_from : (before : ℕ → ℕ) (datagrams : ℕ → List (List ℕ)) (i : ℕ) (services : List ServiceFields) → length (packets_from i services before datagrams) ≡ length services
-length-packets_from before datagrams i [] = refl
-length-packets_from before datagrams i (service ∷ services) = ap suc (length-packets_from before datagrams (i + 1) services)
+pub length-packets_from : (before frames : ℕ → ℕ) (datagrams : ℕ → List (List ℕ)) (i : ℕ) (services : List ServiceFields)
+    → length (packets_from i services before frames datagrams) ≡ length services
+length-packets_from before frames datagrams i [] = refl
+length-packets_from before frames datagrams i (service ∷ services) = ap suc (length-packets_from before frames datagrams (i + 1) services)
 
 -- how many packets a service has
 pub count_of : (lists : List (List PacketFields)) (j : ℕ) → slice_index (packet_counts lists) j ≡ length (slice_index_or lists j [])
@@ -93,7 +94,7 @@ module _ (readable : (pid : ℕ) (starts : Bool) (counter : ℕ) (payload : List
             read_table readable fields null_fields pid part part.plan.table (s / part.plan.cycle) n (λ other is. (omega (arith, sendable.table_most other is), no_table other is))
         by_slot (of_service j n) within =
             let on : (other : ℕ) × (pid_of (kind_at part.plan j) ≡ Some other) × IsOn other (packet_at (slice_index_or services j []) n) × (j < length part.plan.services)
-            = place_on part.packets_before part.datagrams part.plan.services 0 j n (within j n refl) in
+            = place_on part.packets_before part.frames_before part.datagrams part.plan.services 0 j n (within j n refl) in
             let below : on.0 ≤ 8190 = sendable.service_most j on.0 (within_kinds j on.3) on.1 in
             read_other readable fields null_fields pid on.0 (packet_at (slice_index_or services j []) n) (omega (arith, below)) (no_service j on.0 on.3 on.1) on.2
         by_slot empty within = read_null readable fields null_fields pid most
@@ -118,7 +119,7 @@ module _ (readable : (pid : ℕ) (starts : Bool) (counter : ℕ) (payload : List
         of_own : (j n : ℕ) → j ≡ k → n < length (slice_index_or services j []) → read_of pid (packet_in part (s / part.plan.cycle) (of_service j n) ∷ []) ≡ packet_at packets n ∷ []
         of_own j n same less =
             let on : (other : ℕ) × (pid_of (kind_at part.plan j) ≡ Some other) × IsOn other (packet_at (slice_index_or services j []) n) × (j < length part.plan.services)
-            = place_on part.packets_before part.datagrams part.plan.services 0 j n less in
+            = place_on part.packets_before part.frames_before part.datagrams part.plan.services 0 j n less in
             let known_pid : Some on.0 ≡ Some pid = sym on.1 ∙ ap (λ (i : ℕ). pid_of (kind_at part.plan i)) same ∙ pid_is in
             let its_pid : on.0 ≡ pid = ap (λ (o : Option ℕ). unwrap_or o 0) known_pid in
             read_own readable fields null_fields pid (packet_at (slice_index_or services j []) n) (omega (arith, most)) (subst (λ (p : ℕ). IsOn p (packet_at (slice_index_or services j []) n)) its_pid on.2)
@@ -127,7 +128,7 @@ module _ (readable : (pid : ℕ) (starts : Bool) (counter : ℕ) (payload : List
         of_other : (j n : ℕ) → eqb j k ≡ false → n < length (slice_index_or services j []) → read_of pid (packet_in part (s / part.plan.cycle) (of_service j n) ∷ []) ≡ []
         of_other j n apart less =
             let on : (other : ℕ) × (pid_of (kind_at part.plan j) ≡ Some other) × IsOn other (packet_at (slice_index_or services j []) n) × (j < length part.plan.services)
-            = place_on part.packets_before part.datagrams part.plan.services 0 j n less in
+            = place_on part.packets_before part.frames_before part.datagrams part.plan.services 0 j n less in
             let differs : eqb on.0 pid ≡ false
             = services_differ (mpe 0) (kinds part.plan) (behind_table part.plan.table (service_pids part.plan) sendable.differ) j k on.0 pid apart
             (within_kinds j on.3) (within_kinds k known) on.1 pid_is in
@@ -166,7 +167,7 @@ module _ (readable : (pid : ℕ) (starts : Bool) (counter : ℕ) (payload : List
       where
         counts_size : k < length (packet_counts services)
         counts_size =
-            omega (arith, length-map services (λ (list : List PacketFields). length list), length-packets_from part.packets_before part.datagrams 0 part.plan.services, known)
+            omega (arith, length-map services (λ (list : List PacketFields). length list), length-packets_from part.packets_before part.frames_before part.datagrams 0 part.plan.services, known)
 
         out_first : numbers (range_with_len 0 least) ≡ range_with_len 0 (length packets)
         out_first =

@@ -72,7 +72,7 @@ module _ (part : PartFields) where
           → ((n : ℕ) → it ≡ of_table n → n < table_packets part.plan) → length (packet_in part (s / part.plan.cycle) it) ≡ 188
       by_slot (of_table n) within early = table_size part.plan.table refl (s / part.plan.cycle) n (early n refl)
       by_slot (of_service j n) within early =
-          length-written (packet_at (slice_index_or services j []) n) (place_on part.packets_before part.datagrams part.plan.services 0 j n (omega (arith, (within j n refl).1, count_of services j))).2.size
+          length-written (packet_at (slice_index_or services j []) n) (place_on part.packets_before part.frames_before part.datagrams part.plan.services 0 j n (omega (arith, (within j n refl).1, count_of services j))).2.size
       by_slot empty within early = refl
 
   length-record : (s : ℕ) → length (record_of_slot part s) ≡ record_size part.plan.recording

@@ -6,6 +6,7 @@ use Rattle.std.proofs.lemmas.List.{append-nil}
 use Rattle.plan_spec.specs.Plan.{ChangeFields, PlanFields}
 use Rattle.plan_spec.specs.Changes.{plan_in, versions}
 use Rattle.plan_spec.specs.Signalling.{table_packets}
+use Rattle.plan_spec.specs.Built.{are_sent}
 use Rattle.plan_spec.specs.Wholes.{is_whole_plan}
 use Rattle.plan_law.proofs.Alone.{versions_alone, plan_alone}
 use Rattle.stream_spec.specs.Slots.{kept_for_table, IsSlotCount}
@@ -43,18 +44,20 @@ module _ (plan : PlanFields) (datagrams : ℕ → ℕ → List (List ℕ)) where
         by_place (inl less) = as_found (of_version (omega (arith, less)))
         by_place (inr more) = (0, λ within. absurd (omega (arith, within, more)))
 
-    slots : ℕ → ℕ
+    -- how many slots the parts have
+    pub slots : ℕ → ℕ
     slots version = cond (is_last plan datagrams version) (found version).0 (whole_cycles plan.cycle (found version).0)
 
-    counted : (version : ℕ) → version ≤ length plan.changes → IsPartCount plan datagrams slots version
+    pub counted : (version : ℕ) → version ≤ length plan.changes → IsPartCount plan datagrams slots version
     unfolding slots
     counted version within = record { least = (found version).0; count = (found version).1 within; slots_are = refl }
 
-    pub there_is : (records : List (List ℕ)) × IsStream plan datagrams records
-    there_is = (
-      flat_map (λ version. records_of_slots (part_of plan datagrams slots version) (slots version)) (versions plan),
-      record { slots = slots; each = counted; records_are = refl },
-    )
+    pub is_stream : are_sent plan ≡ true
+        → IsStream plan datagrams (flat_map (λ version. records_of_slots (part_of plan datagrams slots version) (slots version)) (versions plan))
+    is_stream defined = record { defined = defined; slots = slots; each = counted; records_are = refl }
+
+    pub there_is : are_sent plan ≡ true → (records : List (List ℕ)) × IsStream plan datagrams records
+    there_is defined = (flat_map (λ version. records_of_slots (part_of plan datagrams slots version) (slots version)) (versions plan), is_stream defined)
 
   -- And one alone.
   module _ (a b : List (List ℕ)) (one : IsStream plan datagrams a) (other : IsStream plan datagrams b) where

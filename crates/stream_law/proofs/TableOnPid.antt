@@ -78,7 +78,7 @@ module _ (readable : (pid : ℕ) (starts : Bool) (counter : ℕ) (payload : List
   of_service_read : (s j n : ℕ) → n < length (slice_index_or services j []) → read_of int.pid (packet_in part (s / part.plan.cycle) (of_service j n) ∷ []) ≡ []
   of_service_read s j n less =
       let on : (other : ℕ) × (pid_of (kind_at part.plan j) ≡ Some other) × IsOn other (packet_at (slice_index_or services j []) n) × (j < length part.plan.services)
-      = place_on part.packets_before part.datagrams part.plan.services 0 j n less in
+      = place_on part.packets_before part.frames_before part.datagrams part.plan.services 0 j n less in
       let within : j < length (kinds part.plan) = omega (arith, on.3, length-map part.plan.services (λ (service : ServiceFields). service.kind)) in
       let differs : eqb int.pid on.0 ≡ false
       = none_meets (same_pid int.pid) (mpe 0) (kinds part.plan) (table_meets_none part.plan.table (service_pids part.plan) sendable.differ int.pid (ap table_pids table_is)) j on.0 within on.1 in

@@ -8,20 +8,22 @@ use Rattle.ts_spec.specs.Packetized.{unit_at, Packetizes}
 use Rattle.ts_spec.specs.Sndu.{sndu_form, is_sndu, sndu_bytes, sndu_fields, SnduFields}
 use Rattle.ts_spec.specs.Chain.{chain_end, datagram_at}
 use Rattle.section_spec.specs.Section.{section_form, section_fields}
-use Rattle.section_spec.specs.Mpe.{MpeFields, IsWritableMpe, mpe_to_write, mpe_bytes, mpe_of}
+use Rattle.section_spec.specs.Mpe.{MpeFields, IsRows, IsWritableMpe, mpe_to_write, mpe_bytes, mpe_of}
 use Rattle.unit_stream.specs.Packing.{packetized}
 use Rattle.carriage_spec.specs.Delivered.{carried_by_sndu}
 use Rattle.ule_unit.specs.Writable.{IsAddress, IsWritable}
 use Rattle.plan_spec.specs.Plan.{KindFields, ule, mpe, fec, gse, PlanFields}
 use Rattle.plan_spec.specs.Route.{longest_of}
-use Rattle.stream_spec.specs.Units.{mac_for, sndu_of, section_of, unit_of, packets_of_kind}
+use Rattle.stream_spec.specs.Units.{mac_for, sndu_of, section_of, datagrams_by_frame, units_of_frames, units_of_kind, packets_of_kind}
 use Rattle.stream_spec.specs.Services.{carried_by_section, carried_by_unit, form_of_kind}
 use Rattle.plan_spec.specs.Offered.{datagrams as datagrams_of, service_of_datagram, is_offered_to, offered}
 use Rattle.stream_spec.specs.Services.{kind_at}
 use Rattle.plan_spec.specs.Bytes.{IsMac}
-use Rattle.stream_law.specs.Words.{IsByteDatagram}
+use Rattle.stream_law.specs.Words.{is_single, IsByteDatagram}
 use Rattle.plan_spec.specs.Built.{is_sent}
 use Rattle.stream_law.proofs.Datagrams.{type_below, chain_gives, mac_for_is}
+use Rattle.stream_law.proofs.Frames.{AreFramed, AreFrames, are_frames}
+use Rattle.stream_law.proofs.KindRanges.{HasFrames}
 
 -- a datagram that a service of this kind takes
 pub record IsTaken (kind : KindFields) (datagram : List ℕ) : Type 0 where
@@ -33,7 +35,13 @@ abbrev pub AreTaken : KindFields → List (List ℕ) → Type 0
 AreTaken kind [] = Unit {0}
 AreTaken kind (datagram ∷ datagrams) = IsTaken kind datagram × AreTaken kind datagrams
 
--- with the laws of packetization, of SNDUs and of datagram_sections
+-- a service whose datagrams fit a section takes such as stand in frames
+pub taken_framed : (kind : KindFields) → longest_of kind ≤ 4080 → (datagrams : List (List ℕ)) → AreTaken kind datagrams → AreFramed datagrams
+taken_framed kind le [] taken = tt
+taken_framed kind le (datagram ∷ datagrams) taken =
+    (record { is = taken.0.is; bytes = taken.0.bytes; size = omega (arith, le, taken.0.size) }, taken_framed kind le datagrams taken.1)
+
+-- with the laws of packetization, of SNDUs, of datagram_sections and of frames
 module _ (packetizes : (form : UnitForm) (packing : Bool) (pid counter : ℕ) (units : List (List ℕ)) → IsLawful form → ((n : ℕ) → n < length units → IsUnit form (unit_at units n))
     → (begin : ℕ → ℕ) × Packetizes form units (packetized form packing pid counter units) begin)
     (sndu_lawful : IsLawful sndu_form)
@@ -91,25 +99,40 @@ module _ (packetizes : (form : UnitForm) (packing : Bool) (pid counter : ℕ) (u
       ap (λ (t : List (List ℕ)). datagram ∷ t) (are_carried kind unit each datagrams taken.1)
       ∙ ap (λ (t : List (List ℕ)). t ++ flat_map (carried_by_unit kind) (map unit datagrams)) (sym (each datagram taken.0))
 
-  -- a service of a kind that is sent: its units in its packets, and its datagrams in its units
-  pub units_packetized : (kind : KindFields) (counter : ℕ) (datagrams : List (List ℕ)) → is_sent kind ≡ true → AreTaken kind datagrams
-      → (begin : ℕ → ℕ) × Packetizes (form_of_kind kind) (map (unit_of kind unicast) datagrams) (packets_of_kind kind unicast counter datagrams) begin
-  units_packetized (ule own address packing) counter datagrams built taken =
-      packetizes sndu_form packing own counter (map (sndu_of address unicast) datagrams) sndu_lawful
-      (are_units sndu_form (ule own address packing) (sndu_of address unicast) (λ datagram of_it. sndu_unit address datagram of_it.is of_it.bytes of_it.size) datagrams taken)
-  units_packetized (mpe own) counter datagrams built taken =
-      packetizes section_form true own counter (map (section_of unicast) datagrams) section_lawful
-      (are_units section_form (mpe own) (section_of unicast) (λ datagram of_it. mpe_unit (mpe_to_write (mac_for unicast datagram) None datagram) (can_write datagram of_it.is of_it.bytes of_it.size)) datagrams taken)
-  units_packetized (fec own rows parity window) counter datagrams built taken = absurd (cc)
-  units_packetized (gse isi address) counter datagrams built taken = absurd (cc)
-
-  pub units_carry : (kind : KindFields) (datagrams : List (List ℕ)) → is_sent kind ≡ true → AreTaken kind datagrams
-      → datagrams ≡ flat_map (carried_by_unit kind) (map (unit_of kind unicast) datagrams)
-  units_carry (ule own address packing) datagrams built taken =
+  -- a service of which each datagram has its own unit: its datagrams in its units
+  pub units_carry : (kind : KindFields) (number : ℕ) (datagrams : List (List ℕ)) → is_single kind ≡ true → AreTaken kind datagrams
+      → datagrams ≡ flat_map (carried_by_unit kind) (units_of_kind kind unicast number datagrams)
+  units_carry (ule own address packing) number datagrams single taken =
       are_carried (ule own address packing) (sndu_of address unicast) (λ datagram of_it. sndu_carries address datagram of_it.is of_it.bytes of_it.size) datagrams taken
-  units_carry (mpe own) datagrams built taken = are_carried (mpe own) (section_of unicast) (λ datagram of_it. section_carries datagram of_it.is of_it.bytes of_it.size) datagrams taken
-  units_carry (fec own rows parity window) datagrams built taken = absurd (cc)
-  units_carry (gse isi address) datagrams built taken = absurd (cc)
+  units_carry (mpe own) number datagrams single taken =
+      are_carried (mpe own) (section_of unicast) (λ datagram of_it. section_carries datagram of_it.is of_it.bytes of_it.size) datagrams taken
+  units_carry (fec own rows parity window) number datagrams single taken = absurd (cc)
+  units_carry (gse isi address) number datagrams single taken = absurd (cc)
+
+  -- with the law of frames
+  module _ (frames_units : (rows columns first : ℕ) (frames : List (List (List ℕ))) → IsRows rows → 1 ≤ columns → columns ≤ 64 → AreFrames rows frames
+      → All (IsUnit section_form) (units_of_frames rows columns unicast first frames)) where
+    -- the units of frames
+    framed_units : (rows columns first : ℕ) (datagrams : List (List ℕ)) → IsRows rows → 1 ≤ columns → columns ≤ 64 → AreFramed datagrams
+        → (n : ℕ) → n < length (units_of_frames rows columns unicast first (datagrams_by_frame rows datagrams))
+        → IsUnit section_form (unit_at (units_of_frames rows columns unicast first (datagrams_by_frame rows datagrams)) n)
+    framed_units rows columns first datagrams is_rows least most framed n less =
+        frames_units rows columns first (datagrams_by_frame rows datagrams) is_rows least most (are_frames rows is_rows datagrams framed) n [] less
+
+    -- a service of a kind that is sent: its units in its packets
+    pub units_packetized : (kind : KindFields) → HasFrames kind → (counter number : ℕ) (datagrams : List (List ℕ)) → is_sent kind ≡ true → AreTaken kind datagrams
+        → (begin : ℕ → ℕ) × Packetizes (form_of_kind kind) (units_of_kind kind unicast number datagrams) (packets_of_kind kind unicast counter number datagrams) begin
+    units_packetized (ule own address packing) has counter number datagrams built taken =
+        packetizes sndu_form packing own counter (map (sndu_of address unicast) datagrams) sndu_lawful
+        (are_units sndu_form (ule own address packing) (sndu_of address unicast) (λ datagram of_it. sndu_unit address datagram of_it.is of_it.bytes of_it.size) datagrams taken)
+    units_packetized (mpe own) has counter number datagrams built taken =
+        packetizes section_form true own counter (map (section_of unicast) datagrams) section_lawful
+        (are_units section_form (mpe own) (section_of unicast) (λ datagram of_it. mpe_unit (mpe_to_write (mac_for unicast datagram) None datagram) (can_write datagram of_it.is of_it.bytes of_it.size)) datagrams taken)
+    units_packetized (fec own rows parity None) has counter number datagrams built taken =
+        packetizes section_form true own counter (units_of_frames rows parity unicast number (datagrams_by_frame rows datagrams)) section_lawful
+        (framed_units rows parity number datagrams has.0 has.1 has.2 (taken_framed (fec own rows parity None) (omega arith) datagrams taken))
+    units_packetized (fec own rows parity (Some window)) has counter number datagrams built taken = absurd (cc)
+    units_packetized (gse isi address) has counter number datagrams built taken = absurd (cc)
 
 -- What is offered to a service is what it takes.
 taken_of : (kind : KindFields) (test : List ℕ → Bool) → ((datagram : List ℕ) → test datagram ≡ true → length datagram ≤ longest_of kind)

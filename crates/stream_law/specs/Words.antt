@@ -1,12 +1,12 @@
 -- Words of the laws of a sender's stream.
-use Rattle.std.specs.Prelude.{◌≡◌, ◌≢◌, length, flat_map, replicate, sum_by, slice_index_or, ℕ, ◌+◌, ◌-◌, ◌*◌, ◌/◌, ◌^◌, ◌<◌, ◌≤◌, List, [], ◌==◌, if◌then◌else◌, Option, Some, None}
+use Rattle.std.specs.Prelude.{◌≡◌, ◌≢◌, length, flat_map, replicate, sum_by, slice_index_or, ℕ, ◌+◌, ◌-◌, ◌*◌, ◌/◌, ◌^◌, ◌<◌, ◌≤◌, Bool, true, false, List, [], ◌==◌, if◌then◌else◌, Option, Some, None}
 use Rattle.std.specs.List.{range_with_len}
 use Rattle.wire_spec.specs.Bytes.{AreBytes}
 use Rattle.wire_spec.specs.Datagram.{IsDatagram}
 use Rattle.int_spec.specs.Table.{table_bytes}
 use Rattle.unit_stream.specs.Packing.{byte_count}
 use Rattle.ts_spec.specs.Packet.{PacketFields}
-use Rattle.plan_spec.specs.Plan.{IntFields, PlanFields}
+use Rattle.plan_spec.specs.Plan.{KindFields, ule, mpe, fec, gse, IntFields, PlanFields}
 use Rattle.plan_spec.specs.Signalling.{table_of}
 use Rattle.plan_spec.specs.Changes.{plan_in, pid_in, has_pid}
 use Rattle.ts_spec.specs.Recording.{RecordingForm, plain, stamped, m2ts}
@@ -32,7 +32,7 @@ HasMoment m2ts rate s = Unit {0}
 
 -- the one part of a stream of a plan that nothing changes
 abbrev pub only_part : PlanFields → (ℕ → List (List ℕ)) → PartFields
-only_part plan datagrams = record { plan = plan; slots_before = 0; table_before = 0; packets_before = λ k. 0; datagrams = datagrams }
+only_part plan datagrams = record { plan = plan; slots_before = 0; table_before = 0; packets_before = λ k. 0; frames_before = λ k. 0; datagrams = datagrams }
 
 -- What the laws of a stream say of its parts, where these have so many slots, one number for each version.
 
@@ -62,6 +62,13 @@ packets_of_int plan datagrams slots int version =
 -- the section of the INT of a version, once in each cycle that the part begins
 abbrev pub sections_of_int : PlanFields → (ℕ → ℕ) → IntFields → ℕ → List (List ℕ)
 sections_of_int plan slots int version = replicate (begun_cycles plan.cycle (slots version)) (table_bytes (table_of (plan_in plan version) int))
+
+-- datagrams of this kind are carried each by a unit of its own
+abbrev pub is_single : KindFields → Bool
+is_single (ule pid address packing) = true
+is_single (mpe pid) = true
+is_single (fec pid rows parity window) = false
+is_single (gse isi address) = false
 
 -- What the law that datagrams are carried says of its premises.
 

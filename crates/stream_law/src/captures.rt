@@ -1,18 +1,16 @@
 //! Captures: what they give is carried.
 ghost use Rattle.std.specs.Prelude.{◌≡◌, ℕ, List, Option, true, All};
-ghost use Rattle.std.specs.List.{list_all};
 ghost use Rattle.wire_spec.specs.Bytes.{AreBytes};
 ghost use Rattle.ts_spec.specs.Recording.{records_of};
 ghost use Rattle.pcap_file.specs.Told.{Tells};
 ghost use Rattle.pcap_file.specs.declared.faults.CaptureFault.{CaptureFault};
-ghost use Rattle.plan_spec.specs.Plan.{PlanFields, kinds};
+ghost use Rattle.plan_spec.specs.Plan.{PlanFields};
 ghost use Rattle.plan_spec.specs.Wholes.{is_whole_plan};
 ghost use Rattle.plan_spec.specs.Offered.{datagrams as datagrams_of, offered_in};
 ghost use Rattle.stream_spec.specs.Stream.{IsStream};
 ghost use Rattle.stream_spec.specs.Services.{datagrams_on, Carries};
 ghost use Rattle.plan_spec.specs.Bytes.{AreOfBytes};
 ghost use Rattle.stream_law.specs.Words.{IsByteDatagram, IsWithinLimits};
-ghost use Rattle.plan_spec.specs.Built.{is_sent};
 ghost use Rattle.stream_law.specs.Captures.{given_by};
 
 use crate::carried::a_stream_carries_what_was_offered;
@@ -28,10 +26,10 @@ pub fn a_capture_gives_datagrams()
     a_front_is_one_datagram();
 }
 
-/// For all settings that are accepted, of services of SNDUs and datagram_sections, and all captures:
+/// For all settings that are accepted, without time slicing and GSE packets, and all captures:
 /// the stream carries what was offered, by service and PID.
 pub fn a_capture_is_carried()
-    ensures carries { (plan : PlanFields) → is_whole_plan plan ≡ true → AreOfBytes plan → list_all is_sent (kinds plan) ≡ true
+    ensures carries { (plan : PlanFields) → is_whole_plan plan ≡ true → AreOfBytes plan
         → (capture : List ℕ) (told : List (List ℕ)) (fault : Option CaptureFault) → AreBytes capture → Tells capture told fault
         → (records : List (List ℕ)) → IsStream plan (offered_in plan (given_by capture told)) records
         → Carries plan (records_of plan.recording records) (datagrams_on plan (offered_in plan (given_by capture told))) }

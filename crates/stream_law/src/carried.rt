@@ -1,8 +1,7 @@
 //! Datagrams: the stream carries what was offered.
 ghost use Rattle.std.specs.Prelude.{◌≡◌, ℕ, ◌<◌, List, length, flat_map, Option, Some, true, All};
-ghost use Rattle.std.specs.List.{list_all};
 ghost use Rattle.ts_spec.specs.Recording.{records_of};
-ghost use Rattle.plan_spec.specs.Plan.{PlanFields, pid_of, kinds};
+ghost use Rattle.plan_spec.specs.Plan.{PlanFields, pid_of};
 ghost use Rattle.plan_spec.specs.Changes.{pids_in, versions};
 ghost use Rattle.plan_spec.specs.Wholes.{is_whole_plan};
 ghost use Rattle.plan_spec.specs.Offered.{datagrams as datagrams_of, offered_in};
@@ -10,19 +9,19 @@ ghost use Rattle.stream_spec.specs.Stream.{IsStream};
 ghost use Rattle.stream_spec.specs.Services.{kind_at, datagrams_on, Carries};
 ghost use Rattle.plan_spec.specs.Bytes.{AreOfBytes};
 ghost use Rattle.stream_law.specs.Words.{IsByteDatagram, IsWithinLimits};
-ghost use Rattle.plan_spec.specs.Built.{is_sent};
 
 use crate::stream::{records_have_moments, the_packets_of_a_service_are_on_its_pid};
 use mpe_section::{a_written_datagram_section_reads_back, an_address_or_parameters_can_be_written};
 use section_codec::sections_are_lawful;
+use sent_frame_law::frames_carry_their_datagrams;
 use ule_unit::{a_written_sndu_reads_back, sndus_are_lawful, sndus_are_units};
 use unit_stream::packetized_units_are_carried;
 
-/// The stream of a plan whose services are of SNDUs and datagram_sections carries what was offered, by service and PID.
+/// The stream of a plan carries what was offered, by service and PID: in SNDUs, in datagram_sections, or in MPE-FEC frames.
 ///
-/// For all settings that are accepted, all that a capture can give, and each form of recording.
+/// For all settings that are accepted, without time slicing and GSE packets, all that a capture can give, and each form of recording.
 pub fn a_stream_carries_what_was_offered()
-    ensures carries { (plan : PlanFields) → is_whole_plan plan ≡ true → AreOfBytes plan → list_all is_sent (kinds plan) ≡ true
+    ensures carries { (plan : PlanFields) → is_whole_plan plan ≡ true → AreOfBytes plan
         → (gives : List (Option (List ℕ))) → All IsByteDatagram (datagrams_of gives) → IsWithinLimits (datagrams_of gives)
         → (records : List (List ℕ)) → IsStream plan (offered_in plan gives) records
         → Carries plan (records_of plan.recording records) (datagrams_on plan (offered_in plan gives)) }
@@ -36,6 +35,7 @@ pub fn a_stream_carries_what_was_offered()
     sections_are_lawful();
     a_written_datagram_section_reads_back();
     an_address_or_parameters_can_be_written();
+    frames_carry_their_datagrams();
 }
 
 /// The datagrams on the PIDs of a service, one PID after another, are those of all versions.

@@ -5,6 +5,7 @@ ghost use Rattle.ts_spec.specs.Recording.{record_size, records_of};
 ghost use Rattle.carriage_spec.specs.Carried.{packets_sent};
 ghost use Rattle.plan_spec.specs.Plan.{PlanFields};
 ghost use Rattle.plan_spec.specs.Changes.{versions};
+ghost use Rattle.plan_spec.specs.Built.{are_sent};
 ghost use Rattle.plan_spec.specs.Wholes.{is_whole_plan};
 ghost use Rattle.plan_spec.specs.Offered.{datagrams as datagrams_of, offered_in};
 ghost use Rattle.stream_spec.specs.Slots.{IsSlotCount};
@@ -16,9 +17,9 @@ ghost use Rattle.stream_law.specs.Words.{HaveMoments, packets_on, only_part, IsB
 
 use ts_packet::{null_packet_is_read, written_packets_are_read};
 
-/// There is a stream, and one alone.
+/// Of services of kinds that are sent there is a stream, and one alone.
 pub fn there_is_one_stream()
-    ensures is { (plan : PlanFields) (datagrams : ℕ → ℕ → List (List ℕ)) → is_whole_plan plan ≡ true
+    ensures is { (plan : PlanFields) (datagrams : ℕ → ℕ → List (List ℕ)) → is_whole_plan plan ≡ true → are_sent plan ≡ true
         → (records : List (List ℕ)) × IsStream plan datagrams records }
     ensures one { (plan : PlanFields) (datagrams : ℕ → ℕ → List (List ℕ)) (a b : List (List ℕ))
         → IsStream plan datagrams a → IsStream plan datagrams b → a ≡ b }

@@ -8,7 +8,7 @@ use Rattle.rs_encode.specs.Encoding.{Stands, rows_of}
 use Rattle.frame_units.specs.Parts.{padded, part_of}
 use Rattle.frame_units.proofs.Filling.{columns_more, left_more}
 use Rattle.frame_units.proofs.Padded.{padded_zero, table_is_padded}
-use Rattle.frame_units.proofs.Tables.{codewords_tell}
+use Rattle.sent_frame_law.proofs.Tables.{codewords_tell}
 use Rattle.frame_units.proofs.columns.encode_frame.Goals as goal
 
 pub loop-number-init : goal.loop-number-init

@@ -1,5 +1,5 @@
 use Rattle.std.proofs.Common.{ℕ, List, length, ap, arith}
-use Rattle.frame_units.specs.Units.{IsSendable}
+use Rattle.sent_frame_law.specs.Frames.{IsSendable}
 use Rattle.frame_units.proofs.Parts.{bytes_so_far, got, sendable_at}
 use Rattle.frame_units.proofs.frames.data_size.Goals as goal
 

@@ -1,8 +1,8 @@
 use Rattle.std.proofs.Common.{ℕ, ◌+◌, ◌*◌, ◌≤◌, List, length, ap, arith}
 use Rattle.wire_spec.specs.Lists.{joined}
 use Rattle.frame_units.specs.Parts.{part_of}
-use Rattle.frame_units.specs.Units.{IsSendable}
-use Rattle.frame_units.proofs.Fitting.{going_first, going_on, going_over}
+use Rattle.sent_frame_law.specs.Frames.{IsSendable}
+use Rattle.frame_units.proofs.Going.{going_first, going_on, going_over}
 use Rattle.frame_units.proofs.Parts.{got, part_bytes_more, part_none, rows_within, sendable_at}
 use Rattle.frame_units.proofs.frames.frame_end.Goals as goal
 

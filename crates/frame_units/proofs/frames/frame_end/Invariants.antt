@@ -2,7 +2,7 @@
 use Rattle.std.proofs.Common.{◌≡◌, ◌*◌, ◌≤◌, length}
 use Rattle.wire_spec.specs.Lists.{joined}
 use Rattle.frame_units.specs.Parts.{part_of}
-use Rattle.frame_units.proofs.Fitting.{IsGoing}
+use Rattle.frame_units.proofs.Going.{IsGoing}
 use Rattle.frame_units.proofs.frames.frame_end.Given as goal
 
 abbrev pub invariant-loop-end : goal.invariant-loop-end

@@ -2,7 +2,7 @@ use Rattle.std.proofs.Common.{ℕ, ◌+◌, ◌*◌, List, ◌++◌, length, dro
 use Rattle.std.specs.List.{length_refill}
 use Rattle.std.proofs.lemmas.List.{length-replicate}
 use Rattle.frame_units.specs.Parts.{part_of}
-use Rattle.frame_units.specs.Units.{frames_of, indexed_units}
+use Rattle.stream_spec.specs.Units.{datagrams_by_frame, units_of_frames}
 use Rattle.frame_units.proofs.Written.{frame_more}
 use Rattle.frame_units.proofs.frames.make_units.Goals as goal
 
@@ -10,9 +10,9 @@ pub loop-from-init : goal.loop-from-init
 loop-from-init c = record {
   within = omega arith;
   made = (
-    0,
+    c.args.first,
     omega arith,
-    ap (λ (us : List (List ℕ)). us ++ indexed_units c.args.rows c.args.columns c.args.unicast c.args.first c.args.list.now) c.in_ok-units.ensures.empty,
+    ap (λ (us : List (List ℕ)). us ++ units_of_frames c.args.rows c.args.columns c.args.unicast c.args.first (datagrams_by_frame c.args.rows c.args.list.now)) c.in_ok-units.ensures.empty,
   );
   below = omega arith;
   column = ap (λ (l : List ℕ). length l) c.in_ok-column.ensures.zeros ∙ length-replicate {A = ℕ} c.from.result 0 ∙ c.from.ensures;
@@ -28,9 +28,9 @@ loop-from-preserved c =
       made = (
         made.0 + 1,
         omega (arith, made.1),
-        frame_more c.args.rows c.args.columns c.args.unicast c.args.first made.0 c.loop-from.index (part_of c.loop-from.from c.frame_end-end.result c.args.list.now)
-            (frames_of c.args.rows (drop c.frame_end-end.result c.args.list.now)) c.loop-from.units c.put_frame.new.units
-            (indexed_units c.args.rows c.args.columns c.args.unicast c.args.first c.args.list.now) (frames_of c.args.rows (drop c.loop-from.from c.args.list.now))
+        frame_more c.args.rows c.args.columns c.args.unicast made.0 c.loop-from.index (part_of c.loop-from.from c.frame_end-end.result c.args.list.now)
+            (datagrams_by_frame c.args.rows (drop c.frame_end-end.result c.args.list.now)) c.loop-from.units c.put_frame.new.units
+            (units_of_frames c.args.rows c.args.columns c.args.unicast c.args.first (datagrams_by_frame c.args.rows c.args.list.now)) (datagrams_by_frame c.args.rows (drop c.loop-from.from c.args.list.now))
             made.1 c.frame_end-end.ensures.frame made.2 c.in_ok-put_frame.ensures.written,
       );
       below = omega arith;

@@ -4,8 +4,8 @@ use Rattle.frame_spec.specs.Frame.{data_table}
 use Rattle.frame_spec.specs.Sender.{padding_of}
 use Rattle.frame_units.specs.Parts.{part_of}
 use Rattle.frame_units.proofs.Parts.{length-part, part_some, rows_within}
-use Rattle.frame_units.proofs.Sent.{padding_most}
-use Rattle.frame_units.proofs.Tables.{length-parity_table}
+use Rattle.sent_frame_law.proofs.Sent.{padding_most}
+use Rattle.sent_frame_law.proofs.Tables.{length-parity_table}
 use Rattle.frame_units.proofs.Written.{frame_written}
 use Rattle.frame_units.proofs.frames.put_frame.Goals as goal
 
@@ -34,6 +34,6 @@ returns c =
           c.encode_frame-parity.result.now c.args.units.now c.put_data.new.units c.from-rows.ensures
           (length-part c.args.from c.args.end c.args.list.now (omega (arith, c.requires.from)) c.requires.end)
           (c.padding_of-padding.ensures ∙ ap (λ (n : ℕ). padding_of c.args.shape.rows n) c.data_bytes-used.ensures.sum)
-          c.encode_frame-parity.ensures.written c.in_ok-put_data.ensures.written)
+          c.encode_frame-parity.ensures.written c.in_ok-put_data.ensures.written c.requires.delta)
           c.put_columns.ensures.written;
     }

@@ -3,7 +3,7 @@ use Rattle.std.proofs.lemmas.List.{append-nil}
 use Rattle.frame_spec.specs.Frame.{datagram_at, datagram_start}
 use Rattle.frame_law.proofs.Places.{start_most, start_next, start_zero}
 use Rattle.frame_units.specs.Parts.{part_of}
-use Rattle.frame_units.specs.Units.{IsSendable}
+use Rattle.sent_frame_law.specs.Frames.{IsSendable}
 use Rattle.frame_units.proofs.Parts.{got, length-part, part_at, sendable_at}
 use Rattle.frame_units.proofs.Written.{data_more, time_is}
 use Rattle.frame_units.proofs.sections.put_data.Goals as goal

@@ -1,7 +1,7 @@
 use Rattle.std.proofs.Common.{◌≡◌, ℕ, ◌+◌, List, [], ◌∷◌, ◌++◌, length, ap, sym, ◌∙◌, subst}
 use Rattle.std.proofs.lemmas.List.{length_push}
 use Rattle.std.proofs.lemmas.List.Elements.{All-push}
-use Rattle.frame_units.specs.Units.{AreSendable, IsSendable}
+use Rattle.sent_frame_law.specs.Frames.{AreSendable, IsSendable}
 use Rattle.frame_units.proofs.tests.list_of.Goals as goal
 
 pub loop-number-preserved : goal.loop-number-preserved

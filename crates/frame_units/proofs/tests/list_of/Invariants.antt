@@ -1,5 +1,5 @@
 use Rattle.std.proofs.Common.{◌≡◌, length}
-use Rattle.frame_units.specs.Units.{AreSendable}
+use Rattle.sent_frame_law.specs.Frames.{AreSendable}
 use Rattle.frame_units.proofs.tests.list_of.Given as goal
 
 abbrev pub invariant-loop-number : goal.invariant-loop-number

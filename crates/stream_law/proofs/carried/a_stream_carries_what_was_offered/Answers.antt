@@ -7,6 +7,7 @@ use Rattle.plan_spec.specs.Offered.{offered_in}
 use Rattle.stream_spec.specs.Services.{form_of_kind}
 use Rattle.stream_law.proofs.Units.{units_packetized, units_carry}
 use Rattle.stream_law.proofs.Versions.{taken_in_version}
+use Rattle.stream_law.proofs.FrameLaws.{frames_units, frames_carry}
 use Rattle.stream_law.proofs.ServicesCarried.{carries_one_each}
 use Rattle.stream_law.proofs.carried.a_stream_carries_what_was_offered.Goals as goal
 
@@ -18,17 +19,20 @@ lawful sndus sections (gse isi address) = sections
 
 pub returns : goal.returns
 returns c = record {
-  carries = λ plan whole of_bytes built gives are limits records stream.
+  carries = λ plan whole of_bytes gives are limits records stream.
       (carries_one_each plan (offered_in plan gives) stream.slots (lawful c.sndus_are_lawful.ensures.lawful c.sections_are_lawful.ensures.lawful)
       (λ mac is. units_packetized c.packetized_units_are_carried.ensures c.sndus_are_lawful.ensures.lawful c.sndus_are_units.ensures.units
       c.a_written_sndu_reads_back.ensures.sndu c.a_written_sndu_reads_back.ensures.read
       c.sections_are_lawful.ensures.lawful c.a_written_datagram_section_reads_back.ensures.unit c.a_written_datagram_section_reads_back.ensures.read
-      c.an_address_or_parameters_can_be_written.ensures.address mac is)
+      c.an_address_or_parameters_can_be_written.ensures.address mac is
+      (λ rows columns first frames is_rows least most each. frames_units rows columns mac is is_rows least most frames each c.frames_carry_their_datagrams.ensures.units first))
       (λ mac is. units_carry c.packetized_units_are_carried.ensures c.sndus_are_lawful.ensures.lawful c.sndus_are_units.ensures.units
       c.a_written_sndu_reads_back.ensures.sndu c.a_written_sndu_reads_back.ensures.read
       c.sections_are_lawful.ensures.lawful c.a_written_datagram_section_reads_back.ensures.unit c.a_written_datagram_section_reads_back.ensures.read
       c.an_address_or_parameters_can_be_written.ensures.address mac is)
-      of_bytes built (λ version k. taken_in_version plan version gives k are) (records_of plan.recording records)
+      (λ mac is rows columns first frames moments is_rows least most each.
+      frames_carry rows columns mac is is_rows least most frames each c.frames_carry_their_datagrams.ensures.carried first moments)
+      whole of_bytes stream.defined (λ version k. taken_in_version plan version gives k are) (records_of plan.recording records)
       (λ k pid own. c.the_packets_of_a_service_are_on_its_pid.ensures.sent plan (offered_in plan gives) records whole stream
       (c.records_have_moments.ensures.moments plan whole of_bytes gives are limits records stream) k pid own)).0;
 }

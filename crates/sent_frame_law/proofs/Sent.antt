@@ -18,7 +18,7 @@ use Rattle.frame_spec.specs.Sections.{FrameSection, data_section, parity_section
 use Rattle.frame_spec.specs.Frame.{FrameFields, IsFrame, AreSectionsFrom, data_table, table_of, datagram_at, datagram_start}
 use Rattle.frame_spec.specs.Sender.{padding_of, parity_table, frame_of, sections_to_send, section_of_datagram, section_of_column, section_unit}
 use Rattle.frame_law.proofs.Places.{data_long, start_most, start_next}
-use Rattle.frame_units.proofs.Tables.{length-parity_table, rows_are_codewords}
+use Rattle.sent_frame_law.proofs.Tables.{length-parity_table, rows_are_codewords}
 
 -- Padding columns.
 

@@ -1,11 +1,11 @@
 use Rattle.std.proofs.Common.{ℕ, ◌*◌, ◌^◌, ◌<◌, ◌≤◌, List, length}
 use Rattle.wire_spec.specs.Lists.{joined}
 use Rattle.stream_spec.specs.Units.{mac_for}
-use Rattle.frame_units.specs.Units.{CanSend, sections_of_frame}
-use Rattle.frame_units.proofs.Carried.{joined_some}
-use Rattle.frame_units.proofs.Macs.{mac_bytes, mac_size}
-use Rattle.frame_units.proofs.Sent.{AreRead, all_read, frame_read}
-use Rattle.frame_units.proofs.laws.a_unit_reads_as_its_section.Goals as goal
+use Rattle.sent_frame_law.specs.Frames.{CanSend, sections_of_frame}
+use Rattle.sent_frame_law.proofs.Carried.{joined_some}
+use Rattle.sent_frame_law.proofs.Macs.{mac_bytes, mac_size}
+use Rattle.sent_frame_law.proofs.Sent.{AreRead, all_read, frame_read}
+use Rattle.sent_frame_law.proofs.a_unit_reads_as_its_section.Goals as goal
 
 pub returns : goal.returns
 unfolding sections_of_frame

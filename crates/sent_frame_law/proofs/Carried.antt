@@ -3,7 +3,7 @@ use Rattle.std.proofs.Common.{◌≡◌, inl, inr, ℕ, zero, suc, ◌+◌, ◌*
 use Rattle.std.specs.Prelude.{slice_index_or}
 use Rattle.std.specs.List.{range_with_len, All}
 use Rattle.std.proofs.lemmas.List.{length-map, map-append, get_or_at, length_push}
-use Rattle.std.proofs.lemmas.List.Elements.{All-append, All-cons, All-head, All-nil}
+use Rattle.std.proofs.lemmas.List.Elements.{All-append, All-cons, All-head, All-nil, All-tail}
 use Rattle.wire_spec.specs.Bytes.{AreBytes}
 use Rattle.wire_spec.specs.Datagram.{IsDatagram}
 use Rattle.wire_spec.specs.Lists.{joined}
@@ -19,10 +19,10 @@ use Rattle.frame_spec.specs.Frame.{IsSentFrame, AreSentFrames}
 use Rattle.frame_spec.specs.Sender.{frame_of, fits_table, section_unit}
 use Rattle.frame_spec.specs.Carried.{AreFramesOf, CarriesInFrames, datagrams_sent, sections_of_units}
 use Rattle.frame_law.proofs.Places.{datagram_long}
-use Rattle.stream_spec.specs.Units.{mac_for}
-use Rattle.frame_units.specs.Units.{IsSendable, frames_of, index_of, indexed_units, sections_of_frame, units_of_frame, units_of_frames}
-use Rattle.frame_units.proofs.Fitting.{AreFilled, IsFilled, all_in_frames, all_of, frames_filled}
-use Rattle.frame_units.proofs.Sent.{AreAt, AreRead, all_sections_are, frame_at_one, frame_read, is_frame}
+use Rattle.stream_spec.specs.Units.{mac_for, datagrams_by_frame, units_of_frame, units_of_frames}
+use Rattle.sent_frame_law.specs.Frames.{IsSendable, sections_of_frame}
+use Rattle.sent_frame_law.proofs.Fitting.{AreFilled, IsFilled, all_in_frames, all_of, frames_filled}
+use Rattle.sent_frame_law.proofs.Sent.{AreAt, AreRead, all_sections_are, frame_at_one, frame_read, is_frame}
 
 -- Sections with the moments of their units, of which n come before.
 
@@ -140,18 +140,25 @@ module _
 
   -- the sections of a frame
   abbrev sections_at : ℕ → List (List ℕ) → List FrameSection
-  sections_at j frame = sections_of_frame rows columns unicast (index_of first j) frame
+  sections_at j frame = sections_of_frame rows columns unicast (λ i. index j) frame
 
   abbrev all_from : ℕ → List (List (List ℕ)) → List (List FrameSection)
   all_from j [] = []
   all_from j (frame ∷ frames) = sections_at j frame ∷ all_from (j + 1) frames
 
-  units_all : (j : ℕ) (frames : List (List (List ℕ))) → units_of_frames rows columns unicast (index_of first) j frames
+  units_all : (j : ℕ) (frames : List (List (List ℕ))) → units_of_frames rows columns unicast (first + j) frames
       ≡ map section_unit (flat_map (λ (f : List FrameSection). f) (all_from j frames))
+  unfolding sections_of_frame
   units_all j [] = refl
   units_all j (frame ∷ frames) =
-      ap (λ (us : List (List ℕ)). map section_unit (sections_at j frame) ++ us) (units_all (j + 1) frames)
+      let e : first + j + 1 ≡ first + (j + 1) = omega arith in
+      ap (λ (us : List (List ℕ)). units_of_frame rows columns unicast (first + j) frame ++ us)
+      (ap (λ (n : ℕ). units_of_frames rows columns unicast n frames) e ∙ units_all (j + 1) frames)
       ∙ sym (map-append section_unit (sections_at j frame) (flat_map (λ (f : List FrameSection). f) (all_from (j + 1) frames)))
+
+  units_first : (frames : List (List (List ℕ))) → units_of_frames rows columns unicast first frames
+      ≡ map section_unit (flat_map (λ (f : List FrameSection). f) (all_from 0 frames))
+  units_first frames = let e : first ≡ first + 0 = omega arith in ap (λ (n : ℕ). units_of_frames rows columns unicast n frames) e ∙ units_all 0 frames
 
   abbrev Filled : List (List ℕ) → Type 0
   Filled frame = IsFilled (fits_table rows) IsGiven frame
@@ -171,7 +178,7 @@ module _
   sections_read : (j : ℕ) (frame : List (List ℕ)) → Filled frame → AreRead rows (sections_at j frame)
   unfolding sections_of_frame
   sections_read j frame filled =
-      frame_read mpe_unit fec_unit mpe_read fec_read mpe_can rows columns rows_are most (index_of first j) (λ (i : ℕ). omega arith) (mac_for unicast) mac_bytes mac_size frame
+      frame_read mpe_unit fec_unit mpe_read fec_read mpe_can rows columns rows_are most (λ i. index j) (λ (i : ℕ). omega arith) (mac_for unicast) mac_bytes mac_size frame
       (joined_some frame filled.some (are_datagrams frame filled.each)) (are_datagrams frame filled.each) (are_bytes frame filled.each) (are_short frame filled.each)
       (room_is frame filled)
 
@@ -183,7 +190,7 @@ module _
   unfolding sections_of_frame
   sent_frame j frame filled = record {
     is = is_frame rows columns (omega (arith, rows_some)) least most frame filled.some (are_datagrams frame filled.each) (are_bytes frame filled.each) (room_is frame filled);
-    sections_are = all_sections_are rows (frame_of rows columns frame) (mac_for unicast) (index_of first j);
+    sections_are = all_sections_are rows (frame_of rows columns frame) (mac_for unicast) (λ i. index j);
   }
 
   module _ (moments : ℕ → ℕ) where
@@ -217,43 +224,80 @@ module _
     sent_datagrams [] = refl
     sent_datagrams (frame ∷ frames) = ap (λ (l : List (List ℕ)). frame ++ l) (sent_datagrams frames)
 
+    -- any frames that are filled so
+    module _ (frames : List (List (List ℕ))) (are : AreFilled (fits_table rows) IsGiven frames) where
+      pub are_frames : AreFramesOf indexed rows first (units_of_frames rows columns unicast first frames) moments
+          (map (frame_of rows columns) frames) (all_timed moments 0 (all_from 0 frames))
+      are_frames = record {
+        sent = sent_frames 0 0 frames are;
+        timed = record { index = λ i x of_it. index_at i x (member_contains (slice_index_or (map times_of (all_timed moments 0 (all_from 0 frames))) i []) x of_it) };
+        read =
+            ap (λ (us : List (List ℕ)). sections_of_units rows us moments) (units_first frames)
+            ∙ units_read moments rows (flat_map (λ (f : List FrameSection). f) (all_from 0 frames)) (all_are_read 0 frames are)
+            ∙ sym (timed_all moments 0 (all_from 0 frames));
+      }
+        where
+          index_at : (i : ℕ) (x : SectionTime) → Member (slice_index_or (map times_of (all_timed moments 0 (all_from 0 frames))) i []) x
+              → x.delta ≡ (first + i) % 4096
+          index_at i x there = let e : 0 + i ≡ i = omega arith in index_is 0 0 frames are i x there ∙ ap index e
+
+      pub frames_carry : CarriesInFrames indexed rows first (units_of_frames rows columns unicast first frames) moments (all_of (fits_table rows) frames)
+      frames_carry = record {
+        frames = map (frame_of rows columns) frames;
+        sections = all_timed moments 0 (all_from 0 frames);
+        are = are_frames;
+        datagrams_are = sym (sent_datagrams frames);
+      }
+
+      pub frames_units : All (IsUnit section_form) (units_of_frames rows columns unicast first frames)
+      frames_units = subst (All (IsUnit section_form)) (sym (units_first frames)) (units_in 0 frames are)
+        where
+          -- each unit is one
+          units_in : (j : ℕ) (frames : List (List (List ℕ))) → AreFilled (fits_table rows) IsGiven frames
+              → All (IsUnit section_form) (map section_unit (flat_map (λ (f : List FrameSection). f) (all_from j frames)))
+          units_in j [] are = All-nil (IsUnit section_form)
+          units_in j (frame ∷ frames) are =
+              subst (All (IsUnit section_form))
+              (sym (map-append section_unit (sections_at j frame) (flat_map (λ (f : List FrameSection). f) (all_from (j + 1) frames))))
+              (All-append (IsUnit section_form) (map section_unit (sections_at j frame))
+              (map section_unit (flat_map (λ (f : List FrameSection). f) (all_from (j + 1) frames)))
+              (units_read_are rows (sections_at j frame) (sections_read j frame are.0)) (units_in (j + 1) frames are.1))
+
     module _ (datagrams : List (List ℕ)) (given : All IsGiven datagrams) where
-      filled : AreFilled (fits_table rows) IsGiven (frames_of rows datagrams)
+      filled : AreFilled (fits_table rows) IsGiven (datagrams_by_frame rows datagrams)
       filled = frames_filled (fits_table rows) IsGiven datagrams [] alone given tt
         where
           alone : (d : List ℕ) → IsGiven d → fits_table rows (d ∷ []) ≡ true
           alone d is = le-leb (length (joined (d ∷ []))) (191 * rows) (omega (arith, length-append d [], is.sendable.size, rows_some))
 
-      pub are_frames : AreFramesOf indexed rows first (indexed_units rows columns unicast first datagrams) moments
-          (map (frame_of rows columns) (frames_of rows datagrams)) (all_timed moments 0 (all_from 0 (frames_of rows datagrams)))
-      are_frames = record {
-        sent = sent_frames 0 0 (frames_of rows datagrams) filled;
-        timed = record { index = λ i x of_it. index_at i x (member_contains (slice_index_or (map times_of (all_timed moments 0 (all_from 0 (frames_of rows datagrams)))) i []) x of_it) };
-        read =
-            ap (λ (us : List (List ℕ)). sections_of_units rows us moments) (units_all 0 (frames_of rows datagrams))
-            ∙ units_read moments rows (flat_map (λ (f : List FrameSection). f) (all_from 0 (frames_of rows datagrams))) (all_are_read 0 (frames_of rows datagrams) filled)
-            ∙ sym (timed_all moments 0 (all_from 0 (frames_of rows datagrams)));
-      }
-        where
-          index_at : (i : ℕ) (x : SectionTime) → Member (slice_index_or (map times_of (all_timed moments 0 (all_from 0 (frames_of rows datagrams)))) i []) x
-              → x.delta ≡ (first + i) % 4096
-          index_at i x there = let e : 0 + i ≡ i = omega arith in index_is 0 0 (frames_of rows datagrams) filled i x there ∙ ap index e
+      pub carries : CarriesInFrames indexed rows first (units_of_frames rows columns unicast first (datagrams_by_frame rows datagrams)) moments datagrams
+      carries =
+          subst (λ (ds : List (List ℕ)). CarriesInFrames indexed rows first (units_of_frames rows columns unicast first (datagrams_by_frame rows datagrams)) moments ds)
+          (all_in_frames (fits_table rows) datagrams []) (frames_carry (datagrams_by_frame rows datagrams) filled)
 
-      pub carries : CarriesInFrames indexed rows first (indexed_units rows columns unicast first datagrams) moments datagrams
-      carries = record {
-        frames = map (frame_of rows columns) (frames_of rows datagrams);
-        sections = all_timed moments 0 (all_from 0 (frames_of rows datagrams));
-        are = are_frames;
-        datagrams_are = sym (sent_datagrams (frames_of rows datagrams) ∙ all_in_frames (fits_table rows) datagrams []);
-      }
+      pub are_units : All (IsUnit section_form) (units_of_frames rows columns unicast first (datagrams_by_frame rows datagrams))
+      are_units = frames_units (datagrams_by_frame rows datagrams) filled
 
-      -- each unit is one
-      units_in : (j : ℕ) (frames : List (List (List ℕ))) → AreFilled (fits_table rows) IsGiven frames
-          → All (IsUnit section_form) (units_of_frames rows columns unicast (index_of first) j frames)
-      units_in j [] are = All-nil (IsUnit section_form)
-      units_in j (frame ∷ frames) are =
-          All-append (IsUnit section_form) (units_of_frame rows columns unicast (index_of first j) frame) (units_of_frames rows columns unicast (index_of first) (j + 1) frames)
-          (units_read_are rows (sections_at j frame) (sections_read j frame are.0)) (units_in (j + 1) frames are.1)
+-- Frames as what is known of them apart.
 
-      pub are_units : All (IsUnit section_form) (indexed_units rows columns unicast first datagrams)
-      are_units = units_in 0 (frames_of rows datagrams) filled
+pub filled_of : (rows : ℕ) (frames : List (List (List ℕ))) → All (λ (frame : List (List ℕ)). 0 < length frame) frames
+    → All (λ (frame : List (List ℕ)). length (joined frame) ≤ 191 * rows) frames → All IsGiven (flat_map (λ (frame : List (List ℕ)). frame) frames)
+    → AreFilled (fits_table rows) IsGiven frames
+filled_of rows [] some fit given = tt
+filled_of rows (frame ∷ frames) some fit given = (
+  record {
+    some = All-head (λ (f : List (List ℕ)). 0 < length f) frame frames some;
+    fit = le-leb (length (joined frame)) (191 * rows) (All-head (λ (f : List (List ℕ)). length (joined f) ≤ 191 * rows) frame frames fit);
+    each = given_front frame (flat_map (λ (f : List (List ℕ)). f) frames) given;
+  },
+  filled_of rows frames (All-tail (λ (f : List (List ℕ)). 0 < length f) frame frames some)
+      (All-tail (λ (f : List (List ℕ)). length (joined f) ≤ 191 * rows) frame frames fit) (given_rest frame (flat_map (λ (f : List (List ℕ)). f) frames) given),
+)
+  where
+    given_front : (a b : List (List ℕ)) → All IsGiven (a ++ b) → All IsGiven a
+    given_front [] b all = All-nil IsGiven
+    given_front (d ∷ a) b all = All-cons IsGiven d a (All-head IsGiven d (a ++ b) all) (given_front a b (All-tail IsGiven d (a ++ b) all))
+
+    given_rest : (a b : List (List ℕ)) → All IsGiven (a ++ b) → All IsGiven b
+    given_rest [] b all = all
+    given_rest (d ∷ a) b all = given_rest a b (All-tail IsGiven d (a ++ b) all)

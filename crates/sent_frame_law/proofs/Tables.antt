@@ -8,7 +8,7 @@ use Rattle.fec_spec.specs.Codeword.{IsCodeword}
 use Rattle.fec_spec.specs.Table.{table_row}
 use Rattle.frame_spec.specs.Sender.{parity_table, row_parity}
 use Rattle.erasure_law.proofs.Tables.{length-table_row, get_or-table_row}
-use Rattle.rs_encode.proofs.TableRows.{table_row_is, table_row-append, table_row_all}
+use Rattle.sent_frame_law.proofs.Rows.{table_row_is, table_row-append, table_row_all}
 use Rattle.frame_law.proofs.Parity.{parity_completes, parity_is}
 
 module _ (rows : ℕ) where

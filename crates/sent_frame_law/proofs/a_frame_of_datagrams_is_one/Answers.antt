@@ -1,8 +1,8 @@
 use Rattle.frame_spec.specs.Sender.{frame_of}
 use Rattle.stream_spec.specs.Units.{mac_for}
-use Rattle.frame_units.specs.Units.{sections_of_frame}
-use Rattle.frame_units.proofs.Sent.{all_sections_are, is_frame}
-use Rattle.frame_units.proofs.laws.a_frame_of_datagrams_is_one.Goals as goal
+use Rattle.sent_frame_law.specs.Frames.{sections_of_frame}
+use Rattle.sent_frame_law.proofs.Sent.{all_sections_are, is_frame}
+use Rattle.sent_frame_law.proofs.a_frame_of_datagrams_is_one.Goals as goal
 
 pub returns : goal.returns
 unfolding sections_of_frame

@@ -1,6 +1,6 @@
-use Rattle.frame_units.proofs.Carried.{are_units, carries}
-use Rattle.frame_units.proofs.Macs.{mac_bytes, mac_size}
-use Rattle.frame_units.proofs.laws.units_carry_what_was_offered.Goals as goal
+use Rattle.sent_frame_law.proofs.Carried.{are_units, carries}
+use Rattle.sent_frame_law.proofs.Macs.{mac_bytes, mac_size}
+use Rattle.sent_frame_law.proofs.units_carry_what_was_offered.Goals as goal
 
 pub returns-clause-carried : goal.returns-clause-carried
 returns-clause-carried c = λ rows columns first unicast datagrams moments can.

@@ -1,14 +1,9 @@
 -- Which datagrams share a frame.
-use Rattle.std.proofs.Common.{◌≡◌, ℕ, ◌+◌, ◌*◌, ◌<◌, ◌≤◌, Bool, true, false, cond, leb, List, [], ◌∷◌, ◌++◌, length, get_or, drop, refl, ap, sym, ◌∙◌, arith, le-leb, append_assoc}
+use Rattle.std.proofs.Common.{◌≡◌, ℕ, ◌<◌, Bool, true, false, cond, List, [], ◌∷◌, ◌++◌, length, refl, ap, sym, ◌∙◌, arith, append_assoc}
 use Rattle.std.specs.List.{fold, flat_map, All}
-use Rattle.std.proofs.lemmas.Bool.{lt-leb}
-use Rattle.std.proofs.lemmas.List.{append-nil, drop_more, drop_all}
+use Rattle.std.proofs.lemmas.List.{append-nil}
 use Rattle.std.proofs.lemmas.List.Elements.{All-cons, All-head, All-nil, All-push, All-tail}
-use Rattle.wire_spec.specs.Lists.{joined}
-use Rattle.frame_spec.specs.Sender.{fits_table, with_datagram}
-use Rattle.frame_units.specs.Parts.{part_of}
-use Rattle.frame_units.specs.Units.{frames_of}
-use Rattle.frame_units.proofs.Parts.{part_more, part_none}
+use Rattle.frame_spec.specs.Sender.{with_datagram}
 
 module _ (fits : List (List ℕ) → Bool) where
   -- the frames when more datagrams come
@@ -101,45 +96,3 @@ module _ (fits : List (List ℕ) → Bool) where
     pub all_filled : (P : List (List ℕ) → Type 0) (frames : List (List (List ℕ))) → ((frame : List (List ℕ)) → IsFilled frame → P frame) → AreFilled frames → All P frames
     all_filled P [] each are = All-nil P
     all_filled P (frame ∷ frames) each are = All-cons P frame frames (each frame are.0) (all_filled P frames each are.1)
-
--- Frames of a list, from a place on.
-
-module _ (rows : ℕ) (list : List (List ℕ)) (from : ℕ) where
-  -- the datagrams up to a place are in one frame, if no more come
-  abbrev pub IsGoing : ℕ → Type 0
-  IsGoing end = frames_of rows (drop from list) ≡ frames_with (fits_table rows) (part_of from end list ∷ []) (drop end list)
-
-  pub going_first : from < length list → IsGoing (from + 1)
-  going_first within =
-      ap (λ (l : List (List ℕ)). frames_of rows l) (drop_more list from [] within)
-      ∙ ap (λ (l : List (List ℕ)). frames_with (fits_table rows) (l ∷ []) (drop (from + 1) list))
-      (sym (part_more from from list (omega arith) within ∙ ap (λ (l : List (List ℕ)). l ++ get_or list from [] ∷ []) (part_none from list)))
-
-  module _ (end : ℕ) (le : from ≤ end) (within : end < length list) (going : IsGoing end) where
-    there : frames_of rows (drop from list) ≡ frames_with (fits_table rows) (part_of from end list ∷ []) (get_or list end [] ∷ drop (end + 1) list)
-    there = going ∙ ap (λ (l : List (List ℕ)). frames_with (fits_table rows) (part_of from end list ∷ []) l) (drop_more list end [] within)
-
-    more : part_of from (end + 1) list ≡ part_of from end list ++ get_or list end [] ∷ []
-    more = part_more from end list le within
-
-    pub going_on : length (joined (part_of from (end + 1) list)) ≤ 191 * rows → IsGoing (end + 1)
-    going_on fits =
-        there
-        ∙ joins (fits_table rows) (part_of from end list) (drop (end + 1) list) (get_or list end [])
-        (ap (λ (l : List (List ℕ)). leb (length (joined l)) (191 * rows)) (sym more) ∙ le-leb (length (joined (part_of from (end + 1) list))) (191 * rows) fits)
-        ∙ ap (λ (l : List (List ℕ)). frames_with (fits_table rows) (l ∷ []) (drop (end + 1) list)) (sym more)
-
-    pub going_over : 191 * rows < length (joined (part_of from (end + 1) list)) → frames_of rows (drop from list) ≡ part_of from end list ∷ frames_of rows (drop end list)
-    going_over passes =
-        there
-        ∙ begins (fits_table rows) (part_of from end list) (drop (end + 1) list) (get_or list end [])
-        (ap (λ (l : List (List ℕ)). leb (length (joined l)) (191 * rows)) (sym more) ∙ lt-leb (length (joined (part_of from (end + 1) list))) (191 * rows) passes)
-        ∙ ap (λ (l : List (List ℕ)). part_of from end list ∷ frames_of rows l) (sym (drop_more list end [] within))
-
-  -- after the last datagram
-  pub going_all : (end : ℕ) → length list ≤ end → IsGoing end → frames_of rows (drop from list) ≡ part_of from end list ∷ frames_of rows (drop end list)
-  going_all end le going =
-      let none : drop end list ≡ [] = drop_all end list le in
-      going
-      ∙ ap (λ (l : List (List ℕ)). frames_with (fits_table rows) (part_of from end list ∷ []) l) none
-      ∙ ap (λ (l : List (List ℕ)). part_of from end list ∷ frames_of rows l) (sym none)

@@ -1,8 +1,11 @@
-//! Laws of a sender's frames: they are frames, their units read back, and they carry what was offered.
+//! Laws of a sender's MPE-FEC frames (EN 301 192 clause 9): they are frames, their units read back, and they carry what was offered.
 //!
-//! Statements over definitions, and no code.
+//! Laws over definitions alone: each is a function that does nothing, whose contract is the law.
+//! They stand on frame_spec and stream_spec; what makes frames, and the laws of the sender's stream, stand on them.
+//! Begin with `a_frame_of_datagrams_is_one` and `frames_carry_their_datagrams`.
+#![tactic(auto)]
 
-ghost use Rattle.std.specs.Prelude.{◌≡◌, ℕ, ◌*◌, ◌^◌, ◌<◌, ◌≤◌, List, [], ◌∷◌, length, map, flat_map, All};
+ghost use Rattle.std.specs.Prelude.{◌≡◌, ℕ, ◌+◌, ◌*◌, ◌^◌, ◌<◌, ◌≤◌, List, [], ◌∷◌, length, flat_map, All};
 ghost use Rattle.wire_spec.specs.Bytes.{AreBytes};
 ghost use Rattle.wire_spec.specs.Datagram.{IsDatagram};
 ghost use Rattle.wire_spec.specs.Lists.{joined};
@@ -13,22 +16,13 @@ ghost use Rattle.frame_spec.specs.Sections.{FrameSection, frame_sections_in, sec
 ghost use Rattle.frame_spec.specs.Frame.{IsSentFrame};
 ghost use Rattle.frame_spec.specs.Sender.{frame_of, section_unit};
 ghost use Rattle.frame_spec.specs.Carried.{CarriesInFrames};
-ghost use Rattle.frame_units.specs.Units.{CanSend, frames_of, indexed_units, sections_of_frame};
+ghost use Rattle.stream_spec.specs.Units.{datagrams_by_frame, units_of_frames};
+ghost use Rattle.sent_frame_law.specs.Frames.{CanSend, sections_of_frame};
 
 use mpe_section::{
     a_written_datagram_section_reads_back, a_written_fec_section_reads_back,
     an_address_or_parameters_can_be_written,
 };
-
-/// The datagrams of the frames are the datagrams of the service, in order. Each frame has one at least, and they fit its application
-/// data table.
-pub fn datagrams_stand_in_frames()
-    ensures all { (rows : ℕ) (datagrams : List (List ℕ)) → flat_map (λ (frame : List (List ℕ)). frame) (frames_of rows datagrams) ≡ datagrams }
-    ensures some { (rows : ℕ) (datagrams : List (List ℕ)) → All (λ (d : List ℕ). length d ≤ 191 * rows) datagrams
-        → All (λ (frame : List (List ℕ)). 0 < length frame) (frames_of rows datagrams) }
-    ensures fit { (rows : ℕ) (datagrams : List (List ℕ)) → All (λ (d : List ℕ). length d ≤ 191 * rows) datagrams
-        → All (λ (frame : List (List ℕ)). length (joined frame) ≤ 191 * rows) (frames_of rows datagrams) }
-{}
 
 /// Datagrams that fit make a frame: no padding column has one of their bytes, each row is a codeword, and the sections are those of the
 /// frame, whatever their delta_t.
@@ -59,9 +53,25 @@ pub fn a_unit_reads_as_its_section()
 /// are sent, and each is a section.
 pub fn units_carry_what_was_offered()
     ensures carried { (rows columns first : ℕ) (unicast : List ℕ) (datagrams : List (List ℕ)) (moments : ℕ → ℕ) → CanSend rows columns unicast datagrams
-        → CarriesInFrames indexed rows first (indexed_units rows columns unicast first datagrams) moments datagrams }
+        → CarriesInFrames indexed rows first (units_of_frames rows columns unicast first (datagrams_by_frame rows datagrams)) moments datagrams }
     ensures units { (rows columns first : ℕ) (unicast : List ℕ) (datagrams : List (List ℕ)) → CanSend rows columns unicast datagrams
-        → All (IsUnit section_form) (indexed_units rows columns unicast first datagrams) }
+        → All (IsUnit section_form) (units_of_frames rows columns unicast first (datagrams_by_frame rows datagrams)) }
+{
+    a_written_datagram_section_reads_back();
+    a_written_fec_section_reads_back();
+    an_address_or_parameters_can_be_written();
+}
+
+/// Frames with numbers that go on carry their datagrams: all frames of a service on one PID, of several parts of a stream, too.
+pub fn frames_carry_their_datagrams()
+    ensures carried { (rows columns first : ℕ) (unicast : List ℕ) (frames : List (List (List ℕ))) (moments : ℕ → ℕ)
+        → CanSend rows columns unicast (flat_map (λ (frame : List (List ℕ)). frame) frames) → All (λ (frame : List (List ℕ)). 0 < length frame) frames
+        → All (λ (frame : List (List ℕ)). length (joined frame) ≤ 191 * rows) frames
+        → CarriesInFrames indexed rows first (units_of_frames rows columns unicast first frames) moments (flat_map (λ (frame : List (List ℕ)). frame) frames) }
+    ensures units { (rows columns first : ℕ) (unicast : List ℕ) (frames : List (List (List ℕ)))
+        → CanSend rows columns unicast (flat_map (λ (frame : List (List ℕ)). frame) frames) → All (λ (frame : List (List ℕ)). 0 < length frame) frames
+        → All (λ (frame : List (List ℕ)). length (joined frame) ≤ 191 * rows) frames
+        → All (IsUnit section_form) (units_of_frames rows columns unicast first frames) }
 {
     a_written_datagram_section_reads_back();
     a_written_fec_section_reads_back();
