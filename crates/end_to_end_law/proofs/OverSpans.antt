@@ -1,5 +1,5 @@
 -- A service on one of its PIDs takes, sends, wants and delivers as the service does.
-use Rattle.std.proofs.Common.{◌≡◌, ℕ, ◌<◌, Bool, true, cond, List, [], ◌∷◌, ◌++◌, length, map, flat_map, refl, ap, ap₂, sym, ◌∙◌, subst, Some}
+use Rattle.std.proofs.Common.{◌≡◌, ℕ, Bool, true, cond, List, [], ◌∷◌, ◌++◌, map, flat_map, refl, ap, ap₂, sym, ◌∙◌, subst, None, Some}
 use Rattle.std.specs.Prelude.{filter}
 use Rattle.std.proofs.lemmas.List.Elements.{filter-append}
 use Rattle.std.proofs.lemmas.List.{append-nil}
@@ -10,18 +10,19 @@ use Rattle.plan_spec.specs.Plan.{KindFields, ule, mpe, fec, gse, ServiceFields, 
 use Rattle.plan_spec.specs.Changes.{with_pid, pid_in, pids_in}
 use Rattle.plan_spec.specs.Built.{is_sent}
 use Rattle.stream_spec.specs.Units.{unit_of}
-use Rattle.stream_spec.specs.Services.{kind_at, Carries}
+use Rattle.stream_spec.specs.Services.{kind_at, IsPidOf, Carries}
+use Rattle.stream_law.specs.Words.{is_single}
 use Rattle.stream_law.proofs.Units.{AreTaken}
 use Rattle.carriage_law.proofs.Member.{Member}
 use Rattle.reception_spec.specs.Delivered.{service_on}
 use Rattle.loss_law.specs.Loss.{service_at}
 use Rattle.loss_law.specs.Spans.{IsRecordedInSpans}
 use Rattle.loss_law.proofs.Subsequences.{subsequence_each}
-use Rattle.loss_law.proofs.Plan.{kind_of_service, pid_of_first, own_pid}
+use Rattle.loss_law.proofs.Plan.{kind_of_service, pid_of_first}
 use Rattle.loss_law.proofs.Pids.{one_pid, same_service}
 use Rattle.loss_law.proofs.ServiceSpans.{span_whole}
 use Rattle.end_to_end_law.specs.Units.{label_for, wants_datagram}
-use Rattle.end_to_end_law.specs.Sent.{DeliversNumbered}
+use Rattle.end_to_end_law.specs.Sent.{DeliversOffered}
 use Rattle.end_to_end_law.specs.Spans.{DeliversOfSpans}
 use Rattle.end_to_end_law.proofs.Offered.{longest_stays, taken_kept}
 
@@ -29,8 +30,15 @@ use Rattle.end_to_end_law.proofs.Offered.{longest_stays, taken_kept}
 pub sent_stays : (kind : KindFields) (pid : ℕ) → is_sent (with_pid kind pid) ≡ is_sent kind
 sent_stays (ule old address packing) pid = refl
 sent_stays (mpe old) pid = refl
-sent_stays (fec old rows parity window) pid = refl
+sent_stays (fec old rows parity None) pid = refl
+sent_stays (fec old rows parity (Some window)) pid = refl
 sent_stays (gse isi address) pid = refl
+
+pub single_stays : (kind : KindFields) (pid : ℕ) → is_single (with_pid kind pid) ≡ is_single kind
+single_stays (ule old address packing) pid = refl
+single_stays (mpe old) pid = refl
+single_stays (fec old rows parity window) pid = refl
+single_stays (gse isi address) pid = refl
 
 unit_stays : (kind : KindFields) (pid : ℕ) (unicast datagram : List ℕ) → unit_of (with_pid kind pid) unicast datagram ≡ unit_of kind unicast datagram
 unit_stays (ule old address packing) pid unicast datagram = refl
@@ -84,21 +92,27 @@ wanted_of_all plan k datagrams on all same each =
 pub has_pid_sent : (kind : KindFields) → is_sent kind ≡ true → (pid : ℕ) × (pid_of kind ≡ Some pid)
 has_pid_sent (ule pid address packing) built = (pid, refl)
 has_pid_sent (mpe pid) built = (pid, refl)
-has_pid_sent (fec pid rows parity window) built = absurd (cc)
+has_pid_sent (fec pid rows parity window) built = (pid, refl)
 has_pid_sent (gse isi address) built = absurd (cc)
 
 -- Without changes it has one span, the recording, in which it is itself.
 pub whole_delivers : (plan : PlanFields) (sent : List Record) (datagrams : ℕ → ℕ → List (List ℕ)) (carries : Carries plan sent datagrams) (recorded : List Record)
-    (is_recorded : IsRecordedInSpans plan sent datagrams carries recorded) → plan.changes ≡ [] → (k pid : ℕ) → k < length plan.services → pid_of (kind_at plan k) ≡ Some pid
+    (is_recorded : IsRecordedInSpans plan sent datagrams carries recorded) → plan.changes ≡ [] → (k pid : ℕ) (own : IsPidOf plan k pid) → pid_of (kind_at plan k) ≡ Some pid
     → (offered delivered : List (List ℕ)) → DeliversOfSpans plan sent datagrams carries recorded is_recorded k offered delivered
-    → DeliversNumbered is_recorded.channel recorded (service_at plan k) pid (carries.units k pid) (carries.begin k pid) (datagrams k pid) delivered
-whole_delivers plan sent datagrams carries recorded is_recorded none k pid known on offered delivered over =
-    subst (DeliversNumbered is_recorded.channel recorded (service_at plan k) pid (carries.units k pid) (carries.begin k pid) (datagrams k pid))
+    → DeliversOffered (kind_at plan k) plan.recording (carries.before k pid) (carries.units k pid) (carries.moments k pid) (datagrams k pid) (carries.carried k pid own)
+    is_recorded.channel recorded (service_at plan k) pid (carries.begin k pid) delivered
+whole_delivers plan sent datagrams carries recorded is_recorded none k pid own on offered delivered over =
+    subst (λ (given : List (List ℕ)). Delivers recorded (service_at plan k) given)
     (sym (over.delivered_are ∙ ap (flat_map over.on) (one_pid plan k pid none first) ∙ append-nil (over.on pid)))
-    (subst (λ (service : ServiceFields). DeliversNumbered is_recorded.channel recorded service pid (carries.units k pid) (carries.begin k pid) (datagrams k pid) (over.on pid))
-    (same_service (service_at plan k) pid (ap pid_of (kind_of_service plan k known) ∙ on))
-    (subst (λ (span : List Record). DeliversNumbered is_recorded.channel span (service_on plan k pid) pid (carries.units k pid) (carries.begin k pid) (datagrams k pid) (over.on pid))
-    (span_whole plan k pid recorded none first) (over.each pid (own_pid plan k pid known on))))
+    (subst (λ (service : ServiceFields). Delivers recorded service (over.on pid))
+    (same_service (service_at plan k) pid (ap pid_of (kind_of_service plan k own.service) ∙ on))
+    (subst (λ (span : List Record). Delivers span (service_on plan k pid) (over.on pid))
+    (span_whole plan k pid recorded none first) (over.each pid own)))
   where
     first : pid_in plan 0 k ≡ Some pid
-    first = pid_of_first plan k pid known on
+    first = pid_of_first plan k pid own.service on
+
+    Delivers : List Record → ServiceFields → List (List ℕ) → Type 0
+    Delivers span service given =
+        DeliversOffered (kind_at plan k) plan.recording (carries.before k pid) (carries.units k pid) (carries.moments k pid) (datagrams k pid) (carries.carried k pid own)
+        is_recorded.channel span service pid (carries.begin k pid) given

@@ -11,7 +11,7 @@ use Rattle.plan_spec.specs.Built.{is_sent}
 use Rattle.stream_law.proofs.Kept.{unicast_kept}
 use Rattle.loss_law.specs.Loss.{service_at}
 
--- its kind is one of SNDUs or datagram_sections
+-- its kind is one that is sent
 pub kind_is : (ks : List KindFields) (k : ℕ) → list_all is_sent ks ≡ true → k < length ks → is_sent (get_or ks k (mpe 0)) ≡ true
 kind_is [] k all less = absurd (omega (arith, less))
 kind_is (kind ∷ ks) zero all less = first (is_sent kind) (list_all is_sent ks) all

@@ -1,18 +1,17 @@
 //! Settings and captures: of each there is a stream, of which the laws speak.
 ghost use Rattle.std.specs.Prelude.{◌≡◌, ℕ, ◌<◌, List, [], length, replicate, Option, Some, true};
-ghost use Rattle.std.specs.List.{list_all};
 ghost use Rattle.wire_spec.specs.Bytes.{AreBytes};
 ghost use Rattle.pcap_file.specs.Told.{Tells};
 ghost use Rattle.pcap_file.specs.declared.faults.CaptureFault.{CaptureFault};
 ghost use Rattle.int_spec.specs.Table.{table_bytes};
-ghost use Rattle.plan_spec.specs.Plan.{IntFields, PlanFields, kinds, pid_of};
+ghost use Rattle.plan_spec.specs.Plan.{IntFields, PlanFields, pid_of};
 ghost use Rattle.plan_spec.specs.Signalling.{table_of};
 ghost use Rattle.plan_spec.specs.Offered.{offered, offered_in_all};
 ghost use Rattle.stream_spec.specs.Services.{kind_at};
 ghost use Rattle.stream_law.specs.Words.{begun_cycles};
 ghost use Rattle.stream_law.specs.Captures.{given_by};
 ghost use Rattle.settings_spec.specs.Refusal.{IsAccepted};
-ghost use Rattle.plan_spec.specs.Built.{is_sent};
+ghost use Rattle.plan_spec.specs.Built.{are_sent};
 ghost use Rattle.end_to_end_law.specs.Sent.{offered_on, IsSent};
 ghost use Rattle.end_to_end_law.specs.Table.{sent_tables};
 
@@ -25,9 +24,9 @@ pub fn each_capture_tells_records()
     ensures tells { (capture : List ℕ) → (told : List (List ℕ)) × (fault : Option CaptureFault) × Tells capture told fault }
 {}
 
-/// For all settings that are accepted, of services of SNDUs and datagram_sections, and all captures there is a stream, and one alone.
+/// For all settings that are accepted, of services of kinds that are sent, and all captures there is a stream, and one alone.
 pub fn each_capture_is_sent()
-    ensures is { (settings : List ℕ) (plan : PlanFields) → IsAccepted settings plan → list_all is_sent (kinds plan) ≡ true
+    ensures is { (settings : List ℕ) (plan : PlanFields) → IsAccepted settings plan → are_sent plan ≡ true
         → (capture : List ℕ) → AreBytes capture → (told records : List (List ℕ)) × IsSent plan capture told records }
     ensures one { (plan : PlanFields) (capture : List ℕ) (told others a b : List (List ℕ)) → IsSent plan capture told a → IsSent plan capture others b
         → (told ≡ others) × (a ≡ b) }

@@ -13,11 +13,12 @@ ghost use Rattle.reception_spec.specs.Delivered.{delivered_of};
 ghost use Rattle.loss_law.specs.Loss.{service_at};
 ghost use Rattle.loss_law.specs.Spans.{IsRecordedInSpans};
 ghost use Rattle.end_to_end_law.specs.Units.{wants_datagram};
-ghost use Rattle.end_to_end_law.specs.Sent.{offered_on, IsSent, sent_records, SendsOneUnitEach, DeliversNumbered};
+ghost use Rattle.end_to_end_law.specs.Sent.{offered_on, IsSent, sent_records, SendsOneUnitEach, DeliversOffered};
 ghost use Rattle.end_to_end_law.specs.Spans.{DeliversOfSpans};
 
 use crate::datagrams::{a_unit_gives_its_datagram, each_datagram_is_sent_in_a_unit};
 use int_table::a_table_is_told_by_its_bytes;
+use loss_law::where_each_packet_is_heard_all_is_delivered;
 use stream_law::{
     a_capture_gives_datagrams, a_cycle_carries_the_table, a_stream_stands_in_parts,
     records_have_moments, the_pids_of_a_service_have_all_datagrams,
@@ -29,6 +30,9 @@ use ts_packet::{null_packet_is_read, written_packets_are_read};
 /// damaged or spliced unit passes its check in the span of its PID:
 /// each service delivers over its spans wanted datagrams that were offered to it in all versions, unchanged, in order and each once,
 /// with each whose unit arrived intact in a span.
+///
+/// A service of MPE-FEC frames, if it is heard often, delivers frame by frame what is recovered: the datagrams that came in sections of their
+/// own at least, and all where each row has at most 64 bytes that the sections that arrived intact do not tell.
 pub fn what_arrives_of_a_capture()
     ensures arrives { (plan : PlanFields) (capture : List ℕ) (told records : List (List ℕ)) → IsSent plan capture told records
         → (carries : Carries plan (sent_records plan records) (offered_on plan capture told))
@@ -65,6 +69,17 @@ pub fn where_nothing_is_lost_each_packet_is_heard()
     a_table_is_told_by_its_bytes();
 }
 
+/// A stream that was recorded as it was sent is a recording of what was sent in spans: it came through a channel without undetected errors,
+/// each service of frames is heard often, and moments are as they were. So it meets all that is asked of a recording.
+pub fn where_nothing_is_lost_a_stream_is_a_recording_of_itself()
+    ensures recorded { (plan : PlanFields) (capture : List ℕ) (told records : List (List ℕ)) → IsSent plan capture told records
+        → (carries : Carries plan (sent_records plan records) (offered_on plan capture told))
+        → IsRecordedInSpans plan (sent_records plan records) (offered_on plan capture told) carries (sent_records plan records) }
+{
+    where_each_packet_is_heard_all_is_delivered();
+    where_nothing_is_lost_each_packet_is_heard();
+}
+
 /// Of a stream that was recorded as it was sent each service delivers over its spans all wanted datagrams that were offered to it in all
 /// versions, in order and each once.
 pub fn all_of_a_capture_arrives_where_nothing_is_lost()
@@ -81,9 +96,10 @@ pub fn all_of_a_capture_arrives_where_nothing_is_lost()
 
 /// Under a plan that nothing changes a service delivers so on its one PID, of the whole recording.
 pub fn without_changes_a_service_delivers_of_the_whole_recording()
-    ensures numbered { (plan : PlanFields) (sent : List Record) (datagrams : ℕ → ℕ → List (List ℕ)) (carries : Carries plan sent datagrams)
+    ensures delivers { (plan : PlanFields) (sent : List Record) (datagrams : ℕ → ℕ → List (List ℕ)) (carries : Carries plan sent datagrams)
         → (recorded : List Record) (is_recorded : IsRecordedInSpans plan sent datagrams carries recorded) → plan.changes ≡ []
-        → (k pid : ℕ) → k < length plan.services → pid_of (kind_at plan k) ≡ Some pid → (offered delivered : List (List ℕ))
+        → (k pid : ℕ) (own : IsPidOf plan k pid) → pid_of (kind_at plan k) ≡ Some pid → (offered delivered : List (List ℕ))
         → DeliversOfSpans plan sent datagrams carries recorded is_recorded k offered delivered
-        → DeliversNumbered is_recorded.channel recorded (service_at plan k) pid (carries.units k pid) (carries.begin k pid) (datagrams k pid) delivered }
+        → DeliversOffered (kind_at plan k) plan.recording (carries.before k pid) (carries.units k pid) (carries.moments k pid) (datagrams k pid) (carries.carried k pid own)
+        is_recorded.channel recorded (service_at plan k) pid (carries.begin k pid) delivered }
 {}

@@ -2,9 +2,11 @@ pub mod Sections
 pub mod Forms
 pub mod Subsequences
 pub mod Service
+pub mod Pids
+pub mod FramesOnPid
+pub mod ByKind
 pub mod Plan
 pub mod ServiceSpans
-pub mod Pids
 pub mod OverSpans
 pub mod Unchanged
 pub mod OnePid
@@ -12,6 +14,9 @@ pub mod SpansAlike
 pub mod Ones
 pub mod Starts
 pub mod AllUnits
+pub mod WholeFrames
+pub mod AllFrames
+pub mod OwnSections
 pub mod AllDatagrams
 pub mod Fronts
 pub mod InForce

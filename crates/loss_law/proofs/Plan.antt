@@ -1,24 +1,27 @@
 -- What the services of a plan deliver.
-use Rattle.std.proofs.Common.{◌≡◌, inl, inr, ℕ, ◌<◌, Bool, true, false, ◌||◌, eqb, Option, None, Some, List, [], ◌∷◌, ◌++◌, length, flat_map, refl, ap, sym, ◌∙◌, subst, arith}
+use Rattle.std.proofs.Common.{◌≡◌, inl, inr, ℕ, ◌<◌, Bool, true, false, ◌||◌, eqb, Option, None, Some, List, [], ◌∷◌, ◌++◌, length, refl, ap, sym, ◌∙◌, subst, arith}
 use Rattle.std.specs.Prelude.{Contains, filter_map}
 use Rattle.std.specs.List.{cons_option}
 use Rattle.std.proofs.lemmas.Bool.{eqb-true}
 use Rattle.std.proofs.lemmas.List.{get_or-map, length-map}
-use Rattle.ts_spec.specs.Recording.{Record}
-use Rattle.ts_spec.specs.Packetized.{Packetizes}
+use Rattle.ts_spec.specs.Recording.{RecordingForm, Record}
+use Rattle.section_spec.specs.Section.{section_form}
 use Rattle.carriage_spec.specs.Channel.{Channel}
 use Rattle.carriage_spec.specs.Spans.{IsSpanOf}
-use Rattle.carriage_spec.specs.Carried.{packets_sent, NoUndetectedError}
-use Rattle.plan_spec.specs.Plan.{KindFields, mpe, ServiceFields, IntFields, PlanFields, kinds, pid_of, table_pids, service_pids}
+use Rattle.carriage_spec.specs.Carried.{NoUndetectedError, IsAccepted}
+use Rattle.plan_spec.specs.Plan.{mpe, ServiceFields, IntFields, PlanFields, kinds, pid_of, table_pids, service_pids}
 use Rattle.plan_spec.specs.Changes.{no_service, pid_in, pids_in}
 use Rattle.plan_law.proofs.Pids.{is_in, pid_is_in}
-use Rattle.stream_spec.specs.Services.{kind_at, form_of_kind, carried_by_unit, IsPidOf, Carries}
+use Rattle.stream_spec.specs.Services.{kind_at, form_of_kind, IsPidOf, Carries}
 use Rattle.reception_spec.specs.Packets.{heard_pids}
-use Rattle.reception_spec.specs.Delivered.{delivered_datagrams}
+use Rattle.reception_spec.specs.Delivered.{told_by}
 use Rattle.carriage_law.proofs.Member.{Member, member_behind, member_at, contains_member}
 use Rattle.carriage_law.proofs.Spans.{whole_is_span}
-use Rattle.loss_law.specs.Loss.{CarriesOn, DeliversIntact, service_at, IsRecorded, DeliversEach}
-use Rattle.loss_law.proofs.Service.{service_delivers}
+use Rattle.loss_law.specs.Loss.{CarriesOn, service_at}
+use Rattle.loss_law.specs.Frames.{HasMomentsFor, IsHeardOften, DeliversOn}
+use Rattle.loss_law.specs.Plans.{IsRecorded, delivered_whole, DeliversEach}
+use Rattle.loss_law.proofs.Pids.{same_kind}
+use Rattle.loss_law.proofs.ByKind.{delivers_by}
 
 -- the kind of a service of a plan
 pub kind_of_service : (plan : PlanFields) (k : ℕ) → k < length plan.services → (service_at plan k).kind ≡ kind_at plan k
@@ -76,37 +79,27 @@ own_pid plan k pid known on = record {
 
 -- What its services deliver.
 
--- the law for a service whose kind is known by an equation
-pub kind_delivers : (pids : List ℕ) (sent recorded : List Record) (channel : Channel pids sent recorded) (span : List Record) → IsSpanOf span recorded
-    → (service : ServiceFields) (kind : KindFields) → service.kind ≡ kind → (pid : ℕ) → Contains pids pid → pid_of kind ≡ Some pid → (datagrams : List (List ℕ)) (carries : CarriesOn kind pid sent datagrams)
-    → NoUndetectedError channel span (form_of_kind kind) pid carries.units carries.begin
-    → DeliversIntact channel span service pid carries.units carries.begin datagrams (delivered_datagrams service span)
-kind_delivers pids sent recorded channel span is_span service kind same pid read on datagrams carries no_error =
-    subst
-    (λ (t : KindFields). pid_of t ≡ Some pid → Packetizes (form_of_kind t) carries.units (packets_sent pid sent) carries.begin
-    → NoUndetectedError channel span (form_of_kind t) pid carries.units carries.begin → datagrams ≡ flat_map (carried_by_unit t) carries.units
-    → DeliversIntact channel span service pid carries.units carries.begin datagrams (delivered_datagrams service span))
-    same
-    (λ here packetized detected carried. service_delivers pids sent recorded channel span is_span service pid read here carries.units carries.begin packetized detected datagrams carried)
-    on carries.packetized no_error carries.carried
-
--- what is carried on a PID of a service
-abbrev pub carries_on : (plan : PlanFields) (sent : List Record) (datagrams : ℕ → ℕ → List (List ℕ)) → Carries plan sent datagrams → (k pid : ℕ) → IsPidOf plan k pid
-    → CarriesOn (kind_at plan k) pid sent (datagrams k pid)
-carries_on plan sent datagrams carries k pid own = record {
-  units = carries.units k pid;
-  begin = carries.begin k pid;
-  packetized = carries.packetized k pid own;
-  carried = carries.carried k pid own;
-}
+-- a service of any kind, on its PID
+pub service_delivers_by : (pids : List ℕ) (sent recorded : List Record) (channel : Channel pids sent recorded) (span : List Record) → IsSpanOf span recorded
+    → (form : RecordingForm) (service : ServiceFields) (pid : ℕ) → Contains pids pid → pid_of service.kind ≡ Some pid
+    → (datagrams : List (List ℕ)) (carries : CarriesOn form service.kind pid sent datagrams)
+    → NoUndetectedError channel span (form_of_kind service.kind) pid carries.units carries.begin
+    → IsHeardOften service.kind form carries.before carries.units carries.moments datagrams carries.carried (IsAccepted channel span section_form pid carries.units carries.begin)
+    → HasMomentsFor service.kind form channel span pid
+    → DeliversOn service.kind form carries.before carries.units carries.moments datagrams carries.carried channel span service pid carries.begin (told_by true form service span)
+service_delivers_by pids sent recorded channel span is_span form service pid read on datagrams carries no_error often stamps =
+    delivers_by pids sent recorded channel span is_span form service pid read on carries.before carries.units carries.moments carries.begin datagrams
+    service.kind (sym (same_kind service.kind pid on)) carries.carried carries.packetized carries.begun no_error often stamps
 
 -- each service of a plan
 pub each_delivers : (plan : PlanFields) (sent : List Record) (datagrams : ℕ → ℕ → List (List ℕ)) (carries : Carries plan sent datagrams) (recorded : List Record)
     (is_recorded : IsRecorded plan sent datagrams carries recorded)
-    → DeliversEach plan sent datagrams carries recorded is_recorded (λ k. delivered_datagrams (service_at plan k) recorded)
+    → DeliversEach plan sent datagrams carries recorded is_recorded (λ k. delivered_whole plan k recorded)
 each_delivers plan sent datagrams carries recorded is_recorded = record {
-  each = λ k pid known on.
-      kind_delivers (heard_pids plan) sent recorded is_recorded.channel recorded (whole_is_span recorded) (service_at plan k) (kind_at plan k) (kind_of_service plan k known) pid
-      (service_read plan k pid known on) on (datagrams k pid) (carries_on plan sent datagrams carries k pid (own_pid plan k pid known on))
-      (is_recorded.detected k pid known on);
+  each = λ k pid own on.
+      delivers_by (heard_pids plan) sent recorded is_recorded.channel recorded (whole_is_span recorded) plan.recording (service_at plan k) pid
+      (service_read plan k pid own.service on) (ap pid_of (kind_of_service plan k own.service) ∙ on)
+      (carries.before k pid) (carries.units k pid) (carries.moments k pid) (carries.begin k pid) (datagrams k pid)
+      (kind_at plan k) (kind_of_service plan k own.service ∙ sym (same_kind (kind_at plan k) pid on)) (carries.carried k pid own) (carries.packetized k pid own)
+      (λ n m. carries.begun k pid n m own) (is_recorded.detected k pid own.service on) (is_recorded.often k pid own on) (is_recorded.moments k pid own.service on);
 }

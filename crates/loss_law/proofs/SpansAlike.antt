@@ -1,5 +1,5 @@
 -- What a service delivers over its spans follows from the packets on its PIDs and on the INT's, whatever else is recorded.
-use Rattle.std.proofs.Common.{◌≡◌, inl, inr, ℕ, ◌<◌, Bool, true, false, ◌&&◌, ◌||◌, cond, Option, None, Some, List, [], ◌∷◌, ◌++◌, length, map, flat_map, refl, ap, ap₂, sym, ◌∙◌, subst, arith, append_assoc}
+use Rattle.std.proofs.Common.{◌≡◌, inl, inr, ℕ, ◌<◌, Bool, true, false, ◌&&◌, ◌||◌, cond, Option, None, Some, List, [], ◌∷◌, ◌++◌, length, map, flat_map, fold, refl, ap, ap₂, sym, ◌∙◌, subst, arith, append_assoc}
 use Rattle.std.specs.Prelude.{filter, ◌==◌}
 use Rattle.std.proofs.lemmas.Bool.{eqb-true}
 use Rattle.std.specs.List.{list_any}
@@ -8,18 +8,21 @@ use Rattle.std.proofs.lemmas.List.Elements.{filter-append}
 use Rattle.ts_spec.specs.Recording.{Record}
 use Rattle.ts_spec.specs.Received.{no_record, arrivals}
 use Rattle.section_spec.specs.Section.{section_form}
-use Rattle.plan_spec.specs.Plan.{IntFields, PlanFields, table_pids}
+use Rattle.plan_spec.specs.Plan.{IntFields, PlanFields, table_pids, pid_of}
 use Rattle.plan_spec.specs.Changes.{has_pid, pid_in, pids_in}
 use Rattle.plan_spec.specs.InForce.{version_behind}
 use Rattle.carriage_law.specs.Words.{timed_packet}
 use Rattle.carriage_law.proofs.Member.{Member, member_front, member_behind, contains_member}
 use Rattle.reception_spec.specs.Packets.{is_on}
-use Rattle.reception_spec.specs.Numbers.{units_on}
+use Rattle.reception_spec.specs.Numbers.{no_numbers, units_on, units_of, unit_numbers}
+use Rattle.reception_spec.specs.Frames.{rows_of, no_frames, sum_of_frames, frame_numbers}
+use Rattle.reception_spec.specs.Sums.{sum_of_numbers, numbers_on, numbers_of, unit_numbers_of, frame_numbers_on, frame_numbers_of}
 use Rattle.reception_spec.specs.Table.{table_pid, table_sections}
 use Rattle.reception_spec.specs.Spans.{version_at_place, is_heard_on, span_from, span_of}
-use Rattle.reception_spec.specs.Delivered.{service_on, told_on, delivered_of}
+use Rattle.reception_spec.specs.Delivered.{service_on, delivered_on, delivered_of}
+use Rattle.loss_law.specs.Loss.{service_at}
 use Rattle.loss_law.specs.Isolation.{SamePackets, pids_for, is_for, SameForService}
-use Rattle.loss_law.proofs.OnePid.{units_same, service_datagrams_same, packets_kept}
+use Rattle.loss_law.proofs.OnePid.{units_same, service_units_same, service_numbers_same, told_frames_same, told_same, packets_kept}
 use Rattle.loss_law.proofs.Pids.{pid_on}
 use Rattle.loss_law.proofs.ServiceSpans.{none_behind}
 
@@ -164,12 +167,42 @@ module _ (plan : PlanFields) (k : ℕ) where
         (span_packets records ∙ ap (λ (t : List Record). filter (is_on pid) (span_behind [] t)) same ∙ sym (span_packets others))
         ∙ sym (packets_kept pid (span_of plan k pid others))
 
--- the service delivers the same over its spans
-pub delivered_alike : (plan : PlanFields) (k : ℕ) → k < length plan.services → (records others : List Record) → SameForService plan k records others
-    → delivered_of plan k records ≡ delivered_of plan k others
-delivered_alike plan k known records others same =
-    flat_same (told_on plan k records) (told_on plan k others) (pids_in plan k)
-    (λ pid there.
-    service_datagrams_same pid (span_of plan k pid records) (span_of plan k pid others)
-    (span_alike plan k pid (member_behind (cond (length plan.changes == 0) [] (table_pids plan.table)) (pids_in plan k) pid there) records others same)
-    (service_on plan k pid) (pid_on plan k pid (record { service = known; own = contains_member (pids_in plan k) pid there })))
+-- So a service delivers the same over its spans, and its numbers are the same.
+
+map_same : {X : Type 0} (f g : ℕ → X) (xs : List ℕ) → ((x : ℕ) → Member xs x → f x ≡ g x) → map f xs ≡ map g xs
+map_same f g [] each = refl
+map_same {X} f g (x ∷ xs) each = ap₂ (λ (a : X) (l : List X). a ∷ l) (each x (inl refl)) (map_same f g xs (λ y there. each y (inr there)))
+
+module _ (plan : PlanFields) (k : ℕ) (known : k < length plan.services) (records others : List Record) (same : SameForService plan k records others) where
+  alike : (pid : ℕ) → Member (pids_in plan k) pid → SamePackets pid (span_of plan k pid records) (span_of plan k pid others)
+  alike pid there =
+      span_alike plan k pid (member_behind (cond (length plan.changes == 0) [] (table_pids plan.table)) (pids_in plan k) pid there) records others same
+
+  on : (pid : ℕ) → Member (pids_in plan k) pid → pid_of (service_on plan k pid).kind ≡ Some pid
+  on pid there = pid_on plan k pid (record { service = known; own = contains_member (pids_in plan k) pid there })
+
+  pub delivered_alike : delivered_of plan k records ≡ delivered_of plan k others
+  delivered_alike =
+      flat_same (delivered_on plan k records) (delivered_on plan k others) (pids_in plan k)
+      (λ pid there.
+      told_same pid (span_of plan k pid records) (span_of plan k pid others) (alike pid there) true plan.recording (service_on plan k pid) (on pid there))
+
+  pub numbers_alike : numbers_of plan k records ≡ numbers_of plan k others
+  numbers_alike =
+      ap (fold sum_of_numbers no_numbers)
+      (map_same (numbers_on plan k records) (numbers_on plan k others) (pids_in plan k)
+      (λ pid there. service_numbers_same pid (span_of plan k pid records) (span_of plan k pid others) (alike pid there) (service_on plan k pid) (on pid there)))
+
+  pub unit_numbers_alike : unit_numbers_of plan k records ≡ unit_numbers_of plan k others
+  unit_numbers_alike =
+      ap (unit_numbers (service_at plan k))
+      (flat_same (λ pid. units_of (service_on plan k pid) (span_of plan k pid records)) (λ pid. units_of (service_on plan k pid) (span_of plan k pid others)) (pids_in plan k)
+      (λ pid there. service_units_same pid (span_of plan k pid records) (span_of plan k pid others) (alike pid there) (service_on plan k pid) (on pid there)))
+
+  pub frame_numbers_alike : frame_numbers_of plan k records ≡ frame_numbers_of plan k others
+  frame_numbers_alike =
+      ap (fold sum_of_frames no_frames)
+      (map_same (frame_numbers_on true plan k records) (frame_numbers_on true plan k others) (pids_in plan k)
+      (λ pid there.
+      ap (frame_numbers (rows_of (service_on plan k pid).kind))
+      (told_frames_same pid (span_of plan k pid records) (span_of plan k pid others) (alike pid there) true plan.recording (service_on plan k pid).kind (on pid there))))

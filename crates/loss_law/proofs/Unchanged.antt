@@ -4,14 +4,18 @@ use Rattle.std.specs.Prelude.{Contains}
 use Rattle.std.specs.List.{range_with_len, filter_map, cons_option}
 use Rattle.ts_spec.specs.Recording.{Record}
 use Rattle.carriage_spec.specs.Channel.{Channel}
-use Rattle.carriage_spec.specs.Carried.{NoUndetectedError}
+use Rattle.carriage_spec.specs.Carried.{NoUndetectedError, IsAccepted}
 use Rattle.carriage_law.proofs.Member.{member_contains}
 use Rattle.plan_spec.specs.Plan.{ChangeFields, PlanFields, pid_of, table_pids}
 use Rattle.plan_spec.specs.Changes.{no_service, pid_in, pids_in, with_pid_behind, all_pids}
 use Rattle.plan_law.proofs.Pids.{pids_by_place}
-use Rattle.stream_spec.specs.Services.{kind_at, form_of_kind, Carries}
+use Rattle.stream_spec.specs.Services.{kind_at, form_of_kind, IsPidOf, Carries}
 use Rattle.reception_spec.specs.Packets.{heard_pids}
-use Rattle.loss_law.specs.Loss.{service_at, IsRecorded}
+use Rattle.section_spec.specs.Section.{section_form}
+use Rattle.reception_spec.specs.Spans.{span_of}
+use Rattle.loss_law.specs.Loss.{service_at}
+use Rattle.loss_law.specs.Frames.{HasMomentsFor, IsHeardOften}
+use Rattle.loss_law.specs.Plans.{IsRecorded}
 use Rattle.loss_law.specs.Spans.{IsRecordedInSpans}
 use Rattle.loss_law.proofs.Plan.{kind_of_service, pid_of_first}
 use Rattle.loss_law.proofs.ServiceSpans.{span_whole}
@@ -49,25 +53,43 @@ only_pid (Some own) pid there = by_member (member_contains (own ∷ []) pid ther
     by_member (inl same) = ap (λ (p : ℕ). Some p) same
     by_member (inr never) = absurd never
 
-abbrev Detects : (plan : PlanFields) (sent : List Record) (datagrams : ℕ → ℕ → List (List ℕ)) → Carries plan sent datagrams → (recorded : List Record) → (pids : List ℕ) → Channel pids sent recorded → Type 0
-Detects plan sent datagrams carries recorded pids channel =
-    (k pid : ℕ) → k < length plan.services → pid_of (kind_at plan k) ≡ Some pid
-    → NoUndetectedError channel recorded (form_of_kind (kind_at plan k)) pid (carries.units k pid) (carries.begin k pid)
+-- all that is asked of a recording, for a receiver that reads these PIDs
+record Asks (plan : PlanFields) (sent : List Record) (datagrams : ℕ → ℕ → List (List ℕ)) (carries : Carries plan sent datagrams) (recorded : List Record) (pids : List ℕ) : Type 0 where
+  channel : Channel pids sent recorded
+  detected : (k pid : ℕ) → k < length plan.services → pid_of (kind_at plan k) ≡ Some pid
+      → NoUndetectedError channel recorded (form_of_kind (kind_at plan k)) pid (carries.units k pid) (carries.begin k pid)
+  often : (k pid : ℕ) (own : IsPidOf plan k pid) → pid_of (kind_at plan k) ≡ Some pid
+      → IsHeardOften (kind_at plan k) plan.recording (carries.before k pid) (carries.units k pid) (carries.moments k pid) (datagrams k pid) (carries.carried k pid own)
+      (IsAccepted channel recorded section_form pid (carries.units k pid) (carries.begin k pid))
+  moments : (k pid : ℕ) → k < length plan.services → pid_of (kind_at plan k) ≡ Some pid → HasMomentsFor (kind_at plan k) plan.recording channel recorded pid
 
 pub recorded_alone : (plan : PlanFields) (sent : List Record) (datagrams : ℕ → ℕ → List (List ℕ)) (carries : Carries plan sent datagrams) (recorded : List Record)
     → plan.changes ≡ [] → IsRecorded plan sent datagrams carries recorded → IsRecordedInSpans plan sent datagrams carries recorded
 recorded_alone plan sent datagrams carries recorded none is = record {
-  channel = moved.0;
+  channel = moved.channel;
   detected = λ k pid own.
-      let first : pid_of (service_at plan k).kind ≡ Some pid
-      = only_pid (pid_of (service_at plan k).kind) pid (subst (λ (pids : List ℕ). Contains pids pid) (first_alone plan none k) own.own) in
-      let on : pid_of (kind_at plan k) ≡ Some pid = ap pid_of (sym (kind_of_service plan k own.service)) ∙ first in
-      subst (λ (span : List Record). NoUndetectedError moved.0 span (form_of_kind (kind_at plan k)) pid (carries.units k pid) (carries.begin k pid))
-      (sym (span_whole plan k pid recorded none (pid_of_first plan k pid own.service on)))
-      (moved.1 k pid own.service on);
+      subst (λ (span : List Record). NoUndetectedError moved.channel span (form_of_kind (kind_at plan k)) pid (carries.units k pid) (carries.begin k pid))
+      (sym (whole k pid own)) (moved.detected k pid own.service (on k pid own));
+  often = λ k pid own.
+      subst
+      (λ (span : List Record).
+      IsHeardOften (kind_at plan k) plan.recording (carries.before k pid) (carries.units k pid) (carries.moments k pid) (datagrams k pid) (carries.carried k pid own)
+      (IsAccepted moved.channel span section_form pid (carries.units k pid) (carries.begin k pid)))
+      (sym (whole k pid own)) (moved.often k pid own (on k pid own));
+  moments = λ k pid own.
+      subst (λ (span : List Record). HasMomentsFor (kind_at plan k) plan.recording moved.channel span pid)
+      (sym (whole k pid own)) (moved.moments k pid own.service (on k pid own));
 }
   where
-    moved : (channel : Channel (all_pids plan) sent recorded) × Detects plan sent datagrams carries recorded (all_pids plan) channel
+    moved : Asks plan sent datagrams carries recorded (all_pids plan)
     moved =
-        subst (λ (pids : List ℕ). (channel : Channel pids sent recorded) × Detects plan sent datagrams carries recorded pids channel) (read_alone plan none)
-        (is.channel, is.detected)
+        subst (Asks plan sent datagrams carries recorded) (read_alone plan none)
+        (record { channel = is.channel; detected = is.detected; often = is.often; moments = is.moments })
+
+    on : (k pid : ℕ) → IsPidOf plan k pid → pid_of (kind_at plan k) ≡ Some pid
+    on k pid own =
+        ap pid_of (sym (kind_of_service plan k own.service))
+        ∙ only_pid (pid_of (service_at plan k).kind) pid (subst (λ (pids : List ℕ). Contains pids pid) (first_alone plan none k) own.own)
+
+    whole : (k pid : ℕ) → IsPidOf plan k pid → span_of plan k pid recorded ≡ recorded
+    whole k pid own = span_whole plan k pid recorded none (pid_of_first plan k pid own.service (on k pid own))

@@ -1,4 +1,5 @@
-//! What becomes of the datagrams of a service, and of all services of a plan, through a channel that loses records.
+//! What becomes of the datagrams of a service, and of all services of a plan, through a channel that loses records: in SNDUs, in
+//! datagram_sections, and in MPE-FEC frames (EN 301 192 clause 9).
 //!
 //! Laws over definitions alone: each is a function that does nothing, whose contract is the law.
 //! They stand on reception_spec, stream_spec and carriage_law; what receives stands on them.
@@ -17,6 +18,7 @@ pub use isolation::{
 };
 pub use loss::{
     a_service_delivers_what_arrived_intact, a_service_without_filter_wants_all,
+    datagrams_of_sections_that_arrived_intact_are_delivered,
     datagrams_that_arrived_intact_are_delivered, each_service_delivers_what_arrived_intact,
     sections_are_a_lawful_kind_of_unit,
 };

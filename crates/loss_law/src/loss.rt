@@ -1,53 +1,81 @@
 //! What a service delivers of what was sent.
-ghost use Rattle.std.specs.Prelude.{◌≡◌, ℕ, ◌<◌, List, [], length, flat_map, Contains, Some};
+ghost use Rattle.std.specs.Prelude.{◌≡◌, ℕ, ◌<◌, List, [], length, slice_index_or, flat_map, Contains, true, Some};
 ghost use Rattle.wire_spec.specs.Lists.{IsSubsequence};
 ghost use Rattle.ts_spec.specs.Form.{IsLawful};
-ghost use Rattle.ts_spec.specs.Recording.{Record};
+ghost use Rattle.ts_spec.specs.Recording.{RecordingForm, Record};
 ghost use Rattle.ts_spec.specs.Packetized.{unit_at};
 ghost use Rattle.section_spec.specs.Section.{section_form};
 ghost use Rattle.carriage_spec.specs.Channel.{Channel};
 ghost use Rattle.carriage_spec.specs.Spans.{IsSpanOf};
-ghost use Rattle.carriage_spec.specs.Carried.{NoUndetectedError, ArrivedIntact, IsRising};
+ghost use Rattle.carriage_spec.specs.Carried.{NoUndetectedError, ArrivedIntact, IsRising, IsAccepted};
 ghost use Rattle.plan_spec.specs.Plan.{ServiceFields, PlanFields, pid_of};
-ghost use Rattle.stream_spec.specs.Services.{form_of_kind, carried_by_unit, Carries};
+ghost use Rattle.stream_spec.specs.Services.{form_of_kind, AreCarried, Carries};
 ghost use Rattle.reception_spec.specs.Units.{delivered_by_unit};
-ghost use Rattle.reception_spec.specs.Delivered.{delivered_datagrams};
-ghost use Rattle.loss_law.specs.Loss.{wanted_datagrams, CarriesOn, DeliversIntact, service_at, IsRecorded, DeliversEach};
+ghost use Rattle.reception_spec.specs.Delivered.{told_by};
+ghost use Rattle.frame_spec.specs.Sections.{TimedSection};
+ghost use Rattle.frame_spec.specs.Frame.{FrameFields};
+ghost use Rattle.frame_law.specs.Recovered.{no_frame, IsRecoverableFrom};
+ghost use Rattle.loss_law.specs.Frames.{HasMomentsFor, IsHeardOften, own_of_unit, DeliversFrames, DeliversOn, wanted_by};
+ghost use Rattle.loss_law.specs.Loss.{CarriesOn, DeliversIntact};
+ghost use Rattle.loss_law.specs.Plans.{IsRecorded, delivered_whole, DeliversEach};
 
-/// Whatever is dropped, repeated, damaged or inserted: a service delivers wanted datagrams, unchanged and in order, with each whose unit arrived intact.
+/// Whatever is dropped, repeated, damaged or inserted: a service delivers of what its PID carries what arrived intact, by its kind.
 ///
-/// In the whole recording, and in each span of it in which the service has the PID. Time stamps may be any.
-/// Read off the numbers of the units, which rise: nothing is delivered twice, and nothing that arrived intact is missing.
+/// Of SNDUs and datagram_sections wanted datagrams, unchanged and in order, with each whose unit arrived intact: they are read off the numbers
+/// of the units, which rise, so nothing is delivered twice. Time stamps may be any. Of MPE-FEC frames, frame by frame, what is recovered of it.
+/// In the whole recording, and in each span of it in which the service has the PID.
 pub fn a_service_delivers_what_arrived_intact()
     ensures delivers { (pids : List ℕ) (sent recorded : List Record) (channel : Channel pids sent recorded) (span : List Record) → IsSpanOf span recorded
-        → (service : ServiceFields) (pid : ℕ) → Contains pids pid → pid_of service.kind ≡ Some pid
-        → (datagrams : List (List ℕ)) (carries : CarriesOn service.kind pid sent datagrams)
+        → (form : RecordingForm) (service : ServiceFields) (pid : ℕ) → Contains pids pid → pid_of service.kind ≡ Some pid
+        → (datagrams : List (List ℕ)) (carries : CarriesOn form service.kind pid sent datagrams)
         → NoUndetectedError channel span (form_of_kind service.kind) pid carries.units carries.begin
-        → DeliversIntact channel span service pid carries.units carries.begin datagrams (delivered_datagrams service span) }
+        → IsHeardOften service.kind form carries.before carries.units carries.moments datagrams carries.carried
+        (IsAccepted channel span section_form pid carries.units carries.begin)
+        → HasMomentsFor service.kind form channel span pid
+        → DeliversOn service.kind form carries.before carries.units carries.moments datagrams carries.carried channel span service pid carries.begin
+        (told_by true form service span) }
 {}
 
-/// The wanted datagrams of units that arrived intact are a subsequence of those delivered: each as often as such units carry it.
+/// The wanted datagrams of SNDUs and datagram_sections that arrived intact are a subsequence of those delivered: each as often as such units
+/// carry it. What is delivered is as `a_service_delivers_what_arrived_intact` says of these kinds.
 pub fn datagrams_that_arrived_intact_are_delivered()
-    ensures delivered { (pids : List ℕ) (sent recorded : List Record) (channel : Channel pids sent recorded) (span : List Record) → IsSpanOf span recorded
-        → (service : ServiceFields) (pid : ℕ) → Contains pids pid → pid_of service.kind ≡ Some pid
-        → (datagrams : List (List ℕ)) (carries : CarriesOn service.kind pid sent datagrams)
-        → NoUndetectedError channel span (form_of_kind service.kind) pid carries.units carries.begin
-        → (intact : List ℕ) → IsRising 0 intact
-        → ((n : ℕ) → Contains intact n → (n < length carries.units) × ArrivedIntact channel span pid carries.units carries.begin n)
-        → IsSubsequence (flat_map (λ n. delivered_by_unit service (unit_at carries.units n)) intact) (delivered_datagrams service span) }
+    ensures delivered { (pids : List ℕ) (sent recorded : List Record) (channel : Channel pids sent recorded) (span : List Record)
+        → (service : ServiceFields) (pid : ℕ) (units : List (List ℕ)) (begin : ℕ → ℕ) (datagrams delivered : List (List ℕ))
+        → DeliversIntact channel span service pid units begin datagrams delivered
+        → (intact : List ℕ) → IsRising 0 intact → ((n : ℕ) → Contains intact n → (n < length units) × ArrivedIntact channel span pid units begin n)
+        → IsSubsequence (flat_map (λ n. delivered_by_unit service (unit_at units n)) intact) delivered }
 {}
 
-/// The same of each service of a plan that has a PID.
+/// Of MPE-FEC frames the datagrams whose own sections arrived intact are a subsequence of those delivered, whatever became of the other
+/// sections of their frames; and so are all datagrams of a frame in which no row has more than 64 bytes that the sections that arrived intact
+/// do not tell.
+pub fn datagrams_of_sections_that_arrived_intact_are_delivered()
+    ensures own { (pids : List ℕ) (sent recorded : List Record) (channel : Channel pids sent recorded) (span : List Record)
+        → (pid rows : ℕ) (units : List (List ℕ)) (begin : ℕ → ℕ)
+        → (fields : List FrameFields) (frames : List (List TimedSection)) (datagrams delivered : List (List ℕ))
+        → DeliversFrames channel span pid rows units begin fields frames datagrams delivered
+        → (intact : List ℕ) → IsRising 0 intact → ((n : ℕ) → Contains intact n → (n < length units) × ArrivedIntact channel span pid units begin n)
+        → IsSubsequence (flat_map (λ n. own_of_unit rows (unit_at units n)) intact) delivered }
+    ensures frame { (pids : List ℕ) (sent recorded : List Record) (channel : Channel pids sent recorded) (span : List Record)
+        → (pid rows : ℕ) (units : List (List ℕ)) (begin : ℕ → ℕ)
+        → (fields : List FrameFields) (frames : List (List TimedSection)) (datagrams delivered : List (List ℕ))
+        → DeliversFrames channel span pid rows units begin fields frames datagrams delivered
+        → (i : ℕ) → i < length fields → IsRecoverableFrom rows units frames (ArrivedIntact channel span pid units begin) i
+        → IsSubsequence (slice_index_or fields i no_frame).datagrams delivered }
+{}
+
+/// Each service of a plan that has a PID delivers so by its kind: what arrived intact, or of MPE-FEC frames, frame by frame, what is recovered of it.
 pub fn each_service_delivers_what_arrived_intact()
     ensures delivers { (plan : PlanFields) (sent : List Record) (datagrams : ℕ → ℕ → List (List ℕ)) (carries : Carries plan sent datagrams)
         → (recorded : List Record) (is_recorded : IsRecorded plan sent datagrams carries recorded)
-        → DeliversEach plan sent datagrams carries recorded is_recorded (λ k. delivered_datagrams (service_at plan k) recorded) }
+        → DeliversEach plan sent datagrams carries recorded is_recorded (λ k. delivered_whole plan k recorded) }
 {}
 
-/// Without a filter all datagrams of the units are wanted.
+/// Without a filter all datagrams are wanted that a PID carries, by units or in MPE-FEC frames.
 pub fn a_service_without_filter_wants_all()
-    ensures all { (service : ServiceFields) (units : List (List ℕ)) → service.filter ≡ []
-        → wanted_datagrams service units ≡ flat_map (carried_by_unit service.kind) units }
+    ensures all { (form : RecordingForm) (service : ServiceFields) (pid : ℕ) → pid_of service.kind ≡ Some pid
+        → (before : ℕ) (units : List (List ℕ)) (moments : ℕ → ℕ) (datagrams : List (List ℕ))
+        → AreCarried form service.kind before units moments datagrams → service.filter ≡ [] → wanted_by service.kind service units datagrams ≡ datagrams }
 {}
 
 /// Sections are a lawful kind of unit.

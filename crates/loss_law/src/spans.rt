@@ -8,12 +8,14 @@ ghost use Rattle.plan_spec.specs.Changes.{all_pids};
 ghost use Rattle.stream_spec.specs.Services.{kind_at, Carries};
 ghost use Rattle.reception_spec.specs.Packets.{heard_pids};
 ghost use Rattle.reception_spec.specs.Spans.{version_at_place, is_heard_on, span_of};
-ghost use Rattle.reception_spec.specs.Delivered.{delivered_datagrams, delivered_of};
-ghost use Rattle.loss_law.specs.Loss.{service_at, IsRecorded};
+ghost use Rattle.reception_spec.specs.Delivered.{delivered_of};
+ghost use Rattle.loss_law.specs.Plans.{IsRecorded, delivered_whole};
 ghost use Rattle.loss_law.specs.Spans.{IsRecordedInSpans, DeliversOverSpans};
 
 /// Over its spans each service delivers wanted datagrams, unchanged and in order, with each whose unit arrived intact in a span.
 ///
+/// Of each MPE-FEC frame a service delivers the datagrams that came in sections of their own at least, and all of them where no row has more
+/// than 64 bytes that the sections that arrived intact do not tell.
 /// Whatever becomes of the records, those of the INT among them: spans may begin and end at any record.
 pub fn each_service_delivers_over_its_spans()
     ensures delivers { (plan : PlanFields) (sent : List Record) (datagrams : ℕ → ℕ → List (List ℕ)) (carries : Carries plan sent datagrams)
@@ -39,7 +41,7 @@ pub fn without_changes_a_span_is_the_recording()
     ensures span { (plan : PlanFields) (k pid : ℕ) (records : List Record) → plan.changes ≡ [] → k < length plan.services
         → pid_of (kind_at plan k) ≡ Some pid → span_of plan k pid records ≡ records }
     ensures delivered { (plan : PlanFields) (k pid : ℕ) (records : List Record) → plan.changes ≡ [] → k < length plan.services
-        → pid_of (kind_at plan k) ≡ Some pid → delivered_of plan k records ≡ delivered_datagrams (service_at plan k) records }
+        → pid_of (kind_at plan k) ≡ Some pid → delivered_of plan k records ≡ delivered_whole plan k records }
     ensures pids { (plan : PlanFields) → plan.changes ≡ [] → heard_pids plan ≡ all_pids plan }
     ensures recorded { (plan : PlanFields) (sent : List Record) (datagrams : ℕ → ℕ → List (List ℕ)) (carries : Carries plan sent datagrams) (recorded : List Record)
         → plan.changes ≡ [] → IsRecorded plan sent datagrams carries recorded → IsRecordedInSpans plan sent datagrams carries recorded }

@@ -1,22 +1,23 @@
 -- Pairs of service and datagram, record by record and service by service.
-use Rattle.std.proofs.Common.{◌≡◌, ◌⊎◌, inl, inr, ℕ, zero, suc, ◌+◌, ◌<◌, ◌≤◌, Bool, true, false, ◌&&◌, cond, eqb, Some, List, [], ◌∷◌, ◌++◌, length, map, flat_map, drop, refl, ap, ap₂, subst, sym, ◌∙◌, arith, append_assoc}
+use Rattle.std.proofs.Common.{◌≡◌, ◌⊎◌, inl, inr, ℕ, zero, suc, ◌+◌, ◌<◌, ◌≤◌, Bool, true, false, ◌&&◌, cond, eqb, Option, None, Some, List, [], ◌∷◌, ◌++◌, length, map, flat_map, drop, refl, ap, ap₂, subst, sym, ◌∙◌, arith, append_assoc}
 use Rattle.std.specs.Prelude.{◌≢◌, is_some}
 use Rattle.std.specs.List.{range_with_len}
 use Rattle.std.proofs.lemmas.Bool.{ne_eqb, eq-eqb, eqb-true, cases_eq}
-use Rattle.std.proofs.lemmas.List.{append-nil, take-append-le, length_push, drop_all}
+use Rattle.std.proofs.lemmas.List.{append-nil, take-append-le, length_push}
 use Rattle.std.proofs.lemmas.List.Concat.{flat_map-append}
 use Rattle.ts_spec.specs.Packet.{fields_of, is_packet}
 use Rattle.ts_spec.specs.Recording.{Record}
-use Rattle.plan_spec.specs.Plan.{PlanFields}
-use Rattle.plan_spec.specs.Changes.{has_wrong_change}
+use Rattle.plan_spec.specs.Plan.{IntFields, PlanFields}
+use Rattle.plan_spec.specs.Changes.{pid_in, has_wrong_change}
 use Rattle.reception_spec.specs.Packets.{is_on}
 use Rattle.reception_spec.specs.Spans.{version_at_end}
-use Rattle.reception_spec.specs.Delivered.{told_of, delivered_of, given_by_record, given_by_end, pairs_of_record, pairs_of_end, told_pairs, delivered_pairs}
+use Rattle.reception_spec.specs.Delivered.{told_of, delivered_of, given_by_record, given_by_end, pairs_of, pairs_of_record, pairs_of_end, told_pairs, delivered_pairs}
 use Rattle.reception_law.specs.Words.{added_on, datagram_of, datagrams_of}
-use Rattle.reception_law.specs.InForce.{pid_in_force}
-use Rattle.reception_law.proofs.VersionInForce.{most}
-use Rattle.reception_law.proofs.Pids.{services_apart}
-use Rattle.reception_law.proofs.WhatIsTold.{told_none, told_stays, given_on, given_by_other}
+use Rattle.reception_law.specs.InForce.{pid_in_force, closed_by_record_on, closed_by_record, closed_at_end_on, closed_at_end}
+use Rattle.reception_law.proofs.VersionInForce.{most, without_table, version_stays}
+use Rattle.reception_law.proofs.Lists.{other_way}
+use Rattle.reception_law.proofs.Pids.{services_apart, table_apart}
+use Rattle.reception_law.proofs.WhatIsTold.{told_none, told_stays, record_gives, given_stays, off_given, given_by_other, nobody_gives, end_on, end_without_pid, all_at_end}
 
 -- the pairs of a service
 abbrev pub pairs_with : (ℕ → List (List ℕ)) → ℕ → List (ℕ × List ℕ)
@@ -64,17 +65,18 @@ pairs_more plan records r =
     (same_below (pairs_of_record plan (records ++ r ∷ [])) (pairs_of_record plan records) 0 (length records) (λ place below. pairs_front plan records r place (omega (arith, below))))
     (append-nil (pairs_of_record plan (records ++ r ∷ []) (length records)))
 
--- the end gives none
-none_of_none : (datagrams : ℕ → List (List ℕ)) → ((k : ℕ) → datagrams k ≡ []) → (from count : ℕ) → pairs_from datagrams from count ≡ []
-none_of_none datagrams none from zero = refl
-none_of_none datagrams none from (suc count) = ap₂ (λ x y. x ++ y) (ap (map (λ datagram. (from, datagram))) (none from)) (none_of_none datagrams none (from + 1) count)
+-- those of the end: of each service what the frame under way gives
+closed_is : (plan : PlanFields) (records : List Record) (k : ℕ) → has_wrong_change plan ≡ false → given_by_end plan k records ≡ closed_at_end plan k records
+closed_is plan records k right = by_force (pid_in_force plan k records) refl
+  where
+    by_force : (o : Option ℕ) → pid_in_force plan k records ≡ o → given_by_end plan k records ≡ closed_at_end_on o plan k records
+    by_force None none = end_without_pid plan k records none
+    by_force (Some pid) on = end_on plan k pid records right on
 
-pub end_none : (plan : PlanFields) (records : List Record) → pairs_of_end plan records ≡ []
-end_none plan records =
-    none_of_none (λ k. given_by_end plan k records) (λ k. drop_all (length (told_of plan k records)) (told_of plan k records) (omega arith)) 0 (length plan.services)
-
-pub all_told : (plan : PlanFields) (records : List Record) → delivered_pairs plan records ≡ told_pairs plan records
-all_told plan records = ap (λ (t : List (ℕ × List ℕ)). told_pairs plan records ++ t) (end_none plan records) ∙ append-nil (told_pairs plan records)
+pub end_closes : (plan : PlanFields) (records : List Record) → has_wrong_change plan ≡ false → pairs_of_end plan records ≡ pairs_of plan (λ k. closed_at_end plan k records)
+end_closes plan records right =
+    same_below (pairs_with (λ k. given_by_end plan k records)) (pairs_with (λ k. closed_at_end plan k records)) 0 (length plan.services)
+    (λ k below. ap (map (λ datagram. (k, datagram))) (closed_is plan records k right))
 
 -- Service by service.
 
@@ -144,8 +146,14 @@ part_is_told plan records k right known = push_rec (λ rs. datagrams_of k (told_
         ∙ ap₂ (λ x y. x ++ y) before (part_of_record plan (rs ++ r ∷ []) (length rs) k known)
         ∙ sym (told_stays plan k rs r right)
 
+pub part_of_end : (plan : PlanFields) (records : List Record) (k : ℕ) → k < length plan.services → datagrams_of k (pairs_of_end plan records) ≡ given_by_end plan k records
+part_of_end plan records k known = of_service (λ j. given_by_end plan j records) k 0 (length plan.services) (omega arith) (omega (arith, known))
+
 pub part_is : (plan : PlanFields) (records : List Record) (k : ℕ) → has_wrong_change plan ≡ false → k < length plan.services → datagrams_of k (delivered_pairs plan records) ≡ delivered_of plan k records
-part_is plan records k right known = ap (datagrams_of k) (all_told plan records) ∙ part_is_told plan records k right known
+part_is plan records k right known =
+    flat_map-append (datagram_of k) (told_pairs plan records) (pairs_of_end plan records)
+    ∙ ap₂ (λ x y. x ++ y) (part_is_told plan records k right known) (part_of_end plan records k known)
+    ∙ sym (all_at_end plan k records right)
 
 no_part_told : (plan : PlanFields) (k : ℕ) → length plan.services ≤ k → (records : List Record) → datagrams_of k (told_pairs plan records) ≡ []
 no_part_told plan k past records = push_rec (λ rs. datagrams_of k (told_pairs plan rs) ≡ []) refl more records
@@ -157,7 +165,10 @@ no_part_told plan k past records = push_rec (λ rs. datagrams_of k (told_pairs p
         ∙ ap₂ (λ x y. x ++ y) before (no_part_of_record plan (rs ++ r ∷ []) (length rs) k past)
 
 pub no_part : (plan : PlanFields) (records : List Record) (k : ℕ) → length plan.services ≤ k → datagrams_of k (delivered_pairs plan records) ≡ []
-no_part plan records k past = ap (datagrams_of k) (all_told plan records) ∙ no_part_told plan k past records
+no_part plan records k past =
+    flat_map-append (datagram_of k) (told_pairs plan records) (pairs_of_end plan records)
+    ∙ ap₂ (λ x y. x ++ y) (no_part_told plan k past records)
+    (none_outside (λ j. given_by_end plan j records) k 0 (length plan.services) (inr (omega (arith, past))))
 
 -- The pairs of one service alone.
 
@@ -194,10 +205,11 @@ none_below datagrams from (suc count) none =
     ap₂ (λ x y. x ++ y) (ap (map (λ datagram. (from, datagram))) (none from (omega arith))) (none_below datagrams (from + 1) count (λ j below. none j (omega (arith, below))))
 
 pub none_given : (plan : PlanFields) (records : List Record) (r : Record) → ((k pid : ℕ) → k < length plan.services → pid_in_force plan k records ≡ Some pid → is_on pid r ≡ false)
+    → ((k : ℕ) → k < length plan.services → pid_in_force plan k (records ++ r ∷ []) ≡ pid_in_force plan k records)
     → pairs_of_record plan (records ++ r ∷ []) (length records) ≡ []
-none_given plan records r off =
+none_given plan records r off stay =
     none_below (λ j. given_by_record plan j (records ++ r ∷ []) (length records)) 0 (length plan.services)
-    (λ j below. given_by_other plan j records r (λ pid on. off j pid (omega (arith, below)) on))
+    (λ j below. given_by_other plan j records r (λ pid on. off j pid (omega (arith, below)) on) (stay j (omega (arith, below))))
 
 -- a packet of a PID is none of another
 one_pid : (timed readable : Bool) (pid other of : ℕ) → (timed && (readable && eqb of pid)) ≡ true → eqb other pid ≡ false → (timed && (readable && eqb of other)) ≡ false
@@ -214,10 +226,46 @@ one_pid true true pid other of on differs = by_test (eqb of other) refl
 pub off_other : (pid other : ℕ) (r : Record) → is_on pid r ≡ true → eqb other pid ≡ false → is_on other r ≡ false
 off_other pid other r on differs = one_pid (is_some r.moment) (is_packet r.bytes) pid other (fields_of r.bytes).pid on differs
 
+-- a packet of a service leaves the version in force
+version_same : (plan : PlanFields) (k pid : ℕ) (records : List Record) (r : Record) → has_wrong_change plan ≡ false → k < length plan.services → pid_in_force plan k records ≡ Some pid
+    → is_on pid r ≡ true → version_at_end plan (records ++ r ∷ []) ≡ version_at_end plan records
+version_same plan k pid records r right known in_force on = by_table plan.table refl
+  where
+    by_table : (table : Option IntFields) → plan.table ≡ table → version_at_end plan (records ++ r ∷ []) ≡ version_at_end plan records
+    by_table None none = without_table plan (records ++ r ∷ []) (length (records ++ r ∷ [])) none ∙ sym (without_table plan records (length records) none)
+    by_table (Some int) is =
+        version_stays plan int records r is
+        (off_other pid int.pid r on (table_apart plan int right (version_at_end plan records) k pid (most plan records (length records)) known is in_force))
+
 pub one_given : (plan : PlanFields) (k pid : ℕ) (records : List Record) (r : Record) → has_wrong_change plan ≡ false → k < length plan.services → pid_in_force plan k records ≡ Some pid
     → is_on pid r ≡ true → pairs_of_record plan (records ++ r ∷ []) (length records) ≡ map (λ (datagram : List ℕ). (k, datagram)) (added_on plan k pid records r)
 one_given plan k pid records r right known in_force on =
-    alone plan k (records ++ r ∷ []) (length records) (added_on plan k pid records r) known (given_on plan k pid records r right in_force)
+    alone plan k (records ++ r ∷ []) (length records) (added_on plan k pid records r) known
+    (record_gives plan k pid records r right in_force ∙ given_stays plan k pid records r (stays k ∙ in_force))
     (λ other known2 differs. given_by_other plan other records r
     (λ pid2 in_force2. off_other pid pid2 r on
-    (services_apart plan right (version_at_end plan records) other k pid2 pid (most plan records (length records)) differs known2 known in_force2 in_force)))
+    (services_apart plan right (version_at_end plan records) other k pid2 pid (most plan records (length records)) differs known2 known in_force2 in_force))
+    (stays other))
+  where
+    stays : (j : ℕ) → pid_in_force plan j (records ++ r ∷ []) ≡ pid_in_force plan j records
+    stays j = ap (λ (v : ℕ). pid_in plan v j) (version_same plan k pid records r right known in_force on)
+
+-- A packet of the INT.
+
+int_gives : (plan : PlanFields) (int : IntFields) (k : ℕ) (records : List Record) (r : Record) → has_wrong_change plan ≡ false → plan.table ≡ Some int → is_on int.pid r ≡ true
+    → k < length plan.services → given_by_record plan k (records ++ r ∷ []) (length records) ≡ closed_by_record plan k records r
+int_gives plan int k records r right is on known = by_force (pid_in_force plan k records) refl
+  where
+    by_force : (o : Option ℕ) → pid_in_force plan k records ≡ o → given_by_record plan k (records ++ r ∷ []) (length records) ≡ closed_by_record_on o plan k records r
+    by_force None none = nobody_gives plan k records r none
+    by_force (Some pid) in_force =
+        record_gives plan k pid records r right in_force
+        ∙ off_given plan k pid records r
+        (off_other int.pid pid r on
+        (other_way int.pid pid (table_apart plan int right (version_at_end plan records) k pid (most plan records (length records)) known is in_force)))
+
+pub int_closes : (plan : PlanFields) (int : IntFields) (records : List Record) (r : Record) → has_wrong_change plan ≡ false → plan.table ≡ Some int → is_on int.pid r ≡ true
+    → pairs_of_record plan (records ++ r ∷ []) (length records) ≡ pairs_of plan (λ k. closed_by_record plan k records r)
+int_closes plan int records r right is on =
+    same_below (pairs_with (λ k. given_by_record plan k (records ++ r ∷ []) (length records))) (pairs_with (λ k. closed_by_record plan k records r)) 0 (length plan.services)
+    (λ k below. ap (map (λ datagram. (k, datagram))) (int_gives plan int k records r right is on (omega (arith, below))))

@@ -1,30 +1,45 @@
 -- How many events there are at most: 189 a packet, so that counters of 64 bits hold those of 2^32 records on 32 PIDs.
-use Rattle.std.proofs.Common.{◌≡◌, ◌⊎◌, inl, inr, ℕ, zero, suc, ◌+◌, ◌*◌, ◌^◌, ◌≤◌, Bool, true, false, cond, ◌&&◌, nat_lt, nat_le, List, [], ◌∷◌, ◌++◌, length, drop, map, flat_map, fold, option_to_list, refl, ap, sym, subst, arith, length-append, length-drop, Option, None, Some}
-use Rattle.std.specs.Prelude.{count_by}
+use Rattle.std.proofs.Common.{◌≡◌, ◌⊎◌, inl, inr, ℕ, zero, suc, ◌+◌, ◌*◌, ◌^◌, ◌≤◌, Bool, true, false, cond, ◌&&◌, ◌||◌, get_or, nat_lt, nat_le, List, [], ◌∷◌, ◌++◌, length, drop, map, flat_map, fold, option_to_list, refl, ap, sym, subst, arith, length-append, length-drop, Option, None, Some}
+use Rattle.std.specs.Prelude.{count_by, sum_by, is_some, is_none}
+use Rattle.std.specs.List.{list_any, range_with_len}
+use Rattle.std.proofs.lemmas.List.FromFn.{length-range_with_len}
 use Rattle.std.proofs.lemmas.List.{length-map}
-use Rattle.std.proofs.lemmas.List.Sums.{count_by-le-length}
+use Rattle.std.proofs.lemmas.List.Sums.{count_by-le-length, sum_by-cons}
 use Rattle.ts_spec.specs.Form.{UnitForm, Span, more, stuffing, whole, bad}
 use Rattle.ts_spec.specs.Packet.{PacketFields, fields_of, is_packet, payload_start, pointer, pointer_fits}
-use Rattle.ts_spec.specs.Recording.{Record}
+use Rattle.ts_spec.specs.Recording.{RecordingForm, Record}
 use Rattle.ts_spec.specs.Received.{Arrival, packet_of, is_of, arrival_of, arrivals_from, arrivals, repeats, received_after, received_packets}
 use Rattle.ts_spec.specs.Reassembly.{Outcome, candidate, bad_length, delimit, no_outcome, outcome_of, bytes_from, starts_behind, starts_within, unit_starts}
 use Rattle.ts_spec.specs.Events.{Event, unit_event, bad_check_event, delimit_event, bad_length_event, event_by, event_at, misfit_events, packet_events, events_of}
 use Rattle.ts_spec.specs.Packet.{continues}
+use Rattle.ts_spec.specs.Reassembly.{PlacedUnit, accepted_units}
+use Rattle.section_spec.specs.Section.{section_form}
+use Rattle.section_spec.specs.Mpe.{MpeFields}
+use Rattle.wire_spec.specs.Datagram.{front_length}
+use Rattle.slice_spec.specs.Sections.{Timing}
+use Rattle.frame_spec.specs.Sections.{FrameSection, TimedSection, ends_frame, data_of, sections_of, frame_sections_in, timed_section, sections_of_unit, frame_sections}
+use Rattle.frame_spec.specs.Groups.{timing_in, is_cut, frames_from, received_frames, closed_frames}
+use Rattle.frame_spec.specs.Known.{known_byte}
+use Rattle.frame_spec.specs.Corrected.{corrected_row, corrected_byte, lacks_data, mended_rows, left_rows}
+use Rattle.frame_spec.specs.Starts.{known_run, is_first_start, tells_end, starts_below, front_datagram, datagram_from}
+use Rattle.frame_spec.specs.Delivered.{frame_datagrams, datagrams_of_frames}
+use Rattle.frame_law.proofs.Units.{one_section}
 use Rattle.reassembly_law.specs.UnderWay.{unit_of_event}
 use Rattle.plan_spec.specs.Plan.{KindFields, ule, mpe, fec, gse, ServiceFields, PlanFields, pid_of}
-use Rattle.plan_spec.specs.Changes.{pids_in}
+use Rattle.plan_spec.specs.Changes.{no_service, pids_in}
 use Rattle.stream_spec.specs.Services.{carried_by_unit, form_of_kind}
 use Rattle.reception_spec.specs.Units.{wants_unit, is_unread, is_filtered, delivered_by_unit}
 use Rattle.reception_spec.specs.Numbers.{gaps_behind, gaps_in, is_unit, is_bad_check, is_delimit, is_bad_length, PidNumbers, no_numbers, UnitNumbers, numbers_if_on, units_on, units_of}
 use Rattle.reception_spec.specs.Spans.{span_from, span_of}
-use Rattle.reception_spec.specs.Delivered.{service_on}
-use Rattle.reception_spec.specs.Sums.{sum_of_numbers, numbers_on, numbers_of, unit_numbers_of}
-use Rattle.reception_law.specs.Sums.{no_units, sum_of_units, unit_numbers_on, other_pids, numbers_before, unit_numbers_before, AreAtMost, UnitsAreAtMost}
+use Rattle.reception_spec.specs.Frames.{frames_received, told_frames, rows_of, FrameNumbers, no_frames, sum_of_frames}
+use Rattle.reception_spec.specs.Delivered.{service_on, is_not_heard}
+use Rattle.reception_spec.specs.Sums.{sum_of_numbers, numbers_on, numbers_of, unit_numbers_of, frame_numbers_on, frame_numbers_of, told_frame_numbers}
+use Rattle.reception_law.specs.Sums.{no_units, sum_of_units, unit_numbers_on, other_pids, numbers_before, unit_numbers_before, frame_numbers_before, AreAtMost, UnitsAreAtMost, FramesAreAtMost}
 use Rattle.reception_law.proofs.Fronts.{units_in, units_are}
-use Rattle.reception_law.proofs.OtherPid.{pid_or_none}
+use Rattle.reception_law.proofs.OtherPid.{pid_or_none, rows_stay}
 use Rattle.reception_law.proofs.Lists.{but}
 use Rattle.reception_law.proofs.Pids.{few}
-use Rattle.reception_law.proofs.Sums.{first_and_rest, numbers_sum, units_sum, units_by_pids}
+use Rattle.reception_law.proofs.Sums.{first_and_rest, numbers_sum, units_sum, frames_sum, units_by_pids}
 
 module _ (form : UnitForm) where
   few_starts : (most place : ℕ) (bytes : List ℕ) → length (starts_within form most place bytes) ≤ most
@@ -280,6 +295,153 @@ few_unit_numbers plan k pid records = record {
           from_size plan records k pid 0 records,
         )
 
+-- The numbers of its frames.
+
+few_from_group : (timing : Timing) (rows : ℕ) (group sections : List TimedSection) → length (frames_from timing rows group sections) ≤ suc (length sections)
+few_from_group timing rows group [] = omega arith
+few_from_group timing rows group (x ∷ sections) =
+    by_cut (is_cut timing rows group x) (few_from_group timing rows (x ∷ []) sections) (few_from_group timing rows (group ++ x ∷ []) sections)
+  where
+    by_cut : (b : Bool) → length (frames_from timing rows (x ∷ []) sections) ≤ suc (length sections) → length (frames_from timing rows (group ++ x ∷ []) sections) ≤ suc (length sections)
+        → length (cond {A = List (List TimedSection)} b (group ∷ frames_from timing rows (x ∷ []) sections) (frames_from timing rows (group ++ x ∷ []) sections)) ≤ suc (suc (length sections))
+    by_cut true next same = omega (arith, next)
+    by_cut false next same = omega (arith, same)
+
+few_of_sections : (timing : Timing) (rows : ℕ) (sections : List TimedSection) → length (received_frames timing rows sections) ≤ length sections
+few_of_sections timing rows [] = omega arith
+few_of_sections timing rows (x ∷ sections) = few_from_group timing rows (x ∷ []) sections
+
+few_closed : (ended : Bool) (frames : List (List TimedSection)) → length (closed_frames ended frames) ≤ length frames
+few_closed ended [] = omega arith
+few_closed ended (group ∷ []) = by_test (ended || list_any ends_frame (sections_of group))
+  where
+    by_test : (b : Bool) → length (cond {A = List (List TimedSection)} b (group ∷ []) []) ≤ 1
+    by_test true = omega arith
+    by_test false = omega arith
+few_closed ended (group ∷ next ∷ others) = omega (arith, few_closed ended (next ∷ others))
+
+few_of_unit : (rows : ℕ) (accepted : PlacedUnit) → length (sections_of_unit rows accepted) ≤ 1
+few_of_unit rows accepted = by_one (frame_sections_in rows accepted.unit) (one_section rows accepted.unit)
+  where
+    by_one : (xs : List FrameSection) → (xs ≡ []) ⊎ ((s : FrameSection) × (xs ≡ s ∷ [])) → length (map (timed_section accepted.moment) xs) ≤ 1
+    by_one xs (inl none) = omega (arith, length-map xs (timed_section accepted.moment), ap (λ (l : List FrameSection). length l) none)
+    by_one xs (inr one) = omega (arith, length-map xs (timed_section accepted.moment), ap (λ (l : List FrameSection). length l) one.1)
+
+few_of_units : (rows : ℕ) (accepted : List PlacedUnit) → length (flat_map (sections_of_unit rows) accepted) ≤ length accepted
+few_of_units rows [] = omega arith
+few_of_units rows (x ∷ accepted) =
+    omega (arith, few_of_unit rows x, few_of_units rows accepted, length-append (sections_of_unit rows x) (flat_map (sections_of_unit rows) accepted))
+
+few_frame_sections : (rows pid : ℕ) (records : List Record) → length (frame_sections rows pid records) ≤ 189 * length records
+few_frame_sections rows pid records =
+    omega (
+      arith,
+      few_of_units rows (accepted_units section_form pid records),
+      few_units section_form (Some pid) pid (inl refl) records,
+      length-map (accepted_units section_form pid records) (λ (x : PlacedUnit). x.unit),
+    )
+
+few_frames : (form : RecordingForm) (kind : KindFields) (records : List Record) → length (frames_received form kind records) ≤ 189 * length records
+few_frames form (ule pid address packing) records = omega arith
+few_frames form (mpe pid) records = omega arith
+few_frames form (fec pid rows parity window) records =
+    omega (
+      arith,
+      few_of_sections (timing_in form (is_some window)) rows (frame_sections rows pid records),
+      few_frame_sections rows pid records,
+    )
+few_frames form (gse isi address) records = omega arith
+
+-- a frame has that many rows, and a datagram at each place at most
+few_in_range : (p : ℕ → Bool) (rows : ℕ) → count_by p (range_with_len 0 rows) ≤ rows
+few_in_range p rows = omega (arith, count_by-le-length p (range_with_len 0 rows), length-range_with_len 0 rows)
+
+few_places : (rows : ℕ) (bytes : ℕ → Option ℕ) (sections : List MpeFields) (n : ℕ) → length (starts_below rows bytes sections n) ≤ n
+unfolding starts_below
+few_places rows bytes sections zero = omega arith
+few_places rows bytes sections (suc n) =
+    by_test (is_first_start sections n || list_any (tells_end rows bytes n) (starts_below rows bytes sections n)) (few_places rows bytes sections n)
+  where
+    by_test : (b : Bool) → length (starts_below rows bytes sections n) ≤ n → length (starts_below rows bytes sections n ++ cond {A = List ℕ} b (n ∷ []) []) ≤ suc n
+    by_test true later = omega (arith, later, length-append (starts_below rows bytes sections n) (n ∷ []))
+    by_test false later = omega (arith, later, length-append (starts_below rows bytes sections n) [])
+
+few_at_front : (run : List ℕ) (o : Option ℕ) → length (front_datagram run o) ≤ 1
+few_at_front run None = omega arith
+few_at_front run (Some n) = omega arith
+
+few_at_places : (rows : ℕ) (bytes : ℕ → Option ℕ) (places : List ℕ) → length (flat_map (datagram_from rows bytes) places) ≤ length places
+few_at_places rows bytes [] = omega arith
+few_at_places rows bytes (place ∷ places) =
+    omega (
+      arith,
+      few_at_front (known_run rows bytes place) (front_length (known_run rows bytes place)),
+      few_at_places rows bytes places,
+      length-append (datagram_from rows bytes place) (flat_map (datagram_from rows bytes) places),
+    )
+
+few_in_frame : (rows : ℕ) (sections : List FrameSection) → rows ≤ 1024 → length (frame_datagrams rows sections) ≤ 195585
+few_in_frame rows sections least =
+    omega (
+      arith,
+      least,
+      few_at_places rows (corrected_byte rows (known_byte rows sections)) (starts_below rows (corrected_byte rows (known_byte rows sections)) (data_of sections) (191 * rows + 1)),
+      few_places rows (corrected_byte rows (known_byte rows sections)) (data_of sections) (191 * rows + 1),
+    )
+
+few_in_frames : (rows : ℕ) → rows ≤ 1024 → (frames : List (List TimedSection)) → length (datagrams_of_frames rows frames) ≤ 195585 * length frames
+few_in_frames rows least [] = omega arith
+few_in_frames rows least (group ∷ frames) =
+    omega (
+      arith,
+      few_in_frame rows (sections_of group) least,
+      few_in_frames rows least frames,
+      length-append (frame_datagrams rows (sections_of group)) (datagrams_of_frames rows frames),
+    )
+
+few_by : (f : List TimedSection → ℕ) → ((group : List TimedSection) → f group ≤ 195585) → (frames : List (List TimedSection)) → sum_by f frames ≤ 195585 * length frames
+few_by f each [] = omega arith
+few_by f each (group ∷ frames) = omega (arith, each group, few_by f each frames, sum_by-cons f group frames)
+
+pub few_frame_numbers : (ended : Bool) (plan : PlanFields) (k pid : ℕ) (records : List Record) → rows_of (get_or plan.services k no_service).kind ≤ 1024
+    → FramesAreAtMost (36965565 * length records) (frame_numbers_on ended plan k records pid)
+few_frame_numbers ended plan k pid records least = record {
+  frames = omega (arith, few);
+  rows_mended = omega (
+    arith,
+    few,
+    few_by (λ (frame : List TimedSection). mended_rows rows (known_byte rows (sections_of frame)))
+        (λ group. omega (arith, few_rows, few_in_range (λ r. lacks_data rows (known_byte rows (sections_of group)) r && is_some (corrected_row rows (known_byte rows (sections_of group)) r)) rows))
+        frames,
+  );
+  rows_left = omega (
+    arith,
+    few,
+    few_by (λ (frame : List TimedSection). left_rows rows (known_byte rows (sections_of frame)))
+        (λ group. omega (arith, few_rows, few_in_range (λ r. lacks_data rows (known_byte rows (sections_of group)) r && is_none (corrected_row rows (known_byte rows (sections_of group)) r)) rows))
+        frames,
+  );
+  datagrams = omega (arith, few, few_in_frames rows few_rows frames);
+}
+  where
+    rows : ℕ
+    rows = rows_of (service_on plan k pid).kind
+
+    few_rows : rows_of (service_on plan k pid).kind ≤ 1024
+    few_rows = omega (arith, least, rows_stay (get_or plan.services k no_service).kind pid)
+
+    frames : List (List TimedSection)
+    frames = told_frames ended plan.recording (service_on plan k pid).kind (span_of plan k pid records)
+
+    few : length (told_frames ended plan.recording (service_on plan k pid).kind (span_of plan k pid records)) ≤ 189 * length records
+    few =
+        omega (
+          arith,
+          few_closed ended (frames_received plan.recording (service_on plan k pid).kind (span_of plan k pid records)),
+          few_frames plan.recording (service_on plan k pid).kind (span_of plan k pid records),
+          from_size plan records k pid 0 records,
+        )
+
 -- Sums over PIDs.
 
 more_at_most : (some most : ℕ) (a b : PidNumbers) → AreAtMost some a → AreAtMost most b → AreAtMost (some + most) (sum_of_numbers a b)
@@ -347,6 +509,34 @@ units_sum_at_most f each (pid ∷ pids) =
     (units_below_more (811748818944 + most_on (length pids)) (most_on (suc (length pids))) (sum_of_units (f pid) (fold sum_of_units no_units (map f pids))) (omega arith)
     (units_more_at_most 811748818944 (most_on (length pids)) (f pid) (fold sum_of_units no_units (map f pids)) (each pid) (units_sum_at_most f each pids)))
 
+frames_more_at_most : (some most : ℕ) (a b : FrameNumbers) → FramesAreAtMost some a → FramesAreAtMost most b → FramesAreAtMost (some + most) (sum_of_frames a b)
+frames_more_at_most some most a b one two = record {
+  frames = omega (arith, one.frames, two.frames);
+  rows_mended = omega (arith, one.rows_mended, two.rows_mended);
+  rows_left = omega (arith, one.rows_left, two.rows_left);
+  datagrams = omega (arith, one.datagrams, two.datagrams);
+}
+
+frames_below_more : (some most : ℕ) (a : FrameNumbers) → some ≤ most → FramesAreAtMost some a → FramesAreAtMost most a
+frames_below_more some most a less one = record {
+  frames = omega (arith, one.frames, less);
+  rows_mended = omega (arith, one.rows_mended, less);
+  rows_left = omega (arith, one.rows_left, less);
+  datagrams = omega (arith, one.datagrams, less);
+}
+
+-- 36,965,565 for each of 2^32 records, on each PID
+abbrev most_frames_on : ℕ → ℕ
+most_frames_on pids = 158765892753162240 * pids
+
+frames_sum_at_most : (f : ℕ → FrameNumbers) → ((pid : ℕ) → FramesAreAtMost 158765892753162240 (f pid)) → (pids : List ℕ)
+    → FramesAreAtMost (most_frames_on (length pids)) (fold sum_of_frames no_frames (map f pids))
+frames_sum_at_most f each [] = record { frames = omega arith; rows_mended = omega arith; rows_left = omega arith; datagrams = omega arith }
+frames_sum_at_most f each (pid ∷ pids) =
+    subst (FramesAreAtMost (most_frames_on (length (pid ∷ pids)))) (sym (first_and_rest sum_of_frames no_frames frames_sum (f pid) (map f pids)))
+    (frames_below_more (158765892753162240 + most_frames_on (length pids)) (most_frames_on (suc (length pids))) (sum_of_frames (f pid) (fold sum_of_frames no_frames (map f pids))) (omega arith)
+    (frames_more_at_most 158765892753162240 (most_frames_on (length pids)) (f pid) (fold sum_of_frames no_frames (map f pids)) (each pid) (frames_sum_at_most f each pids)))
+
 few_but : (pid : ℕ) (pids : List ℕ) → length (but pid pids) ≤ length pids
 few_but pid [] = omega arith
 few_but pid (x ∷ pids) = by_test _ (few_but pid pids)
@@ -373,6 +563,33 @@ module _ (plan : PlanFields) (k : ℕ) (records : List Record) (few_changes : le
   units_few pids less =
       units_below_more (most_on (length pids)) (2 ^ 45) (fold sum_of_units no_units (map (unit_numbers_on plan k records) pids)) (few_pids pids less)
       (units_sum_at_most (unit_numbers_on plan k records) each_unit pids)
+
+  module _ (least : rows_of (get_or plan.services k no_service).kind ≤ 1024) (ended : ℕ → Bool) where
+    each_frames : (pid : ℕ) → FramesAreAtMost 158765892753162240 (frame_numbers_on (ended pid) plan k records pid)
+    each_frames pid =
+        frames_below_more (36965565 * length records) 158765892753162240 (frame_numbers_on (ended pid) plan k records pid) (omega (arith, few_records))
+        (few_frame_numbers (ended pid) plan k pid records least)
+
+    frames_few : (pids : List ℕ) → length pids ≤ length (pids_in plan k)
+        → FramesAreAtMost (2 ^ 63) (fold sum_of_frames no_frames (map (λ pid. frame_numbers_on (ended pid) plan k records pid) pids))
+    frames_few pids less =
+        frames_below_more (most_frames_on (length pids)) (2 ^ 63) (fold sum_of_frames no_frames (map (λ pid. frame_numbers_on (ended pid) plan k records pid) pids))
+        (omega (arith, less, few plan k, few_changes))
+        (frames_sum_at_most (λ pid. frame_numbers_on (ended pid) plan k records pid) each_frames pids)
+
+pub few_frames_before : (plan : PlanFields) (k pid : ℕ) (records : List Record) → rows_of (get_or plan.services k no_service).kind ≤ 1024
+    → length plan.changes ≤ 31 → length records ≤ 2 ^ 32 → FramesAreAtMost (2 ^ 63) (frame_numbers_before plan k pid records)
+few_frames_before plan k pid records least few_changes few_records =
+    frames_few plan k records few_changes few_records least (λ x. true) (other_pids plan k pid) (few_but pid (pids_in plan k))
+
+pub few_frames_of_all : (plan : PlanFields) (k : ℕ) (records : List Record) → rows_of (get_or plan.services k no_service).kind ≤ 1024
+    → length plan.changes ≤ 31 → length records ≤ 2 ^ 32 → FramesAreAtMost (2 ^ 63) (frame_numbers_of plan k records)
+few_frames_of_all plan k records least few_changes few_records = frames_few plan k records few_changes few_records least (λ x. true) (pids_in plan k) (omega arith)
+
+pub few_frames_told : (plan : PlanFields) (k : ℕ) (records : List Record) → rows_of (get_or plan.services k no_service).kind ≤ 1024
+    → length plan.changes ≤ 31 → length records ≤ 2 ^ 32 → FramesAreAtMost (2 ^ 63) (told_frame_numbers plan k records)
+few_frames_told plan k records least few_changes few_records =
+    frames_few plan k records few_changes few_records least (λ x. is_not_heard plan records k x) (pids_in plan k) (omega arith)
 
 pub few_before : (plan : PlanFields) (k pid : ℕ) (records : List Record) → length plan.changes ≤ 31 → length records ≤ 2 ^ 32 → AreAtMost (2 ^ 45) (numbers_before plan k pid records)
 few_before plan k pid records few_changes few_records = numbers_few plan k records few_changes few_records (other_pids plan k pid) (few_but pid (pids_in plan k))

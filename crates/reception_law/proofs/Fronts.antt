@@ -23,7 +23,6 @@ use Rattle.reception_spec.specs.Units.{delivered_by_unit}
 use Rattle.reception_spec.specs.Packets.{is_on}
 use Rattle.reception_spec.specs.Numbers.{units_on, units_of}
 use Rattle.reception_spec.specs.Delivered.{delivered_datagrams}
-use Rattle.reception_law.specs.Words.{added_by}
 
 -- the units of a service that has a PID
 pub units_on_pid : (service : ServiceFields) (pid : ℕ) (records : List Record) → pid_of service.kind ≡ Some pid
@@ -46,7 +45,7 @@ rest_is front whole is =
 front_map : {X Y : Type 0} (f : X → Y) (xs ys : List X) → IsPrefix xs ys → IsPrefix (map f xs) (map f ys)
 front_map f xs ys front = (map f front.0, ap (map f) front.1 ∙ map-append f xs front.0)
 
-front_flat : {X Y : Type 0} (f : X → List Y) (xs ys : List X) → IsPrefix xs ys → IsPrefix (flat_map f xs) (flat_map f ys)
+pub front_flat : {X Y : Type 0} (f : X → List Y) (xs ys : List X) → IsPrefix xs ys → IsPrefix (flat_map f xs) (flat_map f ys)
 front_flat f xs ys front = (flat_map f front.0, ap (flat_map f) front.1 ∙ flat_map-append f xs front.0)
 
 -- all units of a service are of a lawful kind
@@ -75,36 +74,30 @@ units_are form pid records =
     sym (ap (map (λ (timed : ℕ × List ℕ). timed.1)) (of_events form (received_packets pid records))
     ∙ map-map (λ (timed : ℕ × List ℕ). timed.1) (λ (x : PlacedUnit). (x.moment, x.unit)) (accepted_units form pid records))
 
+-- more records, more events
+pub all_events_front : (form : UnitForm) → IsLawful form → (pid : ℕ) (records : List Record) (r : Record)
+    → IsPrefix (events_of form (received_packets pid records)) (events_of form (received_packets pid (records ++ r ∷ [])))
+all_events_front form lawful pid records r =
+    let before : List Arrival = received_packets pid records in
+    let more : List Arrival = received_after (last_bytes None before) (arrival_of pid (length records) r.moment r.bytes) in
+    let events = events_front form lawful before more in
+    (events.0, ap (events_of form) (one_more pid records r).received ∙ events.1)
+
 -- more records, more units
 pub units_front : (form : UnitForm) → IsLawful form → (pid : Option ℕ) (records : List Record) (r : Record) → IsPrefix (units_on form pid records) (units_on form pid (records ++ r ∷ []))
 units_front form lawful None records r = ([], refl)
 units_front form lawful (Some pid) records r =
-    let before : List Arrival = received_packets pid records in
-    let more : List Arrival = received_after (last_bytes None before) (arrival_of pid (length records) r.moment r.bytes) in
-    let events = events_front form lawful before more in
-    let all : IsPrefix (events_of form before) (events_of form (received_packets pid (records ++ r ∷ []))) =
-    (events.0, ap (events_of form) (one_more pid records r).received ∙ events.1) in
-    let units = front_map (λ (timed : ℕ × List ℕ). timed.1) (flat_map unit_of_event (events_of form before)) (flat_map unit_of_event (events_of form (received_packets pid (records ++ r ∷ []))))
-    (front_flat unit_of_event (events_of form before) (events_of form (received_packets pid (records ++ r ∷ []))) all) in
+    let units = front_map (λ (timed : ℕ × List ℕ). timed.1) (flat_map unit_of_event (events_of form (received_packets pid records)))
+    (flat_map unit_of_event (events_of form (received_packets pid (records ++ r ∷ []))))
+    (front_flat unit_of_event (events_of form (received_packets pid records)) (events_of form (received_packets pid (records ++ r ∷ [])))
+    (all_events_front form lawful pid records r)) in
     (units.0, units_are form pid (records ++ r ∷ []) ∙ units.1 ∙ ap (λ t. t ++ units.0) (sym (units_are form pid records)))
 
 -- more records, more datagrams
-delivered_front : (service : ServiceFields) (records : List Record) (r : Record) → IsPrefix (delivered_datagrams service records) (delivered_datagrams service (records ++ r ∷ []))
+pub delivered_front : (service : ServiceFields) (records : List Record) (r : Record) → IsPrefix (delivered_datagrams service records) (delivered_datagrams service (records ++ r ∷ []))
 delivered_front service records r =
     front_flat (delivered_by_unit service) (units_of service records) (units_of service (records ++ r ∷ []))
     (units_front (form_of_kind service.kind) (kind_lawful service.kind) (pid_of service.kind) records r)
-
--- what the last record adds
-pub added_is : (service : ServiceFields) (records : List Record) (r : Record) (added : List (List ℕ)) → delivered_datagrams service (records ++ r ∷ []) ≡ delivered_datagrams service records ++ added
-    → added_by service records r ≡ added
-added_is service records r added more =
-    ap (drop (length (delivered_datagrams service records))) more
-    ∙ drop_at (delivered_datagrams service records) added (length (delivered_datagrams service records)) refl
-
--- one record more
-pub delivered_more : (service : ServiceFields) (records : List Record) (r : Record)
-    → delivered_datagrams service (records ++ r ∷ []) ≡ delivered_datagrams service records ++ added_by service records r
-delivered_more service records r = rest_is (delivered_datagrams service records) (delivered_datagrams service (records ++ r ∷ [])) (delivered_front service records r)
 
 -- nothing is delivered of nothing
 pub no_units_of_nothing : (form : UnitForm) (pid : Option ℕ) → units_on form pid [] ≡ []
@@ -126,7 +119,7 @@ same_arrivals pid records r off =
     ∙ ap (λ (t : List Arrival). arrivals pid records ++ t) (none_arrives pid (length records) r.moment r.bytes off)
     ∙ append-nil (arrivals pid records)
 
-same_packets : (pid : ℕ) (records : List Record) (r : Record) → is_on pid r ≡ false → received_packets pid (records ++ r ∷ []) ≡ received_packets pid records
+pub same_packets : (pid : ℕ) (records : List Record) (r : Record) → is_on pid r ≡ false → received_packets pid (records ++ r ∷ []) ≡ received_packets pid records
 same_packets pid records r off = ap (received_after None) (same_arrivals pid records r off)
 
 -- a service on this PID, or on none
@@ -143,11 +136,6 @@ pub same_datagrams : (service : ServiceFields) (pid : ℕ) → (pid_of service.k
     → is_on pid r ≡ false → delivered_datagrams service (records ++ r ∷ []) ≡ delivered_datagrams service records
 same_datagrams service pid on records r off =
     ap (flat_map (delivered_by_unit service)) (same_units (form_of_kind service.kind) (pid_of service.kind) pid on records r off)
-
-pub none_added : (service : ServiceFields) (pid : ℕ) → (pid_of service.kind ≡ Some pid) ⊎ (pid_of service.kind ≡ None) → (records : List Record) (r : Record)
-    → is_on pid r ≡ false → added_by service records r ≡ []
-none_added service pid on records r off =
-    added_is service records r [] (same_datagrams service pid on records r off ∙ sym (append-nil (delivered_datagrams service records)))
 
 -- a blank record is a packet of no PID
 pub blank_is_off : (pid : ℕ) → is_on pid no_record ≡ false

@@ -1,4 +1,5 @@
 pub mod Fronts
+pub mod Frames
 pub mod OtherPid
 pub mod VersionInForce
 pub mod ServiceSpans

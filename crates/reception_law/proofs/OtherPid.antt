@@ -1,5 +1,5 @@
 -- A service on another PID: all else stays.
-use Rattle.std.proofs.Common.{◌≡◌, ◌⊎◌, inl, inr, ℕ, Option, None, Some, List, get_or, refl, ap, sym, ◌∙◌, Bool, true}
+use Rattle.std.proofs.Common.{◌≡◌, ◌⊎◌, inl, inr, ℕ, Option, None, Some, List, get_or, refl, ap, sym, ◌∙◌, Bool, true, false}
 use Rattle.std.specs.Prelude.{is_some}
 use Rattle.std.proofs.Math.ListN.{get_or-map}
 use Rattle.plan_spec.specs.Plan.{KindFields, ule, mpe, fec, gse, ServiceFields, MovedFields, PlanFields, pid_of}
@@ -8,6 +8,7 @@ use Rattle.plan_law.proofs.Kept.{kept}
 use Rattle.stream_spec.specs.Services.{form_of_kind}
 use Rattle.reception_spec.specs.Units.{delivered_by_unit}
 use Rattle.reception_spec.specs.Numbers.{unit_numbers}
+use Rattle.reception_spec.specs.Frames.{rows_of}
 use Rattle.reception_spec.specs.Delivered.{service_on}
 
 abbrev with_kind : ServiceFields → KindFields → ServiceFields
@@ -40,6 +41,12 @@ numbers_stay service (gse isi address) pid units = refl
 
 pub same_unit_numbers : (service : ServiceFields) (pid : ℕ) (units : List (List ℕ)) → unit_numbers (on_pid service pid) units ≡ unit_numbers service units
 same_unit_numbers service pid units = numbers_stay service service.kind pid units
+
+pub rows_stay : (kind : KindFields) (pid : ℕ) → rows_of (with_pid kind pid) ≡ rows_of kind
+rows_stay (ule old address packing) pid = refl
+rows_stay (mpe old) pid = refl
+rows_stay (fec old rows parity window) pid = refl
+rows_stay (gse isi address) pid = refl
 
 -- The PID itself.
 
@@ -92,3 +99,14 @@ some_pid (gse isi address) pid on = absurd (cc (on))
 pub pid_on : (plan : PlanFields) (version k pid : ℕ) → pid_in plan version k ≡ Some pid → pid_of (service_on plan k pid).kind ≡ Some pid
 pid_on plan version k pid on =
     some_pid (get_or plan.services k no_service).kind pid (sym (some_kept plan version k) ∙ ap (λ (o : Option ℕ). is_some o) on)
+
+-- and where it has none in one version, it has none in another
+pub none_stays : (plan : PlanFields) (version other k : ℕ) → pid_in plan version k ≡ None → pid_in plan other k ≡ None
+none_stays plan version other k none = by_pid (pid_in plan other k) refl
+  where
+    by_pid : (o : Option ℕ) → pid_in plan other k ≡ o → o ≡ None
+    by_pid None is = refl
+    by_pid (Some pid) is =
+        let never : true ≡ false =
+        sym (ap (λ (o : Option ℕ). is_some o) is) ∙ some_kept plan other k ∙ sym (some_kept plan version k) ∙ ap (λ (o : Option ℕ). is_some o) none in
+        absurd (cc (never))

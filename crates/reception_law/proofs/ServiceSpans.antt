@@ -1,5 +1,5 @@
 -- Spans, record by record, and blank ones.
-use Rattle.std.proofs.Common.{◌≡◌, ◌⊎◌, inl, inr, ℕ, ◌+◌, ◌-◌, ◌<◌, ◌≤◌, Bool, true, false, cond, eqb, Option, None, Some, List, [], ◌∷◌, ◌++◌, length, map, flat_map, refl, ap, ap₂, sym, ◌∙◌, arith}
+use Rattle.std.proofs.Common.{◌≡◌, ◌⊎◌, inl, inr, ℕ, ◌+◌, ◌-◌, ◌<◌, ◌≤◌, Bool, true, false, cond, eqb, Option, None, Some, List, [], ◌∷◌, ◌++◌, length, map, flat_map, drop, refl, ap, ap₂, sym, ◌∙◌, arith}
 use Rattle.std.specs.Prelude.{count_by, ◌≢◌}
 use Rattle.std.proofs.lemmas.Bool.{eq-eqb, ne_eqb, eqb-true}
 use Rattle.ts_spec.specs.Form.{UnitForm}
@@ -14,11 +14,16 @@ use Rattle.reception_spec.specs.Units.{delivered_by_unit}
 use Rattle.reception_spec.specs.Packets.{is_on}
 use Rattle.reception_spec.specs.Numbers.{PidNumbers, no_numbers, numbers_if_on, gaps_in, is_unit, is_bad_check, is_delimit, is_bad_length, units_on, units_of, unit_numbers}
 use Rattle.reception_spec.specs.Spans.{is_heard_on, span_from, span_of}
-use Rattle.reception_spec.specs.Delivered.{delivered_datagrams, service_on, told_on}
-use Rattle.reception_spec.specs.Sums.{numbers_on}
+use Rattle.frame_spec.specs.Sections.{TimedSection}
+use Rattle.frame_spec.specs.Groups.{closed_frames}
+use Rattle.reception_spec.specs.Frames.{frames_received, rows_of, frame_numbers}
+use Rattle.reception_spec.specs.Delivered.{delivered_datagrams, told_by, service_on}
+use Rattle.reception_spec.specs.Sums.{numbers_on, frame_numbers_on}
+use Rattle.reception_law.specs.Words.{closed_on}
 use Rattle.reception_law.specs.Sums.{unit_numbers_on}
 use Rattle.reception_law.specs.InForce.{pid_in_force, IsBlank}
-use Rattle.reception_law.proofs.Fronts.{same_arrivals, same_units, same_datagrams, blank_is_off}
+use Rattle.reception_law.proofs.Fronts.{same_arrivals, same_packets, same_units, blank_is_off}
+use Rattle.reception_law.proofs.Frames.{same_told, same_frames, no_frames_on, units_tell}
 use Rattle.reception_law.proofs.OtherPid.{pid_or_none}
 use Rattle.reception_law.proofs.VersionInForce.{before}
 
@@ -90,11 +95,22 @@ span_off plan k pid records r (inr off) = by_test (is_heard_on plan records k pi
     by_test true is = (r, off, span_by plan k pid records r true is)
     by_test false is = (no_record, blank_is_off pid, span_by plan k pid records r false is)
 
-pub told_same : (plan : PlanFields) (k pid : ℕ) (records : List Record) (r : Record) → IsOff plan k pid records r → told_on plan k (records ++ r ∷ []) pid ≡ told_on plan k records pid
-told_same plan k pid records r off =
+-- all that a service tells in the span
+abbrev pub tells : Bool → PlanFields → ℕ → List Record → ℕ → List (List ℕ)
+tells ended plan k records pid = told_by ended plan.recording (service_on plan k pid) (span_of plan k pid records)
+
+pub told_same : (ended : Bool) (plan : PlanFields) (k pid : ℕ) (records : List Record) (r : Record) → IsOff plan k pid records r
+    → tells ended plan k (records ++ r ∷ []) pid ≡ tells ended plan k records pid
+told_same ended plan k pid records r off =
     let more = span_off plan k pid records r off in
-    ap (delivered_datagrams (service_on plan k pid)) more.2
-    ∙ same_datagrams (service_on plan k pid) pid (pid_or_none _ pid) (span_of plan k pid records) more.0 more.1
+    ap (told_by ended plan.recording (service_on plan k pid)) more.2
+    ∙ same_told ended plan.recording (service_on plan k pid) pid (pid_or_none _ pid) (span_of plan k pid records) more.0 more.1
+
+-- a record that is no packet of the PID closes no more of its frames
+pub closed_same : (plan : PlanFields) (k pid : ℕ) (records : List Record) (r : Record) → IsOff plan k pid records r
+    → closed_on plan k pid (records ++ r ∷ []) ≡ closed_on plan k pid records
+closed_same plan k pid records r off =
+    ap₂ (λ (a b : List (List ℕ)). drop (length a) b) (told_same false plan k pid records r off) (told_same true plan k pid records r off)
 
 units_same : (plan : PlanFields) (k pid : ℕ) (records : List Record) (r : Record) → IsOff plan k pid records r
     → units_of (service_on plan k pid) (span_of plan k pid (records ++ r ∷ [])) ≡ units_of (service_on plan k pid) (span_of plan k pid records)
@@ -106,6 +122,15 @@ units_same plan k pid records r off =
 pub unit_numbers_same : (plan : PlanFields) (k pid : ℕ) (records : List Record) (r : Record) → IsOff plan k pid records r
     → unit_numbers_on plan k (records ++ r ∷ []) pid ≡ unit_numbers_on plan k records pid
 unit_numbers_same plan k pid records r off = ap (unit_numbers (service_on plan k pid)) (units_same plan k pid records r off)
+
+pub frame_numbers_same : (ended : Bool) (plan : PlanFields) (k pid : ℕ) (records : List Record) (r : Record) → IsOff plan k pid records r
+    → frame_numbers_on ended plan k (records ++ r ∷ []) pid ≡ frame_numbers_on ended plan k records pid
+frame_numbers_same ended plan k pid records r off =
+    let more = span_off plan k pid records r off in
+    ap (λ (f : List (List TimedSection)). frame_numbers (rows_of (service_on plan k pid).kind) (closed_frames ended f))
+    (ap (frames_received plan.recording (service_on plan k pid).kind) more.2
+    ∙ same_frames plan.recording (service_on plan k pid).kind pid (pid_or_none _ pid) (span_of plan k pid records ++ more.0 ∷ []) (span_of plan k pid records)
+    (same_packets pid (span_of plan k pid records) more.0 more.1))
 
 -- the numbers of a PID, by the packets that arrive on it
 abbrev numbers_by : UnitForm → List Arrival → PidNumbers
@@ -166,9 +191,12 @@ blank_where plan k pid records none = record {
   span = span;
   packets = packets;
   units = units;
-  datagrams = ap (flat_map (delivered_by_unit (service_on plan k pid))) units;
+  datagrams = datagrams;
+  frames = frames;
+  told = λ ended. units_tell ended plan.recording (service_on plan k pid) (span_of plan k pid records) frames ∙ datagrams;
   numbers = no_numbers_on (form_of_kind (service_on plan k pid).kind) (pid_of (service_on plan k pid).kind) pid (pid_or_none _ pid) (span_of plan k pid records) came;
   unit_numbers = ap (unit_numbers (service_on plan k pid)) units;
+  frame_numbers = λ ended. ap (λ (f : List (List TimedSection)). frame_numbers (rows_of (service_on plan k pid).kind) (closed_frames ended f)) frames;
 }
   where
     span : span_of plan k pid records ≡ blank records
@@ -182,3 +210,9 @@ blank_where plan k pid records none = record {
 
     units : units_of (service_on plan k pid) (span_of plan k pid records) ≡ []
     units = no_units_on (form_of_kind (service_on plan k pid).kind) (pid_of (service_on plan k pid).kind) pid (pid_or_none _ pid) (span_of plan k pid records) packets
+
+    datagrams : delivered_datagrams (service_on plan k pid) (span_of plan k pid records) ≡ []
+    datagrams = ap (flat_map (delivered_by_unit (service_on plan k pid))) units
+
+    frames : frames_received plan.recording (service_on plan k pid).kind (span_of plan k pid records) ≡ []
+    frames = no_frames_on plan.recording (service_on plan k pid).kind pid (pid_or_none _ pid) (span_of plan k pid records) packets

@@ -11,17 +11,19 @@ use Rattle.plan_law.proofs.Pids.{is_in, twice, pid_is_in}
 use Rattle.reception_spec.specs.Units.{delivered_by_unit, is_unread, is_filtered}
 use Rattle.reception_spec.specs.Numbers.{PidNumbers, no_numbers, UnitNumbers, units_of, unit_numbers}
 use Rattle.reception_spec.specs.Spans.{version_at_end, span_of}
-use Rattle.reception_spec.specs.Delivered.{service_on}
-use Rattle.reception_spec.specs.Sums.{sum_of_numbers, numbers_on, numbers_of, unit_numbers_of}
+use Rattle.frame_spec.specs.Delivered.{datagrams_of_frames}
+use Rattle.reception_spec.specs.Frames.{told_frames, rows_of, FrameNumbers, no_frames, sum_of_frames}
+use Rattle.reception_spec.specs.Delivered.{delivered_datagrams, service_on, is_not_heard, told_on, told_of, delivered_on, delivered_of}
+use Rattle.reception_spec.specs.Sums.{sum_of_numbers, numbers_on, numbers_of, unit_numbers_of, frame_numbers_on, frame_numbers_of, told_frame_numbers}
 use Rattle.std.specs.Prelude.{slice_index_or}
 use Rattle.reception_law.specs.InForce.{pid_in_force}
-use Rattle.reception_law.specs.Sums.{no_units, sum_of_units, unit_numbers_on, other_pids, numbers_before, unit_numbers_before}
+use Rattle.reception_law.specs.Sums.{no_units, sum_of_units, unit_numbers_on, other_pids, numbers_before, unit_numbers_before, frame_numbers_before}
 use Rattle.reception_law.proofs.OtherPid.{same_unit_numbers}
 use Rattle.reception_law.proofs.VersionInForce.{most}
 use Rattle.reception_law.proofs.Lists.{other_way, but, map_but, but_none}
 use Rattle.reception_law.proofs.Pids.{once}
-use Rattle.reception_law.proofs.ServiceSpans.{not_heard, numbers_same, unit_numbers_same}
-use Rattle.reception_law.proofs.WhatIsTold.{moved_blank, first_blank}
+use Rattle.reception_law.proofs.ServiceSpans.{not_heard, tells, numbers_same, unit_numbers_same, frame_numbers_same}
+use Rattle.reception_law.proofs.WhatIsTold.{moved_blank, first_blank, not_ended, ended_elsewhere}
 
 -- Sums of any kind, whatever the order.
 
@@ -133,6 +135,29 @@ units_sum = record {
   left = λ a. same_units (sum_of_units no_units a) a (add_zero a.unread) (add_zero a.filtered) (add_zero a.datagrams);
 }
 
+abbrev frames_with : ℕ → ℕ → ℕ → ℕ → FrameNumbers
+frames_with f m l d = record { frames = f; rows_mended = m; rows_left = l; datagrams = d }
+
+same_frames : (a b : FrameNumbers) → a.frames ≡ b.frames → a.rows_mended ≡ b.rows_mended → a.rows_left ≡ b.rows_left → a.datagrams ≡ b.datagrams → a ≡ b
+same_frames a b one two three four =
+    ap (λ (x : ℕ). frames_with x a.rows_mended a.rows_left a.datagrams) one
+    ∙ ap (λ (x : ℕ). frames_with b.frames x a.rows_left a.datagrams) two
+    ∙ ap (λ (x : ℕ). frames_with b.frames b.rows_mended x a.datagrams) three
+    ∙ ap (λ (x : ℕ). frames_with b.frames b.rows_mended b.rows_left x) four
+
+pub frames_sum : IsSum sum_of_frames no_frames
+frames_sum = record {
+  assoc = λ a b c.
+      same_frames (sum_of_frames (sum_of_frames a b) c) (sum_of_frames a (sum_of_frames b c))
+      (add_assoc a.frames b.frames c.frames) (add_assoc a.rows_mended b.rows_mended c.rows_mended) (add_assoc a.rows_left b.rows_left c.rows_left)
+      (add_assoc a.datagrams b.datagrams c.datagrams);
+  comm = λ a b.
+      same_frames (sum_of_frames a b) (sum_of_frames b a)
+      (add_comm a.frames b.frames) (add_comm a.rows_mended b.rows_mended) (add_comm a.rows_left b.rows_left) (add_comm a.datagrams b.datagrams);
+  left = λ a.
+      same_frames (sum_of_frames no_frames a) a (add_zero a.frames) (add_zero a.rows_mended) (add_zero a.rows_left) (add_zero a.datagrams);
+}
+
 -- The units of all spans give the sums over the spans.
 
 count_more : {X : Type 0} (p : X → Bool) (xs ys : List X) → count_by p (xs ++ ys) ≡ count_by p xs + count_by p ys
@@ -179,6 +204,60 @@ module _ (plan : PlanFields) (k pid version : ℕ) (records : List Record) (righ
   units_parted : unit_numbers_of plan k records ≡ sum_of_units (unit_numbers_before plan k pid records) (unit_numbers_on plan k records pid)
   units_parted = units_by_pids plan k records ∙ one_and_others sum_of_units no_units units_sum (unit_numbers_on plan k records) pid (pids_in plan k) there apart
 
+  frames_parted : frame_numbers_of plan k records ≡ sum_of_frames (frame_numbers_before plan k pid records) (frame_numbers_on true plan k records pid)
+  frames_parted = one_and_others sum_of_frames no_frames frames_sum (frame_numbers_on true plan k records) pid (pids_in plan k) there apart
+
+  -- told so far: by whether each span has ended
+  told_parted : (ended : ℕ → Bool)
+      → fold sum_of_frames no_frames (map (λ x. frame_numbers_on (ended x) plan k records x) (pids_in plan k))
+      ≡ sum_of_frames (fold sum_of_frames no_frames (map (λ x. frame_numbers_on (ended x) plan k records x) (other_pids plan k pid))) (frame_numbers_on (ended pid) plan k records pid)
+  told_parted ended = one_and_others sum_of_frames no_frames frames_sum (λ x. frame_numbers_on (ended x) plan k records x) pid (pids_in plan k) there apart
+
+pub frames_are : (plan : PlanFields) (k pid version : ℕ) (records : List Record) → has_wrong_change plan ≡ false → version ≤ length plan.changes → pid_in plan version k ≡ Some pid
+    → frame_numbers_of plan k records ≡ sum_of_frames (frame_numbers_before plan k pid records) (frame_numbers_on true plan k records pid)
+frames_are = frames_parted
+
+pub told_frames_are : (plan : PlanFields) (k pid : ℕ) (records : List Record) → has_wrong_change plan ≡ false → pid_in_force plan k records ≡ Some pid
+    → told_frame_numbers plan k records ≡ sum_of_frames (frame_numbers_before plan k pid records) (frame_numbers_on false plan k records pid)
+told_frames_are plan k pid records right_changes on =
+    told_parted plan k pid (version_at_end plan records) records right_changes (most plan records (length records)) on (λ x. is_not_heard plan records k x)
+    ∙ ap₂ sum_of_frames
+    (ap (fold sum_of_frames no_frames)
+    (map_but (λ x. frame_numbers_on (is_not_heard plan records k x) plan k records x) (frame_numbers_on true plan k records) pid
+    (λ x differs. ap (λ (b : Bool). frame_numbers_on b plan k records x) (ended_elsewhere plan k x pid records on (other_way x pid differs))) (pids_in plan k)))
+    (ap (λ (b : Bool). frame_numbers_on b plan k records pid) (not_ended plan k pid records on))
+
+-- All datagrams are counted.
+
+module _ (f : ℕ → List (List ℕ)) (u : ℕ → UnitNumbers) (g : ℕ → FrameNumbers) (each : (pid : ℕ) → length (f pid) ≡ (u pid).datagrams + (g pid).datagrams) where
+  counted : (pids : List ℕ) → length (flat_map f pids) ≡ (fold sum_of_units no_units (map u pids)).datagrams + (fold sum_of_frames no_frames (map g pids)).datagrams
+  counted [] = refl
+  counted (pid ∷ pids) =
+      let units : (fold sum_of_units no_units (u pid ∷ map u pids)).datagrams ≡ (u pid).datagrams + (fold sum_of_units no_units (map u pids)).datagrams
+      = ap (λ (n : UnitNumbers). n.datagrams) (first_and_rest sum_of_units no_units units_sum (u pid) (map u pids)) in
+      let frames : (fold sum_of_frames no_frames (g pid ∷ map g pids)).datagrams ≡ (g pid).datagrams + (fold sum_of_frames no_frames (map g pids)).datagrams
+      = ap (λ (n : FrameNumbers). n.datagrams) (first_and_rest sum_of_frames no_frames frames_sum (g pid) (map g pids)) in
+      omega (arith, length-append (f pid) (flat_map f pids), each pid, counted pids, units, frames)
+
+tells_counted : (ended : Bool) (plan : PlanFields) (k pid : ℕ) (records : List Record)
+    → length (tells ended plan k records pid) ≡ (unit_numbers_on plan k records pid).datagrams + (frame_numbers_on ended plan k records pid).datagrams
+tells_counted ended plan k pid records =
+    length-append (delivered_datagrams (service_on plan k pid) (span_of plan k pid records))
+    (datagrams_of_frames (rows_of (service_on plan k pid).kind) (told_frames ended plan.recording (service_on plan k pid).kind (span_of plan k pid records)))
+
+pub delivered_counted : (plan : PlanFields) (k : ℕ) (records : List Record)
+    → length (delivered_of plan k records) ≡ (unit_numbers_of plan k records).datagrams + (frame_numbers_of plan k records).datagrams
+delivered_counted plan k records =
+    counted (delivered_on plan k records) (unit_numbers_on plan k records) (frame_numbers_on true plan k records) (λ pid. tells_counted true plan k pid records) (pids_in plan k)
+    ∙ ap (λ (n : UnitNumbers). n.datagrams + (frame_numbers_of plan k records).datagrams) (sym (units_by_pids plan k records))
+
+pub told_counted : (plan : PlanFields) (k : ℕ) (records : List Record)
+    → length (told_of plan k records) ≡ (unit_numbers_of plan k records).datagrams + (told_frame_numbers plan k records).datagrams
+told_counted plan k records =
+    counted (told_on plan k records) (unit_numbers_on plan k records) (λ pid. frame_numbers_on (is_not_heard plan records k pid) plan k records pid)
+    (λ pid. tells_counted (is_not_heard plan records k pid) plan k pid records) (pids_in plan k)
+    ∙ ap (λ (n : UnitNumbers). n.datagrams + (told_frame_numbers plan k records).datagrams) (sym (units_by_pids plan k records))
+
 pub numbers_are : (plan : PlanFields) (k pid version : ℕ) (records : List Record) → has_wrong_change plan ≡ false → version ≤ length plan.changes → pid_in plan version k ≡ Some pid
     → numbers_of plan k records ≡ sum_of_numbers (numbers_before plan k pid records) (numbers_on plan k records pid)
 numbers_are = numbers_parted
@@ -203,6 +282,13 @@ units_before_stay plan k pid records r on =
     (map_but (unit_numbers_on plan k (records ++ r ∷ [])) (unit_numbers_on plan k records) pid
     (λ x differs. unit_numbers_same plan k x records r (inl (not_heard plan k x pid records on (other_way x pid differs)))) (pids_in plan k))
 
+pub frames_before_stay : (plan : PlanFields) (k pid : ℕ) (records : List Record) (r : Record) → pid_in_force plan k records ≡ Some pid
+    → frame_numbers_before plan k pid (records ++ r ∷ []) ≡ frame_numbers_before plan k pid records
+frames_before_stay plan k pid records r on =
+    ap (fold sum_of_frames no_frames)
+    (map_but (frame_numbers_on true plan k (records ++ r ∷ [])) (frame_numbers_on true plan k records) pid
+    (λ x differs. frame_numbers_same true plan k x records r (inl (not_heard plan k x pid records on (other_way x pid differs)))) (pids_in plan k))
+
 -- A record that moves the service.
 
 module _ (plan : PlanFields) (k old new : ℕ) (records : List Record) (r : Record) (right_changes : has_wrong_change plan ≡ false)
@@ -226,6 +312,19 @@ module _ (plan : PlanFields) (k old new : ℕ) (records : List Record) (r : Reco
       ∙ units_are plan k old (version_at_end plan records) next right_changes (most plan records (length records)) on
       ∙ ap (λ (t : UnitNumbers). sum_of_units t (unit_numbers_on plan k next old)) (units_before_stay plan k old records r on)
 
+  frames_moved : frame_numbers_before plan k new next ≡ sum_of_frames (frame_numbers_before plan k old records) (frame_numbers_on true plan k next old)
+  frames_moved =
+      sym (right sum_of_frames no_frames frames_sum (frame_numbers_before plan k new next))
+      ∙ ap (sum_of_frames (frame_numbers_before plan k new next)) (sym ((moved_blank plan k old new records r right_changes on on_then differs).frame_numbers true))
+      ∙ sym (frames_are plan k new (version_at_end plan next) next right_changes (most plan next (length next)) on_then)
+      ∙ frames_are plan k old (version_at_end plan records) next right_changes (most plan records (length records)) on
+      ∙ ap (λ (t : FrameNumbers). sum_of_frames t (frame_numbers_on true plan k next old)) (frames_before_stay plan k old records r on)
+
+pub frames_move : (plan : PlanFields) (k old new : ℕ) (records : List Record) (r : Record) → has_wrong_change plan ≡ false
+    → pid_in_force plan k records ≡ Some old → pid_in_force plan k (records ++ r ∷ []) ≡ Some new → new ≢ old
+    → frame_numbers_before plan k new (records ++ r ∷ []) ≡ sum_of_frames (frame_numbers_before plan k old records) (frame_numbers_on true plan k (records ++ r ∷ []) old)
+frames_move = frames_moved
+
 pub numbers_move : (plan : PlanFields) (k old new : ℕ) (records : List Record) (r : Record) → has_wrong_change plan ≡ false
     → pid_in_force plan k records ≡ Some old → pid_in_force plan k (records ++ r ∷ []) ≡ Some new → new ≢ old
     → numbers_before plan k new (records ++ r ∷ []) ≡ sum_of_numbers (numbers_before plan k old records) (numbers_on plan k (records ++ r ∷ []) old)
@@ -243,3 +342,12 @@ before_none plan k pid = all_none sum_of_numbers no_numbers numbers_sum (numbers
 
 pub units_before_none : (plan : PlanFields) (k pid : ℕ) → unit_numbers_before plan k pid [] ≡ no_units
 units_before_none plan k pid = all_none sum_of_units no_units units_sum (unit_numbers_on plan k []) (λ x. (first_blank plan k x).unit_numbers) (other_pids plan k pid)
+
+pub frames_before_none : (plan : PlanFields) (k pid : ℕ) → frame_numbers_before plan k pid [] ≡ no_frames
+frames_before_none plan k pid =
+    all_none sum_of_frames no_frames frames_sum (frame_numbers_on true plan k []) (λ x. (first_blank plan k x).frame_numbers true) (other_pids plan k pid)
+
+pub told_frames_none : (plan : PlanFields) (k : ℕ) → told_frame_numbers plan k [] ≡ no_frames
+told_frames_none plan k =
+    all_none sum_of_frames no_frames frames_sum (λ pid. frame_numbers_on (is_not_heard plan [] k pid) plan k [] pid)
+    (λ x. (first_blank plan k x).frame_numbers (is_not_heard plan [] k x)) (pids_in plan k)

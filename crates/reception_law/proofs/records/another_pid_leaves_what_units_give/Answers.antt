@@ -1,4 +1,4 @@
-use Rattle.reception_law.proofs.OtherPid.{pid_after, same_service, form_stays, same_delivered, same_unit_numbers}
+use Rattle.reception_law.proofs.OtherPid.{pid_after, same_service, form_stays, same_delivered, same_unit_numbers, rows_stay}
 use Rattle.reception_law.proofs.records.another_pid_leaves_what_units_give.Goals as goal
 
 pub returns : goal.returns
@@ -8,4 +8,5 @@ returns c = record {
   form = λ service pid. form_stays service.kind pid;
   delivered = same_delivered;
   numbers = same_unit_numbers;
+  rows = λ service pid. rows_stay service.kind pid;
 }
