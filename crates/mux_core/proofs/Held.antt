@@ -141,7 +141,7 @@ pieces_most (suc most) start packing rest units =
     by_begin false true le le2 = omega arith
     by_begin false false le le2 = omega (arith, le2)
 
-count_joined : (units : List (List ℕ)) → byte_count units ≡ length (joined units)
+pub count_joined : (units : List (List ℕ)) → byte_count units ≡ length (joined units)
 count_joined [] = refl
 count_joined (unit ∷ units) = omega (arith, count_joined units, length-append unit (joined units))
 

@@ -8,6 +8,8 @@ pub mod Signalled
 pub mod Stepped
 pub mod Ended
 pub mod Filled
+pub mod Numbers
+pub mod Framing
 pub mod Made
 pub mod Again
 pub mod Parted

@@ -16,23 +16,23 @@ use Rattle.mux_core.specs.declared.service_packets.ServicePackets.{ServicePacket
 -- The packets of services, by their places.
 
 -- those of a service
-pub packets_in_part : (before : ℕ → ℕ) (datagrams : ℕ → List (List ℕ)) (services : List ServiceFields) (i k at : ℕ) → at ≡ i + k → k < length services
-    → slice_index_or (packets_from i services before datagrams) k [] ≡ packets_of (slice_index_or services k no_service) (before at % 16) (datagrams at)
-packets_in_part before datagrams [] i k at e less = absurd (omega (arith, less))
-packets_in_part before datagrams (service ∷ services) i zero at e less =
-    let here : i ≡ at = omega (arith, e) in ap (λ (n : ℕ). packets_of service (before n % 16) (datagrams n)) here
-packets_in_part before datagrams (service ∷ services) i (suc k) at e less = packets_in_part before datagrams services (i + 1) k at (omega (arith, e)) (omega (arith, less))
+pub packets_in_part : (before frames : ℕ → ℕ) (datagrams : ℕ → List (List ℕ)) (services : List ServiceFields) (i k at : ℕ) → at ≡ i + k → k < length services
+    → slice_index_or (packets_from i services before frames datagrams) k [] ≡ packets_of (slice_index_or services k no_service) (before at % 16) (frames at) (datagrams at)
+packets_in_part before frames datagrams [] i k at e less = absurd (omega (arith, less))
+packets_in_part before frames datagrams (service ∷ services) i zero at e less =
+    let here : i ≡ at = omega (arith, e) in ap (λ (n : ℕ). packets_of service (before n % 16) (frames n) (datagrams n)) here
+packets_in_part before frames datagrams (service ∷ services) i (suc k) at e less = packets_in_part before frames datagrams services (i + 1) k at (omega (arith, e)) (omega (arith, less))
 
 -- lists with the packets of each are those of all
-are_packets : (before : ℕ → ℕ) (datagrams : ℕ → List (List ℕ)) (services : List ServiceFields) (i : ℕ) (packets : List (List PacketFields)) → length packets ≡ length services
-    → ((k at : ℕ) → at ≡ i + k → k < length services → slice_index_or packets k [] ≡ packets_of (slice_index_or services k no_service) (before at % 16) (datagrams at))
-    → packets ≡ packets_from i services before datagrams
-are_packets before datagrams [] i [] size each = refl
-are_packets before datagrams [] i (list ∷ packets) size each = absurd (omega (arith, size))
-are_packets before datagrams (service ∷ services) i [] size each = absurd (omega (arith, size))
-are_packets before datagrams (service ∷ services) i (list ∷ packets) size each =
+are_packets : (before frames : ℕ → ℕ) (datagrams : ℕ → List (List ℕ)) (services : List ServiceFields) (i : ℕ) (packets : List (List PacketFields)) → length packets ≡ length services
+    → ((k at : ℕ) → at ≡ i + k → k < length services → slice_index_or packets k [] ≡ packets_of (slice_index_or services k no_service) (before at % 16) (frames at) (datagrams at))
+    → packets ≡ packets_from i services before frames datagrams
+are_packets before frames datagrams [] i [] size each = refl
+are_packets before frames datagrams [] i (list ∷ packets) size each = absurd (omega (arith, size))
+are_packets before frames datagrams (service ∷ services) i [] size each = absurd (omega (arith, size))
+are_packets before frames datagrams (service ∷ services) i (list ∷ packets) size each =
     ap₂ (λ (l : List PacketFields) (ls : List (List PacketFields)). l ∷ ls) (each 0 i (omega arith) (omega arith))
-    (are_packets before datagrams services (i + 1) packets (omega (arith, size)) (λ k at e less. each (suc k) at (omega (arith, e)) (omega (arith, less))))
+    (are_packets before frames datagrams services (i + 1) packets (omega (arith, size)) (λ k at e less. each (suc k) at (omega (arith, e)) (omega (arith, less))))
 
 -- all have no more than so many each
 total_most : (lists : List (List PacketFields)) → ((k : ℕ) → k < length lists → length (slice_index_or lists k []) ≤ 2 ^ 48) → packet_total lists ≤ 2 ^ 48 * length lists
@@ -41,24 +41,24 @@ total_most (list ∷ lists) each = omega (arith, each 0 (omega arith), total_mos
 
 -- The first of the services are made.
 
-pub record AreMade (plan : PlanFields) (version : ℕ) (lists : List (List (List ℕ))) (counters : ℕ → ℕ) (items : List ServicePackets) (n : ℕ) : Type 0 where
+pub record AreMade (plan : PlanFields) (version : ℕ) (lists : List (List (List ℕ))) (counters numbers : ℕ → ℕ) (items : List ServicePackets) (n : ℕ) : Type 0 where
   pub each : (k : ℕ) (datagrams : List (List ℕ)) → k < n → slice_get lists k ≡ Some datagrams
-      → slice_index_or (map packets_in items) k [] ≡ packets_of (service_in plan version k) (counters k) datagrams
+      → slice_index_or (map packets_in items) k [] ≡ packets_of (service_in plan version k) (counters k) (numbers k) datagrams
   pub behind : (k : ℕ) → k < n → slice_index (map behind_in items) k ≡ (counters k + length (slice_index_or (map packets_in items) k [])) % 16
   pub most : (k : ℕ) → k < n → length (slice_index_or (map packets_in items) k []) ≤ 2 ^ 48
 
-module _ (plan : PlanFields) (version : ℕ) (lists : List (List (List ℕ))) (counters : ℕ → ℕ) where
-  pub none_made : (items : List ServicePackets) → AreMade plan version lists counters items 0
+module _ (plan : PlanFields) (version : ℕ) (lists : List (List (List ℕ))) (counters numbers : ℕ → ℕ) where
+  pub none_made : (items : List ServicePackets) → AreMade plan version lists counters numbers items 0
   none_made items = record { each = λ k datagrams less. absurd (omega (arith, less)); behind = λ k less. absurd (omega (arith, less)); most = λ k less. absurd (omega (arith, less)) }
 
   -- one more
-  module _ (old new : List ServicePackets) (n : ℕ) (it : ServicePackets) (made : AreMade plan version lists counters old n)
+  module _ (old new : List ServicePackets) (n : ℕ) (it : ServicePackets) (made : AreMade plan version lists counters numbers old n)
       (same : (k : ℕ) → k < n → slice_index_or (map packets_in new) k [] ≡ slice_index_or (map packets_in old) k [])
       (same_behind : (k : ℕ) → k < n → slice_index (map behind_in new) k ≡ slice_index (map behind_in old) k)
       (here : slice_index_or (map packets_in new) n [] ≡ packets_in it) (here_behind : slice_index (map behind_in new) n ≡ behind_in it)
-      (written : (datagrams : List (List ℕ)) → slice_get lists n ≡ Some datagrams → packets_in it ≡ packets_of (service_in plan version n) (counters n) datagrams)
+      (written : (datagrams : List (List ℕ)) → slice_get lists n ≡ Some datagrams → packets_in it ≡ packets_of (service_in plan version n) (counters n) (numbers n) datagrams)
       (behind : behind_in it ≡ (counters n + length (packets_in it)) % 16) (most : length (packets_in it) ≤ 2 ^ 48) where
-    pub made_next : AreMade plan version lists counters new (n + 1)
+    pub made_next : AreMade plan version lists counters numbers new (n + 1)
     made_next = record {
       each = λ k datagrams less listed. each_of k datagrams listed (cases_lt k n) less;
       behind = λ k less. behind_of k (cases_lt k n) less;
@@ -69,12 +69,12 @@ module _ (plan : PlanFields) (version : ℕ) (lists : List (List (List ℕ))) (c
         last k le less = omega (arith, le, less)
 
         each_of : (k : ℕ) (datagrams : List (List ℕ)) → slice_get lists k ≡ Some datagrams → (k < n) ⊎ (n ≤ k) → k < n + 1
-            → slice_index_or (map packets_in new) k [] ≡ packets_of (service_in plan version k) (counters k) datagrams
+            → slice_index_or (map packets_in new) k [] ≡ packets_of (service_in plan version k) (counters k) (numbers k) datagrams
         each_of k datagrams listed (inl less) within = same k less ∙ made.each k datagrams less listed
         each_of k datagrams listed (inr le) within =
             let is : n ≡ k = last k le within in
             ap (λ (i : ℕ). slice_index_or (map packets_in new) i []) (sym is) ∙ here ∙ written datagrams (ap (slice_get lists) is ∙ listed)
-            ∙ ap (λ (i : ℕ). packets_of (service_in plan version i) (counters i) datagrams) is
+            ∙ ap (λ (i : ℕ). packets_of (service_in plan version i) (counters i) (numbers i) datagrams) is
 
         behind_of : (k : ℕ) → (k < n) ⊎ (n ≤ k) → k < n + 1 → slice_index (map behind_in new) k ≡ (counters k + length (slice_index_or (map packets_in new) k [])) % 16
         behind_of k (inl less) within =
@@ -91,10 +91,10 @@ module _ (plan : PlanFields) (version : ℕ) (lists : List (List (List ℕ))) (c
             omega (arith, ap (λ (i : ℕ). length (slice_index_or (map packets_in new) i [])) is, ap (λ (ps : List PacketFields). length ps) here, most)
 
   -- one is added behind the others
-  module _ (items new : List ServicePackets) (n : ℕ) (it : ServicePackets) (made : AreMade plan version lists counters items n) (size : length items ≡ n) (is : new ≡ items ++ it ∷ [])
-      (written : (datagrams : List (List ℕ)) → slice_get lists n ≡ Some datagrams → packets_in it ≡ packets_of (service_in plan version n) (counters n) datagrams)
+  module _ (items new : List ServicePackets) (n : ℕ) (it : ServicePackets) (made : AreMade plan version lists counters numbers items n) (size : length items ≡ n) (is : new ≡ items ++ it ∷ [])
+      (written : (datagrams : List (List ℕ)) → slice_get lists n ≡ Some datagrams → packets_in it ≡ packets_of (service_in plan version n) (counters n) (numbers n) datagrams)
       (behind : behind_in it ≡ (counters n + length (packets_in it)) % 16) (most : length (packets_in it) ≤ 2 ^ 48) where
-    pub made_pushed : AreMade plan version lists counters new (n + 1)
+    pub made_pushed : AreMade plan version lists counters numbers new (n + 1)
     made_pushed =
         made_next items new n it made
         (λ k less. ap (λ (ps : List (List PacketFields)). slice_index_or ps k []) packets_are ∙ get_or_append_left (map packets_in items) (packets_in it ∷ []) [] k (omega (arith, less, size, length-map items packets_in)))
@@ -112,10 +112,10 @@ module _ (plan : PlanFields) (version : ℕ) (lists : List (List (List ℕ))) (c
         behinds_are = ap (map behind_in) is ∙ map-append behind_in items (it ∷ [])
 
   -- one takes the place of another
-  module _ (items : List ServicePackets) (n : ℕ) (it : ServicePackets) (made : AreMade plan version lists counters items n) (known : n < length items)
-      (written : (datagrams : List (List ℕ)) → slice_get lists n ≡ Some datagrams → packets_in it ≡ packets_of (service_in plan version n) (counters n) datagrams)
+  module _ (items : List ServicePackets) (n : ℕ) (it : ServicePackets) (made : AreMade plan version lists counters numbers items n) (known : n < length items)
+      (written : (datagrams : List (List ℕ)) → slice_get lists n ≡ Some datagrams → packets_in it ≡ packets_of (service_in plan version n) (counters n) (numbers n) datagrams)
       (behind : behind_in it ≡ (counters n + length (packets_in it)) % 16) (most : length (packets_in it) ≤ 2 ^ 48) where
-    pub made_set : AreMade plan version lists counters (set items n it) (n + 1)
+    pub made_set : AreMade plan version lists counters numbers (set items n it) (n + 1)
     made_set =
         made_next items (set items n it) n it made
         (λ k less. ap (λ (ps : List (List PacketFields)). slice_index_or ps k []) (map-set packets_in items n it)
@@ -130,8 +130,8 @@ module _ (plan : PlanFields) (version : ℕ) (lists : List (List (List ℕ))) (c
         differs k m less e = omega (arith, less, e)
 
   -- all of them begin the part
-  module _ (items : List ServicePackets) (n : ℕ) (made : AreMade plan version lists counters items n) (size : length items ≡ length plan.services) (all : length plan.services ≤ n) where
-    pub made_begin : (part : PartFields) → HasLists plan version lists counters part → Begins part (record { packets = map packets_in items; behind = map behind_in items; first = 0 })
+  module _ (items : List ServicePackets) (n : ℕ) (made : AreMade plan version lists counters numbers items n) (size : length items ≡ length plan.services) (all : length plan.services ≤ n) where
+    pub made_begin : (part : PartFields) → HasLists plan version lists counters numbers part → Begins part (record { packets = map packets_in items; behind = map behind_in items; first = 0 })
     made_begin part has = record { packets = packets_are; behind = behinds_are; first = refl }
       where
         services_are : part.plan.services ≡ services_in plan version
@@ -139,14 +139,14 @@ module _ (plan : PlanFields) (version : ℕ) (lists : List (List (List ℕ))) (c
 
         packets_are : map packets_in items ≡ service_packets part
         packets_are =
-            are_packets part.packets_before part.datagrams (services_in plan version) 0 (map packets_in items) (length-map items packets_in ∙ size ∙ sym (length-services_in plan version))
+            are_packets part.packets_before part.frames_before part.datagrams (services_in plan version) 0 (map packets_in items) (length-map items packets_in ∙ size ∙ sym (length-services_in plan version))
             (λ k at e less.
             let known : k < length plan.services = omega (arith, less, length-services_in plan version) in
             let same : k ≡ at = omega (arith, e) in
             made.each k (part.datagrams k) (omega (arith, known, all)) (has.datagrams k known)
-            ∙ ap (λ (c : ℕ). packets_of (service_in plan version k) c (part.datagrams k)) (has.counters_are k known)
-            ∙ ap (λ (i : ℕ). packets_of (service_in plan version k) (part.packets_before i % 16) (part.datagrams i)) same)
-            ∙ ap (λ (ss : List ServiceFields). packets_from 0 ss part.packets_before part.datagrams) (sym services_are)
+            ∙ ap₂ (λ (c n : ℕ). packets_of (service_in plan version k) c n (part.datagrams k)) (has.counters_are k known) (has.numbers_are k known)
+            ∙ ap (λ (i : ℕ). packets_of (service_in plan version k) (part.packets_before i % 16) (part.frames_before i) (part.datagrams i)) same)
+            ∙ ap (λ (ss : List ServiceFields). packets_from 0 ss part.packets_before part.frames_before part.datagrams) (sym services_are)
 
         sums : (c b n m : ℕ) → c ≡ b % 16 → n ≡ m → (c + n) % 16 ≡ (b + m) % 16
         sums c b n m e e2 = omega (arith, e, e2)

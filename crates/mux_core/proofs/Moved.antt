@@ -3,15 +3,18 @@ use Rattle.std.proofs.Common.{◌≡◌, ℕ, zero, suc, ◌<◌, ◌≤◌, ◌
 use Rattle.std.specs.Prelude.{slice_get}
 use Rattle.std.proofs.lemmas.List.{length-map}
 use Rattle.std.proofs.lemmas.Option.{slice_get_within}
-use Rattle.plan_spec.specs.Plan.{KindFields, ule, mpe, fec, gse, ServiceFields, MovedFields, pid_of}
+use Rattle.plan_spec.specs.Plan.{KindFields, ule, mpe, fec, gse, ServiceFields, MovedFields, kinds, pid_of}
 use Rattle.plan_spec.specs.Changes.{with_pid, no_service, services_in, service_in, pid_in, plan_in}
 use Rattle.plan_spec.specs.Built.{is_sent}
+use Rattle.plan_spec.specs.Signalling.{slices_of}
 use Rattle.plan_spec.specs.Checks.{is_between, is_row_count}
 use Rattle.plan_spec.specs.Valid.{is_valid_window, is_valid_kind, is_valid_service, is_plan}
 use Rattle.plan_spec.specs.Wholes.{is_whole_plan}
 use Rattle.stream_law.proofs.Plans.{both, at_most, ranges, has_ranges}
 use Rattle.stream_law.proofs.Wholes.{version_accepted}
-use Rattle.mux_core.proofs.Items.{list_all_at}
+use Rattle.stream_law.proofs.KindRanges.{kind_has_frames}
+use Rattle.mux_core.specs.ServiceUnits.{HasFrames}
+use Rattle.mux_core.proofs.Items.{list_all_at, map_at}
 use Rattle.plan.specs.Parts.{kind_seen, service_seen, change_seen}
 use Rattle.plan.specs.Moves.{last_move, moves_up_to}
 use Rattle.plan.specs.PlanView.{plan_fields}
@@ -25,16 +28,24 @@ pub record Stays (old new : ServiceFields) : Type 0 where
   pub component_tag : new.component_tag ≡ old.component_tag
   pub unicast : new.unicast ≡ old.unicast
   pub sent : is_sent new.kind ≡ is_sent old.kind
+  pub slices : (rate : ℕ) → slices_of rate new.kind ≡ slices_of rate old.kind
 
 sent_moved : (kind : KindFields) (pid : ℕ) → is_sent (with_pid kind pid) ≡ is_sent kind
 sent_moved (ule old address packing) pid = refl
 sent_moved (mpe old) pid = refl
-sent_moved (fec old rows parity window) pid = refl
+sent_moved (fec old rows parity None) pid = refl
+sent_moved (fec old rows parity (Some window)) pid = refl
 sent_moved (gse isi address) pid = refl
 
+slices_moved : (kind : KindFields) (pid rate : ℕ) → slices_of rate (with_pid kind pid) ≡ slices_of rate kind
+slices_moved (ule old address packing) pid rate = refl
+slices_moved (mpe old) pid rate = refl
+slices_moved (fec old rows parity window) pid rate = refl
+slices_moved (gse isi address) pid rate = refl
+
 stays_moved : (service : ServiceFields) (found : Option MovedFields) → Stays service (moved_so service found)
-stays_moved service None = record { service_id = refl; component_tag = refl; unicast = refl; sent = refl }
-stays_moved service (Some moved) = record { service_id = refl; component_tag = refl; unicast = refl; sent = sent_moved service.kind moved.pid }
+stays_moved service None = record { service_id = refl; component_tag = refl; unicast = refl; sent = refl; slices = λ rate. refl }
+stays_moved service (Some moved) = record { service_id = refl; component_tag = refl; unicast = refl; sent = sent_moved service.kind moved.pid; slices = slices_moved service.kind moved.pid }
 
 -- on its own PID a kind is as it was
 own_pid : (kind : KindFields) (pid : ℕ) → pid_of kind ≡ Some pid → kind ≡ with_pid kind pid
@@ -115,3 +126,15 @@ module _ (plan : Plan) (version k : ℕ) (service : Service) (found : slice_get 
 -- a version of the code's plan
 pub version_within : (plan : Plan) (version : ℕ) → version ≤ length plan.changes → version ≤ length (plan_fields plan).changes
 version_within plan version le = omega (arith, le, length-map plan.changes change_seen)
+
+-- a service with frames has rows and columns as there are
+pub frames_at : (plan : Plan) (k : ℕ) (service : Service) → slice_get plan.services k ≡ Some service → HasFrames (kind_seen service.kind)
+frames_at plan k service found =
+    subst HasFrames (kind_there (kinds (plan_fields plan)) k (kind_seen service.kind)
+    (map_at (λ (s : ServiceFields). s.kind) (plan_fields plan).services k (service_seen service) (map_at service_seen plan.services k service found)))
+    (kind_has_frames (plan_fields plan) plan.valid k)
+  where
+    kind_there : (kinds : List KindFields) (i : ℕ) (kind : KindFields) → slice_get kinds i ≡ Some kind → get_or kinds i (mpe 0) ≡ kind
+    kind_there [] i kind e = absurd (cc)
+    kind_there (first ∷ kinds) zero kind e = cc
+    kind_there (first ∷ kinds) (suc i) kind e = kind_there kinds i kind e

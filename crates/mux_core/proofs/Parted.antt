@@ -148,7 +148,7 @@ module _ (plan : PlanFields) (datagrams : ℕ → ℕ → List (List ℕ)) (slot
   pub services_stay : (version place slot : ℕ) (serving : Serving) (signals : IntPackets) → StandBefore plan (part version) place slot serving signals → length serving.packets ≡ length plan.services
   services_stay version place slot serving signals stand =
       ap (λ (ps : List (List PacketFields)). length ps) stand.services.packets ∙ length-left_of (service_packets (part version)) (turns_in (part version) place).sent
-      ∙ length-packets_from (part version).packets_before (part version).datagrams 0 (plan_in plan version).services ∙ length-services_in plan version
+      ∙ length-packets_from (part version).packets_before (part version).frames_before (part version).datagrams 0 (plan_in plan version).services ∙ length-services_in plan version
 
   -- all parts up to that of a version are written or held back, and all stands behind it
   pub record IsBehind (version slot : ℕ) (old new : Option (List ℕ)) (back : List ℕ) (serving : Serving) (signals : IntPackets) : Type 0 where

@@ -12,7 +12,7 @@ use Rattle.std.specs.Prelude.{slice_index, bytes_eq, ◌==◌, is_some}
 use Rattle.plan_spec.specs.Plan.{KindFields}
 use Rattle.ule_unit.specs.Writable.{IsAddress}
 use Rattle.stream_spec.specs.Units.{mac_for, unit_of}
-use Rattle.plan_spec.specs.Built.{is_sent}
+use Rattle.stream_law.specs.Words.{is_single}
 use Rattle.ts_spec.specs.Form.{UnitForm}
 use Rattle.unit_stream.specs.Packing.{packetized}
 use Rattle.unit_stream.specs.Packers.{PackerState, AreRising, IsOnWay, between, end_of, packets_left, units_of, with_bytes}
@@ -214,10 +214,10 @@ at_first packer way = by_begun packer.begun packer.at way.begun way.at
     by_begun (suc begun) at le here = absurd (omega (arith, le))
 
 pub sending_first : (start : ℕ) (kind : KindFields) (unicast : List ℕ) (datagrams : List (List ℕ)) (ends : List ℕ) (units : UnitBytes) (packer : PackerState)
-    → is_sent kind ≡ true → AreFor kind datagrams → length datagrams < 2 ^ 32 → units.count ≡ 0 → units.out ≡ 0 → ends ≡ ends_from 0 (map (unit_of kind unicast) datagrams) → AreRising start 0 ends
+    → is_single kind ≡ true → AreFor kind datagrams → length datagrams < 2 ^ 32 → units.count ≡ 0 → units.out ≡ 0 → ends ≡ ends_from 0 (map (unit_of kind unicast) datagrams) → AreRising start 0 ends
     → ((es : List ℕ) → IsOnWay packer es) → IsSending start kind unicast datagrams ends units packer
-sending_first start kind unicast datagrams ends units packer built are_for few count_is out_is are rising way = record {
-  reading = record { built = built; datagrams_are = are_for; few = few; begun = λ some. absurd (omega (arith, some, out_is)) };
+sending_first start kind unicast datagrams ends units packer single are_for few count_is out_is are rising way = record {
+  reading = record { single = single; datagrams_are = are_for; few = few; begun = λ some. absurd (omega (arith, some, out_is)) };
   ends_are = are;
   rising = rising;
   way = way ends;

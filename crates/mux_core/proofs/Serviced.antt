@@ -11,21 +11,21 @@ use Rattle.plan.specs.declared.service.Kind.{Kind}
 use Rattle.plan.specs.declared.service.Kind.TheVariants.{Ule, Mpe}
 use Rattle.mux_core.proofs.Held.{sndus_least, sections_least}
 
-module _ (unicast : List ℕ) (datagrams : List (List ℕ)) (kind : Kind) (pid counter : ℕ) where
+module _ (unicast : List ℕ) (datagrams : List (List ℕ)) (kind : Kind) (pid counter number : ℕ) where
   module _ (own : ℕ) (address packing : Bool) (is : kind ≡ Ule own address packing) where
     pub least_of_sndus : All (λ (unit : List ℕ). 2 ≤ length unit) (map (unit_of (kind_seen kind) unicast) datagrams)
     least_of_sndus = subst (λ (k : Kind). All (λ (unit : List ℕ). 2 ≤ length unit) (map (unit_of (kind_seen k) unicast) datagrams)) (sym is) (sndus_least address unicast datagrams)
 
-    pub packets_of_sndus : packetized sndu_form packing pid counter (map (unit_of (kind_seen kind) unicast) datagrams) ≡ packets_of_kind (with_pid (kind_seen kind) pid) unicast counter datagrams
+    pub packets_of_sndus : packetized sndu_form packing pid counter (map (unit_of (kind_seen kind) unicast) datagrams) ≡ packets_of_kind (with_pid (kind_seen kind) pid) unicast counter number datagrams
     packets_of_sndus =
         ap (λ (k : Kind). packetized sndu_form packing pid counter (map (unit_of (kind_seen k) unicast) datagrams)) is
-        ∙ sym (ap (λ (k : Kind). packets_of_kind (with_pid (kind_seen k) pid) unicast counter datagrams) is)
+        ∙ sym (ap (λ (k : Kind). packets_of_kind (with_pid (kind_seen k) pid) unicast counter number datagrams) is)
 
   module _ (own : ℕ) (is : kind ≡ Mpe own) where
     pub least_of_sections : All (λ (unit : List ℕ). 1 ≤ length unit) (map (unit_of (kind_seen kind) unicast) datagrams)
     least_of_sections = subst (λ (k : Kind). All (λ (unit : List ℕ). 1 ≤ length unit) (map (unit_of (kind_seen k) unicast) datagrams)) (sym is) (sections_least unicast datagrams)
 
-    pub packets_of_sections : packetized section_form true pid counter (map (unit_of (kind_seen kind) unicast) datagrams) ≡ packets_of_kind (with_pid (kind_seen kind) pid) unicast counter datagrams
+    pub packets_of_sections : packetized section_form true pid counter (map (unit_of (kind_seen kind) unicast) datagrams) ≡ packets_of_kind (with_pid (kind_seen kind) pid) unicast counter number datagrams
     packets_of_sections =
         ap (λ (k : Kind). packetized section_form true pid counter (map (unit_of (kind_seen k) unicast) datagrams)) is
-        ∙ sym (ap (λ (k : Kind). packets_of_kind (with_pid (kind_seen k) pid) unicast counter datagrams) is)
+        ∙ sym (ap (λ (k : Kind). packets_of_kind (with_pid (kind_seen k) pid) unicast counter number datagrams) is)

@@ -7,11 +7,10 @@ use Rattle.addr_rules.specs.Texts.{address_bytes, bit_count}
 use Rattle.addr_rules.specs.declared.rules.Rule.{Rule}
 use Rattle.int_spec.specs.Descriptors.{has_right_slash}
 use Rattle.int_spec.specs.Table.{EntryFields, TableFields, IsRule, table_body, table_bytes}
-use Rattle.plan_spec.specs.Plan.{KindFields, ule, mpe, fec, gse, ServiceFields, IntFields, PlanFields}
+use Rattle.plan_spec.specs.Plan.{ServiceFields, IntFields, PlanFields}
 use Rattle.plan_spec.specs.Checks.{is_between}
 use Rattle.plan_spec.specs.Signalling.{slices_of, entry_of, table_of, packets_of_table, table_packets}
 use Rattle.plan_spec.specs.Valid.{is_valid_rule, is_valid_service, is_valid_int, is_plan}
-use Rattle.plan_spec.specs.Built.{is_sent}
 use Rattle.stream_law.proofs.Plans.{both, at_most, at_least, ranges, has_ranges}
 use Rattle.stream_law.proofs.Plans.{few_services, few_rules, sendable}
 use Rattle.stream_law.proofs.Next.{true_ltb, false_ltb}
@@ -59,15 +58,9 @@ slashes_right (rule ∷ rules) e =
 
 -- The entries.
 
-no_slices : (rate : ℕ) (kind : KindFields) → is_sent kind ≡ true → slices_of rate kind ≡ None
-no_slices rate (ule pid address packing) e = refl
-no_slices rate (mpe pid) e = refl
-no_slices rate (fec pid rows parity window) e = absurd (cc)
-no_slices rate (gse isi address) e = absurd (cc)
-
-pub entry_is : (rate : ℕ) (service : ServiceFields) (entry : EntryFields) → is_sent service.kind ≡ true → entry.rules ≡ service.rules → entry.service_id ≡ service.service_id
-    → entry.component_tag ≡ service.component_tag → entry.slices ≡ None → entry ≡ entry_of rate service
-entry_is rate service entry built rules service_id component_tag slices = rw (no_slices rate service.kind built, ← rules, ← service_id, ← component_tag, ← slices) refl
+pub entry_is : (rate : ℕ) (service : ServiceFields) (entry : EntryFields) → entry.rules ≡ service.rules → entry.service_id ≡ service.service_id
+    → entry.component_tag ≡ service.component_tag → entry.slices ≡ slices_of rate service.kind → entry ≡ entry_of rate service
+entry_is rate service entry rules service_id component_tag slices = rw (← slices, ← rules, ← service_id, ← component_tag) refl
 
 pub with_entry : (table old new : TableFields) (entries more : List EntryFields) (entry here : EntryFields) → old ≡ record table { entries = entries }
     → new ≡ record old { entries = old.entries ++ entry ∷ [] } → entry ≡ here → more ≡ entries ++ here ∷ [] → new ≡ record table { entries = more }

@@ -13,13 +13,13 @@ use Rattle.plan.specs.PlanView.{plan_fields}
 use Rattle.plan.specs.declared.plan.Plan.{Plan}
 use Rattle.stream_spec.specs.Parts.{PartFields, service_packets}
 use Rattle.stream_spec.specs.Stream.{earlier, part_of, IsPartCount, IsStream}
-use Rattle.stream_law.proofs.Streams.{there_is}
+use Rattle.stream_law.proofs.Streams.{slots as slots_found, counted, is_stream}
 use Rattle.stream_law.proofs.TableOnPid.{none_without}
 use Rattle.mux_core.specs.Slots.{IsPartOf, StandBefore}
 use Rattle.mux_core.specs.IntPackets.{IsTableAt}
 use Rattle.mux_core.specs.declared.int_packets.IntPackets.{IntPackets}
 use Rattle.mux_core.specs.PartUnits.{MadeUnits, AreUnitsOf}
-use Rattle.mux_core.specs.Services.{Serving, HasLists, Begins, counter_at}
+use Rattle.mux_core.specs.Services.{Serving, HasLists, Begins, counter_at, frames_before}
 use Rattle.mux_core.specs.Sending.{AreDatagrams, AreUnits, WritesRecords}
 use Rattle.mux_core.proofs.Moved.{there_is as there_is_item}
 use Rattle.mux_core.proofs.Signalled.{section_some, few_packets}
@@ -29,11 +29,11 @@ use Rattle.mux_core.proofs.Streamed.{has_lists, has_pids}
 
 -- how many slots the parts of the stream have
 abbrev pub slots_of : (plan : PlanFields) → is_whole_plan plan ≡ true → (ℕ → ℕ → List (List ℕ)) → ℕ → ℕ
-slots_of plan whole datagrams = (there_is plan datagrams whole).1.slots
+slots_of plan whole datagrams = slots_found plan datagrams whole
 
 pub each_of : (plan : PlanFields) (whole : is_whole_plan plan ≡ true) (datagrams : ℕ → ℕ → List (List ℕ)) (version : ℕ) → version ≤ length plan.changes
     → IsPartCount plan datagrams (slots_of plan whole datagrams) version
-each_of plan whole datagrams = (there_is plan datagrams whole).1.each
+each_of plan whole datagrams = counted plan datagrams whole
 
 -- what a part is sent from, at the place of its version
 pub unit_found : (units : List MadeUnits) (i version : ℕ) (made : MadeUnits) → i ≡ version → version < length units → made ≡ get_or units i made → slice_get units version ≡ Some made
@@ -41,27 +41,27 @@ unit_found units i version made same less is =
     there_is_item units version made less ∙ ap (λ (m : MadeUnits). Some m) (sym (is ∙ ap (λ (j : ℕ). get_or units j made) same))
 
 -- What is written.
-module _ (plan : PlanFields) (whole : is_whole_plan plan ≡ true) (datagrams : ℕ → ℕ → List (List ℕ)) (old new : Option (List ℕ)) where
-  abbrev stream : (records : List (List ℕ)) × IsStream plan datagrams records
-  stream = there_is plan datagrams whole
-
+module _ (plan : PlanFields) (whole : is_whole_plan plan ≡ true) (built : are_sent plan ≡ true) (datagrams : ℕ → ℕ → List (List ℕ)) (old new : Option (List ℕ)) where
   abbrev all : List (List ℕ)
   all = flat_map (pieces plan datagrams (slots_of plan whole datagrams)) (versions plan)
 
+  stream : IsStream plan datagrams all
+  stream = is_stream plan datagrams whole built
+
   pub writes_some : {E : Type 0} (e : E) → (m : ℕ) × Appends old new (take m (joined all)) → WritesRecords plan datagrams (Err e) old new
   writes_some e some = record {
-    records = stream.0;
-    stream = stream.1;
-    written = (some.0, subst (λ (rs : List (List ℕ)). Appends old new (take some.0 (joined rs))) (sym stream.1.records_are) some.1);
+    records = all;
+    stream = stream;
+    written = some;
     packets = tt;
   }
 
   pub writes_all : {E : Type 0} (slot : ℕ) → Appends old new (joined all) → slot ≡ length all → WritesRecords {E = E} plan datagrams (Ok slot) old new
   writes_all slot put count = record {
-    records = stream.0;
-    stream = stream.1;
-    written = subst (λ (rs : List (List ℕ)). Appends old new (joined rs)) (sym stream.1.records_are) put;
-    packets = count ∙ ap (λ (rs : List (List ℕ)). length rs) (sym stream.1.records_are);
+    records = all;
+    stream = stream;
+    written = put;
+    packets = count;
   }
 
 -- The parts.
@@ -71,7 +71,7 @@ module _ (plan : Plan) (lists : List (List (List (List ℕ)))) (units : List Mad
 
   -- the section of the INT of a version
   module _ (version : ℕ) (within : version ≤ length (plan_fields plan).changes) (made : MadeUnits) (is : slice_get units version ≡ Some made) where
-    pub made_is : AreUnitsOf fields version (get_or lists version []) made
+    pub made_is : AreUnitsOf fields version (frames_before fields lists version) (get_or lists version []) made
     made_is = are.each version made is
 
     pub section_there : (int : IntFields) → fields.table ≡ Some int → 0 < length made.section
@@ -100,12 +100,12 @@ module _ (plan : Plan) (lists : List (List (List (List ℕ)))) (units : List Mad
     part version = part_of fields datagrams slots version
 
     -- the services
-    pub first_begins : (serving : Serving) → ((p : PartFields) → HasLists fields 0 (get_or lists 0 []) (λ k. 0) p → Begins p serving) → Begins (part 0) serving
+    pub first_begins : (serving : Serving) → ((p : PartFields) → HasLists fields 0 (get_or lists 0 []) (λ k. 0) (frames_before fields lists 0) p → Begins p serving) → Begins (part 0) serving
     first_begins serving begun = begun (part 0) (has_lists fields datagrams lists listed slots 0 (λ k. 0) (omega arith) (λ k known. refl))
 
     pub next_begins : (built : are_sent fields ≡ true) (before version : ℕ) → version ≡ before + 1 → version ≤ length fields.changes → (behind : List ℕ)
         → ((k : ℕ) → k < length fields.services → slice_index behind k ≡ ((part before).packets_before k + length (slice_index_or (service_packets (part before)) k [])) % 16)
-        → (serving : Serving) → ((p : PartFields) → HasLists fields version (get_or lists version []) (counter_at fields version behind) p → Begins p serving) → Begins (part version) serving
+        → (serving : Serving) → ((p : PartFields) → HasLists fields version (get_or lists version []) (counter_at fields version behind) (frames_before fields lists version) p → Begins p serving) → Begins (part version) serving
     next_begins built before version next within behind behind_is serving begun =
         begun (part version) (has_lists fields datagrams lists listed slots version (counter_at fields version behind) within
         (λ k known. subst (λ (v : ℕ). counter_at fields v behind k ≡ (part v).packets_before k % 16) (sym next)
@@ -145,7 +145,7 @@ module _ (plan : Plan) (lists : List (List (List (List ℕ)))) (units : List Mad
       module _ (built : are_sent (plan_fields plan) ≡ true) (before version : ℕ) (next : version ≡ before + 1) (le : version ≤ last) (slot : ℕ) (old new : Option (List ℕ)) (back : List ℕ)
           (old_serving serving : Serving) (old_signals signals : IntPackets)
           (behind : IsBehind (plan_fields plan) datagrams (slots_of (plan_fields plan) plan.whole datagrams) before slot old new back old_serving old_signals)
-          (begun : (p : PartFields) → HasLists (plan_fields plan) version (get_or lists version []) (counter_at (plan_fields plan) version old_serving.behind) p → Begins p serving) where
+          (begun : (p : PartFields) → HasLists (plan_fields plan) version (get_or lists version []) (counter_at (plan_fields plan) version old_serving.behind) (frames_before (plan_fields plan) lists version) p → Begins p serving) where
         pub next_begun : Begins (part version) serving
         next_begun = next_begins built before version next (omega (arith, le, last_is.within)) old_serving.behind behind.behind serving begun
 

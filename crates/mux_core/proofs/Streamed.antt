@@ -8,7 +8,7 @@ use Rattle.std.proofs.lemmas.Option.{get_or_from_slice_get, slice_get_within}
 use Rattle.wire_spec.specs.Datagram.{IsDatagram}
 use Rattle.int_table.proofs.Parts.{drop_from}
 use Rattle.plan_spec.specs.Plan.{KindFields, ule, mpe, fec, gse, ServiceFields, PlanFields, kinds}
-use Rattle.plan_spec.specs.Changes.{with_pid, plan_in, pid_in}
+use Rattle.plan_spec.specs.Changes.{with_pid, plan_in, pid_in, service_in}
 use Rattle.plan_spec.specs.Route.{longest_of}
 use Rattle.plan_spec.specs.Offered.{Records, offered_in}
 use Rattle.plan_spec.specs.Built.{is_sent, are_sent}
@@ -16,14 +16,16 @@ use Rattle.plan.specs.Parts.{service_seen}
 use Rattle.plan.specs.PlanView.{plan_fields}
 use Rattle.plan.specs.declared.plan.Plan.{Plan}
 use Rattle.stream_spec.specs.Services.{kind_at}
-use Rattle.stream_spec.specs.Stream.{part_of}
+use Rattle.stream_spec.specs.Units.{frame_count}
+use Rattle.stream_spec.specs.Stream.{frame_count_in, frame_count_before, part_of}
+use Rattle.stream_law.proofs.Ranges.{sum_same}
 use Rattle.stream_law.proofs.Kept.{part_kept}
 use Rattle.datagram_routing.specs.Offering.{lists_in, IsOffered}
 use Rattle.datagram_routing.specs.declared.offered.Offered.{Offered}
 use Rattle.mux_core.specs.Sending.{AreDatagrams, AreUnits, datagram_count}
 use Rattle.mux_core.specs.PartUnits.{MadeUnits, AreUnitsOf}
 use Rattle.mux_core.specs.Units.{AreFor}
-use Rattle.mux_core.specs.Services.{Takes, AreTaken, HasLists}
+use Rattle.mux_core.specs.Services.{Takes, AreTaken, HasLists, listed, frames_before}
 use Rattle.mux_core.proofs.Items.{list_all_at, map_at}
 use Rattle.mux_core.proofs.Moved.{has_pid_in, some_item, there_is}
 use Rattle.mux_core.proofs.Parted.{IsLastOf, none_there, any_there}
@@ -71,11 +73,8 @@ one_some (first ∷ lists) some = by_first (length first) refl (λ behind. one_s
 
 -- Datagrams by version and service.
 
-abbrev pub listed : List (List (List (List ℕ))) → ℕ → ℕ → List (List ℕ)
-listed lists version k = get_or (get_or lists version []) k []
-
 module _ (plan : PlanFields) (lists : List (List (List (List ℕ)))) (units : List MadeUnits) (are : AreUnits plan lists units) where
-  pub units_at : (version : ℕ) → version ≤ length plan.changes → (made : MadeUnits) × (slice_get units version ≡ Some made) × AreUnitsOf plan version (get_or lists version []) made
+  pub units_at : (version : ℕ) → version ≤ length plan.changes → (made : MadeUnits) × (slice_get units version ≡ Some made) × AreUnitsOf plan version (frames_before plan lists version) (get_or lists version []) made
   units_at version within =
       let found = some_item units version (omega (arith, within, are.versions, are.size)) in
       (found.0, found.1, are.each version found.0 found.1)
@@ -90,10 +89,27 @@ module _ (plan : PlanFields) (lists : List (List (List (List ℕ)))) (units : Li
   }
 
 module _ (plan : PlanFields) (datagrams : ℕ → ℕ → List (List ℕ)) (lists : List (List (List (List ℕ)))) (are : AreDatagrams plan datagrams lists) where
+  -- the frames before a version are counted in the lists
+  numbers_same : (version k : ℕ) → version ≤ length plan.changes → k < length plan.services → frames_before plan lists version k ≡ frame_count_before plan datagrams k version
+  numbers_same version k within known =
+      sum_same (frame_count_in plan (listed lists) k) (frame_count_in plan datagrams k) 0 version
+      (λ u less. ap (λ (ds : List (List ℕ)). frame_count (service_in plan u k).kind ds)
+      (item_is (get_or lists u []) k (datagrams u k) (are.each u k (omega (arith, less, within)) known)))
+    where
+      item_is : (xs : List (List (List ℕ))) (i : ℕ) (x : List (List ℕ)) → slice_get xs i ≡ Some x → get_or xs i [] ≡ x
+      item_is [] i x e = absurd (cc)
+      item_is (y ∷ xs) zero x e = cc
+      item_is (y ∷ xs) (suc i) x e = item_is xs i x e
+
   pub has_lists : (slots : ℕ → ℕ) (version : ℕ) (counters : ℕ → ℕ) → version ≤ length plan.changes
       → ((k : ℕ) → k < length plan.services → counters k ≡ (part_of plan datagrams slots version).packets_before k % 16)
-      → HasLists plan version (get_or lists version []) counters (part_of plan datagrams slots version)
-  has_lists slots version counters within counted = record { plan_is = refl; datagrams = λ k known. are.each version k within known; counters_are = counted }
+      → HasLists plan version (get_or lists version []) counters (frames_before plan lists version) (part_of plan datagrams slots version)
+  has_lists slots version counters within counted = record {
+    plan_is = refl;
+    datagrams = λ k known. are.each version k within known;
+    counters_are = counted;
+    numbers_are = λ k known. numbers_same version k within known;
+  }
 
   pub is_last_of : (last : ℕ) → last < length lists → ((version : ℕ) → last < version → version < length lists → sum_by (λ (list : List (List ℕ)). length list) (get_or lists version []) ≡ 0)
       → (0 < last → 0 < sum_by (λ (list : List (List ℕ)). length list) (get_or lists last [])) → length (get_or lists last []) ≡ length plan.services → IsLastOf plan datagrams last

@@ -3,6 +3,7 @@ pub mod Units
 pub mod Reading
 pub mod Coming
 pub mod Services
+pub mod ServiceUnits
 pub mod PartUnits
 pub mod SectionPackets
 pub mod IntPackets

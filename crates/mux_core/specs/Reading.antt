@@ -2,7 +2,7 @@
 use Rattle.std.specs.Prelude.{◌≡◌, ℕ, ◌+◌, ◌≤◌, ◌<◌, ◌^◌, true, List, ◌++◌, length, map, drop, slice_get, Some}
 use Rattle.unit_stream.specs.Packers.{PackerState, AreRising, IsOnWay}
 use Rattle.plan_spec.specs.Plan.{KindFields}
-use Rattle.plan_spec.specs.Built.{is_sent}
+use Rattle.stream_law.specs.Words.{is_single}
 use Rattle.mux_core.specs.Units.{unit_bytes, unit_with, ends_from, AreFor}
 use Rattle.stream_spec.specs.Units.{unit_of}
 use Rattle.mux_core.specs.declared.unit_bytes.UnitBytes.{UnitBytes}
@@ -19,7 +19,7 @@ pub record IsBegun (kind : KindFields) (unicast datagram : List ℕ) (units : Un
 
 -- where bytes of a unit are out, what it has around its datagram was written
 pub record IsReading (kind : KindFields) (unicast : List ℕ) (datagrams : List (List ℕ)) (units : UnitBytes) : Type 0 where
-  pub built : is_sent kind ≡ true
+  pub single : is_single kind ≡ true
   pub datagrams_are : AreFor kind datagrams
   pub few : length datagrams < 2 ^ 32
   pub begun : 0 < units.out → (datagram : List ℕ) × (slice_get datagrams units.count ≡ Some datagram) × IsBegun kind unicast datagram units

@@ -8,6 +8,7 @@ use Rattle.datagram_routing.specs.Offering.{HoldDatagrams, IsOffered}
 use Rattle.datagram_routing.specs.declared.offered.Offered.{Offered}
 use Rattle.stream_spec.specs.Stream.{IsStream}
 use Rattle.mux_core.specs.PartUnits.{MadeUnits, AreUnitsOf}
+use Rattle.mux_core.specs.Services.{frames_before}
 use Rattle.mux_core.specs.declared.sending.Sent.{Sent}
 use Rattle.mux_core.specs.declared.sending.MuxFault.{MuxFault}
 
@@ -46,4 +47,4 @@ pub record AreDatagrams (plan : PlanFields) (datagrams : ℕ → ℕ → List (L
 pub record AreUnits (plan : PlanFields) (lists : List (List (List (List ℕ)))) (units : List MadeUnits) : Type 0 where
   pub versions : length lists ≡ length plan.changes + 1
   pub size : length units ≡ length lists
-  pub each : (version : ℕ) (made : MadeUnits) → slice_get units version ≡ Some made → AreUnitsOf plan version (get_or lists version []) made
+  pub each : (version : ℕ) (made : MadeUnits) → slice_get units version ≡ Some made → AreUnitsOf plan version (frames_before plan lists version) (get_or lists version []) made

@@ -1,19 +1,20 @@
 //! A plan -> the section of its INT (EN 301 192 clause 8.4).
-ghost use Rattle.std.specs.Prelude.{◌≡◌, ◌≤◌, true, length, All, Some, None, IfOk};
+ghost use Rattle.std.specs.Prelude.{◌≡◌, ℕ, ◌≤◌, true, length, All, Some, IfOk};
 ghost use Rattle.std.specs.List.{list_all};
 ghost use Rattle.int_spec.specs.Table.{IsRule, table_bytes};
-ghost use Rattle.plan_spec.specs.Signalling.{table_of as table_of_plan};
+ghost use Rattle.plan_spec.specs.Signalling.{slices_of as slices_of_kind, table_of as table_of_plan};
 ghost use Rattle.plan_spec.specs.Valid.{is_valid_rule};
-ghost use Rattle.plan_spec.specs.Built.{are_sent};
+ghost use Rattle.plan_spec.specs.Built.{is_sent, are_sent};
 ghost use Rattle.plan_spec.specs.Changes.{plan_in};
-ghost use Rattle.plan.specs.Parts.{int_seen};
+ghost use Rattle.plan.specs.Parts.{int_seen, kind_seen};
 ghost use Rattle.plan.specs.PlanView.{plan_fields};
+ghost use Rattle.mux_core.specs.ServiceUnits.{HasFrames};
 
 use addr_rules::{Rule, RuleList};
 use byte_slices::array_bytes;
 use int_table::{IntEntry, IntTable};
 use ip_datagram::IpAddress;
-use plan::{IntPlan, Plan, Service, rules_in};
+use plan::{IntPlan, Kind, Plan, Service, rules_in};
 use std::alloc::{AllocError as OutOfMemory, Global};
 
 /// Bytes of the longest section (ISO/IEC 13818-1 clause 2.4.4.11).
@@ -45,24 +46,41 @@ fn same_rules(alloc: Global, rules: &RuleList) -> Result<RuleList, OutOfMemory>
     Ok(copy)
 }
 
-/// The entry of a service with these rules, which has no frames.
+/// The first bytes of the time_slice_fec_identifier_descriptor of a service that is sent, where it has frames (EN 301 192 clause 9.5).
+fn slices_of(kind: &Kind) -> Option<[u8; 3]>
+    requires sent { is_sent (kind_seen kind.now) ≡ true }
+    requires frames { HasFrames (kind_seen kind.now) }
+    ensures written { (packet_rate : ℕ) → result ≡ slices_of_kind packet_rate (kind_seen kind.now) }
+{
+    match kind {
+        Kind::Fec { rows, .. } => {
+            let frame_size = (*rows / 256 - 1) as u8;
+            Some([0x38 + frame_size, 0xFF, 0x70])
+        }
+        _ => None,
+    }
+}
+
+/// The entry of a service with these rules.
 fn entry_of(alloc: Global, service: &Service, rules: &RuleList) -> Result<IntEntry, OutOfMemory>
-    requires { list_all is_valid_rule rules.now ≡ true }
+    requires rules { list_all is_valid_rule rules.now ≡ true }
+    requires sent { is_sent (kind_seen service.now.kind) ≡ true }
+    requires frames { HasFrames (kind_seen service.now.kind) }
     ensures rules { IfOk result (λ entry. entry.rules ≡ rules.now) }
     ensures service_id { IfOk result (λ entry. entry.service_id ≡ service.now.service_id) }
     ensures component_tag { IfOk result (λ entry. entry.component_tag ≡ service.now.component_tag) }
-    ensures slices { IfOk result (λ entry. entry.slices ≡ None) }
+    ensures slices { IfOk result (λ entry. (packet_rate : ℕ) → entry.slices ≡ slices_of_kind packet_rate (kind_seen service.now.kind)) }
     ensures are { IfOk result (λ entry. All IsRule rules.now) }
 {
     Ok(IntEntry {
         rules: same_rules(alloc, rules)?,
         service_id: service.service_id,
         component_tag: service.component_tag,
-        slices: None,
+        slices: slices_of(&service.kind),
     })
 }
 
-/// The INT of a version of a plan without frames.
+/// The INT of a version of a plan.
 fn table_of(alloc: Global, plan: &Plan, version: u8, int: &IntPlan) -> Result<IntTable, OutOfMemory>
     requires built { are_sent (plan_fields plan.now) ≡ true }
     requires version { version ≤ length plan.now.changes }
@@ -88,7 +106,7 @@ fn table_of(alloc: Global, plan: &Plan, version: u8, int: &IntPlan) -> Result<In
     Ok(table)
 }
 
-/// The section of the INT of a version of a plan without frames.
+/// The section of the INT of a version of a plan.
 pub(crate) fn section_of(
     alloc: Global,
     plan: &Plan,

@@ -11,6 +11,7 @@ mod part_units;
 mod records;
 mod sending;
 mod service_packets;
+mod service_units;
 mod services;
 mod slots;
 mod stamps;

@@ -1,4 +1,4 @@
-//! What a part is sent from: where the units of each service end, and the section of its INT.
+//! What a part is sent from: the units of each service, and the section of its INT.
 //!
 //! It is made for all parts before the first packet goes out, so that no memory is wanted later.
 ghost use Rattle.std.specs.Prelude.{◌≡◌, ◌≤◌, true, length, Some, IfOk};
@@ -10,7 +10,7 @@ ghost use Rattle.plan_spec.specs.Signalling.{table_of};
 ghost use Rattle.plan.specs.PlanView.{plan_fields};
 
 use crate::int_section::section_of;
-use crate::units::ends_of;
+use crate::service_units::{ServiceUnits, units_of_service};
 use datagram_routing::Lists;
 use plan::Plan;
 use std::alloc::{AllocError as OutOfMemory, Global};
@@ -19,19 +19,18 @@ use std::marker::Model;
 /// What one part is sent from.
 #[derive(Drop)]
 pub(crate) struct PartUnits {
-    /// Where the units of each service end among the bytes of its units.
-    ends: Vec<Vec<usize>>,
+    /// The units of each service.
+    units: Vec<ServiceUnits>,
     /// The section of the INT, of no bytes without one.
     section: Vec<u8>,
 }
 
 impl Model for PartUnits {
-    ghost use Rattle.std.specs.Prelude.{map};
     ghost use Rattle.mux_core.specs.PartUnits.{MadeUnits};
 
     ghost Value = { MadeUnits };
 
-    ghost view = { λ p. record { ends = map (λ v. v.items) p.ends.items; section = p.section.items } };
+    ghost view = { λ p. record { units = p.units.items; section = p.section.items } };
 }
 
 /// The section of the INT of a version, of no bytes without one.
@@ -48,40 +47,46 @@ fn section_in(alloc: Global, plan: &Plan, version: u8) -> Result<Vec<u8>, OutOfM
 }
 
 impl PartUnits {
-    ghost use Rattle.std.specs.Prelude.{◌≡◌, ℕ, ◌≤◌, ◌<◌, ◌+◌, [], true, length, get_or, slice_get, Some, IfOk};
+    ghost use Rattle.std.specs.Prelude.{◌≡◌, ◌≤◌, ◌<◌, ◌+◌, [], true, length, get_or, slice_get, Some, IfOk, OnOk};
     ghost use Rattle.plan_spec.specs.Built.{are_sent};
     ghost use Rattle.plan.specs.PlanView.{plan_fields};
-    ghost use Rattle.mux_core.specs.Services.{AreTaken};
-    ghost use Rattle.mux_core.specs.PartUnits.{AreUnitsOf};
+    ghost use Rattle.mux_core.specs.Services.{AreTaken, frames_before};
+    ghost use Rattle.mux_core.specs.PartUnits.{AreUnitsOf, AreNumbers, FewFrames};
 
-    /// That of the part of a version.
+    /// That of the part of a version. `numbers` has that of the first frame of each service; they go on to those of the next part.
     pub(crate) fn new(
         alloc: Global,
         plan: &Plan,
         version: u8,
         lists: &Lists,
+        numbers: &mut [u32],
     ) -> Result<PartUnits, OutOfMemory>
         requires built { are_sent (plan_fields plan.now) ≡ true }
         requires version { version ≤ length plan.now.changes }
         requires versions { length lists.now ≡ length plan.now.changes + 1 }
         requires lists { AreTaken (plan_fields plan.now) (get_or lists.now version []) }
-        ensures made { IfOk result (AreUnitsOf (plan_fields plan.now) version (get_or lists.now version [])) }
+        requires few { FewFrames (plan_fields plan.now) lists.now (version + 1) }
+        requires numbers { AreNumbers (plan_fields plan.now) lists.now version numbers.old }
+        ensures made { IfOk result (AreUnitsOf (plan_fields plan.now) version (frames_before (plan_fields plan.now) lists.now version) (get_or lists.now version [])) }
+        ensures numbers { OnOk result (AreNumbers (plan_fields plan.now) lists.now (version + 1) numbers.new) }
     {
         let section = section_in(alloc, plan, version)?;
-        let mut ends = Vec::new(alloc);
+        let mut units = Vec::new(alloc);
         for k in 0..plan.services.len() {
-            let places = ends_of(alloc, plan.services.at(k), lists.at(version, k as u32))?;
-            ends.push(places)?;
+            let list = lists.at(version, k as u32);
+            let of_service = units_of_service(alloc, plan.services.at(k), list, numbers[k])?;
+            numbers[k] += of_service.frames();
+            units.push(of_service)?;
         }
-        Ok(PartUnits { ends, section })
+        Ok(PartUnits { units, section })
     }
 
-    /// Lends where the units of a service end.
-    pub(crate) fn ends_at(&self, k: usize) -> &[usize]
-        requires { k < length self.now.ends }
-        ensures read { slice_get self.now.ends k ≡ Some result.now }
+    /// Lends the units of a service.
+    pub(crate) fn units_at(&self, k: usize) -> &ServiceUnits
+        requires { k < length self.now.units }
+        ensures read { slice_get self.now.units k ≡ Some result.now }
     {
-        self.ends[k].as_slice()
+        &self.units[k]
     }
 
     /// Lends the section of the INT.

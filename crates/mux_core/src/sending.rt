@@ -7,7 +7,7 @@ ghost use Rattle.plan.specs.PlanView.{plan_fields};
 ghost use Rattle.datagram_routing.specs.Offering.{IsOffered};
 ghost use Rattle.wire_spec.specs.Causes.{HasCause};
 ghost use Rattle.stream_spec.specs.Parts.{PartFields};
-ghost use Rattle.mux_core.specs.Services.{packet_total, AreTaken, HasLists, Begins};
+ghost use Rattle.mux_core.specs.Services.{packet_total, AreTaken, HasLists, Begins, frames_before};
 ghost use Rattle.mux_core.specs.PartUnits.{MadeUnits};
 ghost use Rattle.mux_core.specs.Sending.{IsUnderPlan, WritesStream, WritesRecords, AreUnits, AreDatagrams, datagram_count};
 ghost use Rattle.plan_spec.specs.Built.{are_sent};
@@ -104,11 +104,13 @@ fn units_of(alloc: Global, plan: &Plan, lists: &Lists) -> Result<Vec<PartUnits>,
     requires built { are_sent (plan_fields plan.now) ≡ true }
     requires versions { length lists.now ≡ length plan.now.changes + 1 }
     requires lists { All (AreTaken (plan_fields plan.now)) lists.now }
+    requires few { datagram_count lists.now < 2 ^ 32 }
     ensures made { IfOk result (λ units. AreUnits (plan_fields plan.now) lists.now units.items) }
 {
+    let mut numbers = vec![in alloc; 0u32; plan.services.len()]?;
     let mut units = Vec::new(alloc);
     for version in 0..lists.versions() as u8 {
-        units.push(PartUnits::new(alloc, plan, version, lists)?)?;
+        units.push(PartUnits::new(alloc, plan, version, lists, &mut numbers)?)?;
     }
     Ok(units)
 }
@@ -124,7 +126,7 @@ fn put_parts<'a, K: Sink>(
 ) -> Result<u64, Failed>
     requires built { are_sent (plan_fields plan.now) ≡ true }
     requires units { AreUnits (plan_fields plan.now) lists.now units.now }
-    requires begun { (part : PartFields) → HasLists (plan_fields plan.now) 0 (get_or lists.now 0 []) (λ k. 0) part → Begins part services.old }
+    requires begun { (part : PartFields) → HasLists (plan_fields plan.now) 0 (get_or lists.now 0 []) (λ k. 0) (frames_before (plan_fields plan.now) lists.now 0) part → Begins part services.old }
     requires total { packet_total services.old.packets ≤ 2 ^ 54 }
     requires few { datagram_count lists.now < 2 ^ 32 }
     requires empty { batch.old ≡ [] }
@@ -157,7 +159,7 @@ fn put_parts<'a, K: Sink>(
 /// Writes the stream of what was offered under the plan: the packets of its services in rotation, and in each cycle of slots those
 /// of the INT first.
 ///
-/// The services are of SNDUs and datagram_sections, and fewer than 2^32 records were offered.
+/// The services are of SNDUs, of datagram_sections and of MPE-FEC frames without time slicing, and fewer than 2^32 records were offered.
 /// On an Err a prefix of the stream was written, and nothing when out of memory. Nothing is flushed.
 pub fn stream<K: Sink>(
     alloc: Global,

@@ -5,7 +5,7 @@ ghost use Rattle.plan_spec.specs.Changes.{service_in, pid_in as pid_in_version};
 ghost use Rattle.plan.specs.PlanView.{plan_fields};
 ghost use Rattle.stream_spec.specs.Units.{packets_of as packets_of_service};
 ghost use Rattle.stream_spec.specs.Stream.{shares_pid};
-ghost use Rattle.mux_core.specs.Services.{packets_in, behind_in, has_packets, AreLists};
+ghost use Rattle.mux_core.specs.Services.{packets_in, behind_in, has_packets, frames_before, AreLists};
 
 use crate::part_units::PartUnits;
 use crate::service_packets::ServicePackets;
@@ -58,10 +58,11 @@ fn packets_of<'a>(
     requires version { version ≤ length plan.now.changes }
     requires service { k < length plan.now.services }
     requires versions { length lists.now ≡ length plan.now.changes + 1 }
-    requires lists { AreLists (plan_fields plan.now) (get_or lists.now version []) units.now.ends }
+    requires lists { AreLists (plan_fields plan.now) (frames_before (plan_fields plan.now) lists.now version) (get_or lists.now version []) units.now.units }
     requires counter { counter ≤ 15 }
     ensures written { (datagrams : List (List ℕ)) → slice_get (get_or lists.now version []) k ≡ Some datagrams
-        → packets_in result ≡ packets_of_service (service_in (plan_fields plan.now) version k) counter datagrams }
+        → packets_in result
+        ≡ packets_of_service (service_in (plan_fields plan.now) version k) counter (frames_before (plan_fields plan.now) lists.now version k) datagrams }
     ensures behind { behind_in result ≡ (counter + length (packets_in result)) % 16 }
     ensures most { length (packets_in result) ≤ 2 ^ 48 }
 {
@@ -71,7 +72,7 @@ fn packets_of<'a>(
     ServicePackets::new(
         plan.services.at(k),
         lists.at(version, k as u32),
-        units.ends_at(k),
+        units.units_at(k),
         pid,
         counter,
     )
@@ -109,7 +110,7 @@ impl<'a> Services<'a> {
     ghost use Rattle.std.specs.Prelude.{◌≡◌, ℕ, ◌+◌, ◌<◌, ◌≤◌, ◌^◌, [], length, get_or, nat_lt, is_some, Some, IfOk};
     ghost use Rattle.plan.specs.PlanView.{plan_fields};
     ghost use Rattle.stream_spec.specs.Parts.{PartFields};
-    ghost use Rattle.mux_core.specs.Services.{packet_total, turn_of, TakesTurn, AreLists, HasLists, Begins, counter_at};
+    ghost use Rattle.mux_core.specs.Services.{packet_total, turn_of, TakesTurn, AreLists, HasLists, Begins, counter_at, frames_before};
 
     /// The services of a plan before the first slot of version 0.
     pub(crate) fn new(
@@ -119,8 +120,8 @@ impl<'a> Services<'a> {
         units: &'a PartUnits,
     ) -> Result<Services<'a>, OutOfMemory>
         requires versions { length lists.now ≡ length plan.now.changes + 1 }
-        requires lists { AreLists (plan_fields plan.now) (get_or lists.now 0 []) units.now.ends }
-        ensures begun { IfOk result (λ s. (part : PartFields) → HasLists (plan_fields plan.now) 0 (get_or lists.now 0 []) (λ k. 0) part → Begins part s) }
+        requires lists { AreLists (plan_fields plan.now) (frames_before (plan_fields plan.now) lists.now 0) (get_or lists.now 0 []) units.now.units }
+        ensures begun { IfOk result (λ s. (part : PartFields) → HasLists (plan_fields plan.now) 0 (get_or lists.now 0 []) (λ k. 0) (frames_before (plan_fields plan.now) lists.now 0) part → Begins part s) }
         ensures most { IfOk result (λ s. packet_total s.packets ≤ 2 ^ 54) }
     {
         let mut services = Vec::new(alloc);
@@ -141,11 +142,12 @@ impl<'a> Services<'a> {
     )
         requires version { (0 < version) × (version ≤ length plan.now.changes) }
         requires versions { length lists.now ≡ length plan.now.changes + 1 }
-        requires lists { AreLists (plan_fields plan.now) (get_or lists.now version []) units.now.ends }
+        requires lists { AreLists (plan_fields plan.now) (frames_before (plan_fields plan.now) lists.now version) (get_or lists.now version []) units.now.units }
         requires size { length self.old.packets ≡ length plan.now.services }
         requires out { packet_total self.old.packets ≡ 0 }
         ensures begun { (part : PartFields)
-            → HasLists (plan_fields plan.now) version (get_or lists.now version []) (counter_at (plan_fields plan.now) version self.old.behind) part → Begins part self.new }
+            → HasLists (plan_fields plan.now) version (get_or lists.now version []) (counter_at (plan_fields plan.now) version self.old.behind)
+            (frames_before (plan_fields plan.now) lists.now version) part → Begins part self.new }
         ensures size { length self.new.packets ≡ length plan.now.services }
         ensures most { packet_total self.new.packets ≤ 2 ^ 54 }
     {

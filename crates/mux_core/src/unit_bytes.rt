@@ -58,7 +58,7 @@ pub(crate) struct UnitBytes {
 
 impl UnitBytes {
     ghost use Rattle.std.specs.Prelude.{◌≡◌, ◌≤◌, ◌<◌, ◌++◌, true, false, length, take};
-    ghost use Rattle.plan_spec.specs.Built.{is_sent};
+    ghost use Rattle.stream_law.specs.Words.{is_single};
     ghost use Rattle.plan.specs.Parts.{kind_seen};
     ghost use Rattle.mux_core.specs.Units.{IsFor};
     ghost use Rattle.mux_core.specs.Reading.{IsBegun, IsReading, bytes_left};
@@ -77,7 +77,7 @@ impl UnitBytes {
 
     /// Writes what the next unit has around its datagram, where no byte of it is out.
     fn begin(&mut self, service: &Service, datagram: &[u8])
-        requires built { is_sent (kind_seen service.now.kind) ≡ true }
+        requires single { is_single (kind_seen service.now.kind) ≡ true }
         requires datagram { IsFor (kind_seen service.now.kind) datagram.now }
         requires begun { 0 < self.old.out → IsBegun (kind_seen service.now.kind) service.now.unicast datagram.now self.old }
         ensures begun { IsBegun (kind_seen service.now.kind) service.now.unicast datagram.now self.new }

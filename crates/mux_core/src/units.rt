@@ -1,6 +1,6 @@
-//! A datagram of a service -> its unit.
+//! A datagram of a service whose datagrams have units of their own -> its unit.
 ghost use Rattle.std.specs.Prelude.{◌≡◌, ◌+◌, ◌*◌, ◌<◌, ◌≤◌, ◌^◌, true, length, map, IfOk};
-ghost use Rattle.plan_spec.specs.Built.{is_sent};
+ghost use Rattle.stream_law.specs.Words.{is_single};
 ghost use Rattle.plan.specs.Parts.{kind_seen};
 ghost use Rattle.mux_core.specs.Units.{unit_bytes, unit_with, ends_from, IsFor, AreFor};
 ghost use Rattle.stream_spec.specs.Units.{unit_of};
@@ -18,7 +18,7 @@ pub(crate) const MOST_AROUND: usize = 16;
 /// Writes the unit of a datagram without this to the front of `into`: what stands before it and, right after that, the CRC-32;
 /// answers how many bytes stand before it.
 pub(crate) fn write_around(service: &Service, datagram: &[u8], into: &mut [u8]) -> usize
-    requires built { is_sent (kind_seen service.now.kind) ≡ true }
+    requires single { is_single (kind_seen service.now.kind) ≡ true }
     requires datagram { IsFor (kind_seen service.now.kind) datagram.now }
     requires room { 16 ≤ length into.old }
     ensures most { result ≤ 12 }
@@ -37,7 +37,7 @@ pub(crate) fn write_around(service: &Service, datagram: &[u8], into: &mut [u8]) 
 
 /// Bytes of the unit of a datagram.
 fn unit_size(service: &Service, datagram: &[u8]) -> usize
-    requires built { is_sent (kind_seen service.now.kind) ≡ true }
+    requires single { is_single (kind_seen service.now.kind) ≡ true }
     requires datagram { IsFor (kind_seen service.now.kind) datagram.now }
     ensures size { result ≡ length (unit_of (kind_seen service.now.kind) service.now.unicast datagram.now) }
     ensures most { result ≤ 32773 }
@@ -56,7 +56,7 @@ pub(crate) fn ends_of(
     service: &Service,
     datagrams: &DatagramList,
 ) -> Result<Vec<usize>, OutOfMemory>
-    requires built { is_sent (kind_seen service.now.kind) ≡ true }
+    requires single { is_single (kind_seen service.now.kind) ≡ true }
     requires datagrams { AreFor (kind_seen service.now.kind) datagrams.now }
     requires few { length datagrams.now < 2 ^ 32 }
     ensures written { IfOk result (λ ends. ends.items ≡ ends_from 0 (map (unit_of (kind_seen service.now.kind) service.now.unicast) datagrams.now)) }

@@ -20,8 +20,8 @@ use std::alloc::Global;
 
 /// Writes the stream of what the services of a plan take of the capture that is read from `input`, and flushes it.
 ///
-/// The services are of SNDUs and datagram_sections. Where the capture has a fault, the stream of the records before it is
-/// written and flushed, and then the fault is answered. Where the input fails or memory runs out nothing is written.
+/// The services are of SNDUs, datagram_sections, and MPE-FEC frames without time slicing. Where the capture has a fault, the stream of the
+/// records before it is written and flushed, and then the fault is answered. Where the input fails or memory runs out nothing is written.
 pub fn send<I: Source, O: Sink>(
     alloc: Global,
     plan: &Plan,

@@ -8,26 +8,26 @@ ghost use Rattle.plan_spec.specs.Built.{are_sent};
 
 use plan::{Kind, Plan};
 
-/// Answers whether all services are of kinds that are sent so far: SNDUs and datagram_sections.
+/// Answers whether all services are of kinds that are sent so far: SNDUs, datagram_sections, and MPE-FEC frames without time slicing.
 pub fn can_send(plan: &Plan) -> bool
     ensures read { result ≡ are_sent (plan_fields plan.now) }
 {
     for k in 0..plan.services.len() {
-        if !has_units(&plan.services.at(k).kind) {
+        if !is_built(&plan.services.at(k).kind) {
             return false;
         }
     }
     true
 }
 
-/// Whether each datagram has a unit of its own.
-fn has_units(kind: &Kind) -> bool
+/// Whether services of this kind are sent so far.
+fn is_built(kind: &Kind) -> bool
     ensures read { result ≡ is_sent (kind_seen kind.now) }
 {
     match kind {
         Kind::Ule { .. } => true,
         Kind::Mpe { .. } => true,
-        Kind::Fec { .. } => false,
+        Kind::Fec { window, .. } => window.is_none(),
         Kind::Gse { .. } => false,
     }
 }

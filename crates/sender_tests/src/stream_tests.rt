@@ -5,11 +5,19 @@ use send_command::can_send;
 use service_plan::{Plan, read_plan};
 use std::alloc::Global;
 use std::test::Fail;
-use test_recordings::settings::{FILES, INT, LECTURE, STAMPED, settings_of};
+use test_recordings::settings::{FILES, FRAMES, INT, LECTURE, STAMPED, settings_of};
 use test_recordings::{Datagram, datagram_of, is_piece};
 
 /// Cycles of 100 slots.
 const CYCLE: &str = "cycle = 100\n";
+
+/// The lecture moves to PID 700 with the second record.
+const MOVED: &str = "[[change]]
+at = 2
+[[change.service]]
+name = \"lecture\"
+pid = 700
+";
 
 /// Sends two datagrams.
 fn send(
@@ -54,7 +62,7 @@ const A: [u8; 4] = [239, 1, 0, 1];
 
 const B: [u8; 4] = [239, 2, 0, 1];
 
-static CASES: [Case; 8] = [
+static CASES: [Case; 10] = [
     Case {
         name: "a section ends before the last byte of a packet",
         settings: &[LECTURE],
@@ -130,6 +138,76 @@ static CASES: [Case; 8] = [
             Piece {
                 place: 4189,
                 bytes: &[0xFF, 0xFF],
+            },
+        ],
+    },
+    Case {
+        name: "a frame of two datagrams, with all columns of its RS data table",
+        settings: &[FRAMES],
+        datagrams: [Datagram { size: 100, to: A }, Datagram { size: 100, to: A }],
+        room: 65536,
+        sent: Ok(Sent {
+            packets: 97,
+            datagrams: 2,
+        }),
+        bytes: 18236,
+        pieces: &[
+            // delta_t 0, address 0
+            Piece {
+                place: 0,
+                bytes: &[
+                    0x47, 0x42, 0, 0x10, 0, 0x3E, 0xB0, 0x71, 1, 0, 0xC1, 0, 0, 0, 0, 0, 0, 0x45,
+                ],
+            },
+            // table_boundary, address 100
+            Piece {
+                place: 121,
+                bytes: &[0x3E, 0xB0, 0x71, 1, 0, 0xC1, 0, 0, 0, 0x08, 0, 0x64, 0x45],
+            },
+            // the first column begins behind 232 bytes: 190 padding columns, column 0 of 63, address 0
+            Piece {
+                place: 188,
+                bytes: &[0x47, 0x42, 0, 0x11, 49],
+            },
+            Piece {
+                place: 242,
+                bytes: &[0x78, 0xB1, 0x0D, 190, 0xFF, 0xFF, 0, 63, 0, 0, 0, 0],
+            },
+        ],
+    },
+    Case {
+        name: "frames on two PIDs: their numbers go on",
+        settings: &[CYCLE, INT, FRAMES, MOVED],
+        datagrams: [Datagram { size: 100, to: A }, Datagram { size: 100, to: A }],
+        room: 65536,
+        sent: Ok(Sent {
+            packets: 197,
+            datagrams: 2,
+        }),
+        bytes: 37036,
+        pieces: &[
+            Piece {
+                place: 0,
+                bytes: &[0x47, 0x42, 0x58, 0x10, 0, 0x4C],
+            },
+            // delta_t 0, table_boundary, address 0
+            Piece {
+                place: 188,
+                bytes: &[
+                    0x47, 0x42, 0, 0x10, 0, 0x3E, 0xB0, 0x71, 1, 0, 0xC1, 0, 0, 0, 0x08, 0, 0, 0x45,
+                ],
+            },
+            Piece {
+                place: 18800,
+                bytes: &[0x47, 0x42, 0x58, 0x11, 0, 0x4C],
+            },
+            // delta_t 1, table_boundary, address 0
+            Piece {
+                place: 18988,
+                bytes: &[
+                    0x47, 0x42, 0xBC, 0x10, 0, 0x3E, 0xB0, 0x71, 1, 0, 0xC1, 0, 0, 0, 0x18, 0, 0,
+                    0x45,
+                ],
             },
         ],
     },

@@ -1,4 +1,4 @@
-use Rattle.std.proofs.Common.{◌≡◌, ◌+◌, List, [], ◌∷◌, map, take, sym, ap, subst, arith, ◌∙◌, true, Some}
+use Rattle.std.proofs.Common.{◌≡◌, ◌+◌, List, [], ◌∷◌, map, take, sym, ap, subst, arith, ◌∙◌, Some}
 use Rattle.std.specs.Prelude.{All, slice_get}
 use Rattle.std.proofs.lemmas.List.{map-append, length-map, take_all}
 use Rattle.std.proofs.lemmas.List.Elements.{All-push}
@@ -18,7 +18,7 @@ use Rattle.stream_law.proofs.Wholes.{few_changes, version_accepted}
 use Rattle.stream_law.proofs.Plans.{few_services}
 use Rattle.int_table.specs.Views.{entry_in}
 use Rattle.mux_core.proofs.Items.{map_at, list_all_at, take_next}
-use Rattle.mux_core.proofs.Moved.{Stays, stays_in, found_in, version_within}
+use Rattle.mux_core.proofs.Moved.{Stays, stays_in, found_in, version_within, frames_at}
 use Rattle.mux_core.proofs.Signalled.{platform_below, rules_valid, slashes_right, entry_is, with_entry, table_fits}
 use Rattle.mux_core.proofs.int_section.table_of.Goals as goal
 
@@ -28,12 +28,23 @@ new-table-requires-clause-platform_id_below c = (platform_below (plan_fields c.a
 pub new-table-requires-clause-version_below : goal.new-table-requires-clause-version_below
 new-table-requires-clause-version_below c = omega (arith, few_changes (plan_fields c.args.plan.now) c.args.plan.now.whole, version_within c.args.plan.now c.args.version c.requires.version)
 
-pub entry_of-requires : goal.entry_of-requires
-entry_of-requires c =
+pub entry_of-requires-clause-rules : goal.entry_of-requires-clause-rules
+entry_of-requires-clause-rules c =
     ap (list_all is_valid_rule) c.rules_in-rules.ensures
     ∙ rules_valid (plan_in (plan_fields c.args.plan.now) c.args.version) c.loop-place.place (service_in (plan_fields c.args.plan.now) c.args.version c.loop-place.place)
     (version_accepted (plan_fields c.args.plan.now) c.args.plan.now.whole c.args.version (version_within c.args.plan.now c.args.version c.requires.version))
     (found_in c.args.plan.now c.args.version c.loop-place.place c.at.result.now c.at.ensures.read)
+
+-- a service that is sent, with frames as there are
+pub entry_of-requires-clause-sent : goal.entry_of-requires-clause-sent
+entry_of-requires-clause-sent c =
+    let base : ServiceFields = service_seen c.at.result.now in
+    list_all_at is_sent (kinds (plan_fields c.args.plan.now)) c.loop-place.place base.kind
+    (map_at (λ (s : ServiceFields). s.kind) (plan_fields c.args.plan.now).services c.loop-place.place base
+    (map_at service_seen c.args.plan.now.services c.loop-place.place c.at.result.now c.at.ensures.read)) c.requires.built
+
+pub entry_of-requires-clause-frames : goal.entry_of-requires-clause-frames
+entry_of-requires-clause-frames c = frames_at c.args.plan.now c.loop-place.place c.at.result.now c.at.ensures.read
 
 pub push-requires : goal.push-requires
 push-requires c = record {
@@ -51,15 +62,12 @@ loop-place-preserved c =
     let service : ServiceFields = service_in (plan_fields c.args.plan.now) c.args.version c.loop-place.place in
     let stays : Stays base service = stays_in c.args.plan.now c.args.version c.loop-place.place c.at.result.now c.at.ensures.read in
     let found : slice_get plan.services c.loop-place.place ≡ Some service = found_in c.args.plan.now c.args.version c.loop-place.place c.at.result.now c.at.ensures.read in
-    let built : is_sent service.kind ≡ true = stays.sent ∙ list_all_at is_sent (kinds (plan_fields c.args.plan.now)) c.loop-place.place base.kind
-    (map_at (λ (s : ServiceFields). s.kind) (plan_fields c.args.plan.now).services c.loop-place.place base
-    (map_at service_seen c.args.plan.now.services c.loop-place.place c.at.result.now c.at.ensures.read)) c.requires.built in
     record {
       entries = with_entry (table_of plan (int_seen c.args.int.now)) c.loop-place.table c.push.new.self
           (map (entry_of c.args.plan.now.packet_rate) (take c.loop-place.place plan.services)) (map (entry_of c.args.plan.now.packet_rate) (take (c.loop-place.place + 1) plan.services))
           (entry_in c.in_ok-entry.entry) (entry_of c.args.plan.now.packet_rate service) c.loop-place.invariant.entries c.in-Ok.ensures.written
-          (entry_is c.args.plan.now.packet_rate service (entry_in c.in_ok-entry.entry) built (c.in_ok-entry.ensures.rules ∙ c.rules_in-rules.ensures) (c.in_ok-entry.ensures.service_id ∙ sym stays.service_id)
-          (c.in_ok-entry.ensures.component_tag ∙ sym stays.component_tag) c.in_ok-entry.ensures.slices)
+          (entry_is c.args.plan.now.packet_rate service (entry_in c.in_ok-entry.entry) (c.in_ok-entry.ensures.rules ∙ c.rules_in-rules.ensures) (c.in_ok-entry.ensures.service_id ∙ sym stays.service_id)
+          (c.in_ok-entry.ensures.component_tag ∙ sym stays.component_tag) (c.in_ok-entry.ensures.slices c.args.plan.now.packet_rate ∙ sym (stays.slices c.args.plan.now.packet_rate)))
           (ap (map (entry_of c.args.plan.now.packet_rate)) (take_next plan.services c.loop-place.place service found)
           ∙ map-append (entry_of c.args.plan.now.packet_rate) (take c.loop-place.place plan.services) (service ∷ []));
       rules = subst (λ (lists : List (List Rule)). All (All IsRule) lists)

@@ -12,8 +12,9 @@ use Rattle.stream_spec.specs.Stream.{part_of}
 use Rattle.stream_law.proofs.Plans.{few_services}
 use Rattle.stream_law.proofs.Wholes.{few_changes}
 use Rattle.mux_core.specs.PartUnits.{MadeUnits}
+use Rattle.mux_core.specs.Services.{listed}
 use Rattle.mux_core.specs.Sending.{AreDatagrams, AreUnits}
-use Rattle.mux_core.proofs.Streamed.{listed, are_listed, services_size, is_last_of}
+use Rattle.mux_core.proofs.Streamed.{are_listed, services_size, is_last_of}
 use Rattle.mux_core.proofs.Parted.{IsLastOf, IsBehind, HasHanded, nothing_handed, services_stay, part_behind, part_broken, all_put, some_put, count_is}
 use Rattle.mux_core.proofs.Staged.{slots_of, each_of, unit_found, writes_some, writes_all, section_there, few_at, first_begins, stands, next_begun, next_handed, next_stands}
 use Rattle.mux_core.proofs.sending.put_parts.Goals as goal
@@ -102,7 +103,7 @@ returns-in_err-slot-clause-written g c = λ datagrams are.
     c.section.ensures.read (λ int table. refl) c.new-table.ensures.at refl (first_begins plan lists units c.requires.units datagrams are c.args.services.now c.requires.begun) in
     let wrote = c.in_err-slot.ensures.written (part_of fields datagrams slots 0) stand in
     let failed = err_from_is_err_and c.from_residual.result c.from_residual.ensures.1 in
-    rw failed.1 (writes_some fields plan.whole datagrams old new failed.0
+    rw failed.1 (writes_some fields plan.whole c.requires.built datagrams old new failed.0
     (part_broken fields datagrams slots plan.whole (each_of fields plan.whole datagrams) last last_is 0 0 (ltb 0 last) old old new c.args.batch.now [] (omega arith) refl wrote.least wrote.count
     (nothing_handed fields datagrams slots 0 old c.args.batch.now refl c.requires.empty (Appends-nil old)) wrote.passes))
 
@@ -236,7 +237,7 @@ returns-in_err-slot-2-clause-written g c = λ datagrams are.
     old mid c.loop-version.batch c.loop-version.services c.begin.new.self c.loop-version.table c.new-table-in-loop-version.result before c.begin.ensures.begun in
     let wrote = c.in_err-slot-2.ensures.written (part_of fields datagrams slots version) stand in
     let failed = err_from_is_err_and c.from_residual-in_err-slot-2.result c.from_residual-in_err-slot-2.ensures.1 in
-    rw failed.1 (writes_some fields plan.whole datagrams old new failed.0
+    rw failed.1 (writes_some fields plan.whole c.requires.built datagrams old new failed.0
     (part_broken fields datagrams slots plan.whole (each_of fields plan.whole datagrams) last last_is version c.loop-version.slot (ltb version last) old mid new c.loop-version.batch [] le refl wrote.least wrote.count
     handed wrote.passes))
 
@@ -295,7 +296,7 @@ returns-in_err-put-clause-written g c = λ datagrams are.
     let end : c.loop-version.version - 1 + 1 ≡ last + 1 = omega (arith, c.loop-version-test.false, c.loop-version.auto.version, c.loop-version.auto.version-end) in
     let handed = subst (λ (v : ℕ). HasHanded fields datagrams slots v c.loop-version.slot old mid c.loop-version.batch) end (c.loop-version.invariant.behind datagrams are).handed in
     let failed = err_from_is_err_and c.from_residual-in_err-put.result c.from_residual-in_err-put.ensures.1 in
-    rw failed.1 (writes_some fields plan.whole datagrams old new failed.0
+    rw failed.1 (writes_some fields plan.whole c.requires.built datagrams old new failed.0
     (some_put fields datagrams slots plan.whole (each_of fields plan.whole datagrams) last last_is c.loop-version.slot old mid new c.loop-version.batch handed c.in_err-put.ensures.written))
 
 pub returns-clause-written : goal.returns-clause-written
@@ -312,6 +313,6 @@ returns-clause-written g c = λ datagrams are.
     let last_is = last_there plan lists units c.requires.units last c.last_version-last.ensures.within c.last_version-last.ensures.none c.last_version-last.ensures.some datagrams are in
     let end : c.loop-version.version - 1 + 1 ≡ last + 1 = omega (arith, c.loop-version-test.false, c.loop-version.auto.version, c.loop-version.auto.version-end) in
     let handed = subst (λ (v : ℕ). HasHanded fields datagrams slots v c.loop-version.slot old mid c.loop-version.batch) end (c.loop-version.invariant.behind datagrams are).handed in
-    writes_all fields plan.whole datagrams old new c.loop-version.slot
+    writes_all fields plan.whole c.requires.built datagrams old new c.loop-version.slot
     (all_put fields datagrams slots plan.whole (each_of fields plan.whole datagrams) last last_is c.loop-version.slot old mid new c.loop-version.batch handed c.in_ok-put.ensures.written)
     (count_is fields datagrams slots plan.whole (each_of fields plan.whole datagrams) last last_is c.loop-version.slot old mid c.loop-version.batch handed)

@@ -24,19 +24,19 @@ pub returns-in_err-units-clause-written : goal.returns-in_err-units-clause-writt
 returns-in_err-units-clause-written g c = λ gives stands.
     let plan : PlanFields = plan_fields c.args.plan.now in
     let fault = err_from_is_err_and c.from_residual.result c.from_residual.ensures.1 in
-    rw fault.1 (nothing_written plan (offered_in plan gives) fault.0 (g.K.Sink.told c.args.sink.now).held (c.there_is_one_stream.ensures.is plan (offered_in plan gives) c.args.plan.now.whole))
+    rw fault.1 (nothing_written plan (offered_in plan gives) fault.0 (g.K.Sink.told c.args.sink.now).held (c.there_is_one_stream.ensures.is plan (offered_in plan gives) c.args.plan.now.whole c.requires.built))
 
 pub returns-in_err-services-clause-written : goal.returns-in_err-services-clause-written
 returns-in_err-services-clause-written g c = λ gives stands.
     let plan : PlanFields = plan_fields c.args.plan.now in
     let fault = err_from_is_err_and c.from_residual-in_err-services.result c.from_residual-in_err-services.ensures.1 in
-    rw fault.1 (nothing_written plan (offered_in plan gives) fault.0 (g.K.Sink.told c.args.sink.now).held (c.there_is_one_stream.ensures.is plan (offered_in plan gives) c.args.plan.now.whole))
+    rw fault.1 (nothing_written plan (offered_in plan gives) fault.0 (g.K.Sink.told c.args.sink.now).held (c.there_is_one_stream.ensures.is plan (offered_in plan gives) c.args.plan.now.whole c.requires.built))
 
 pub returns-in_err-batch-clause-written : goal.returns-in_err-batch-clause-written
 returns-in_err-batch-clause-written g c = λ gives stands.
     let plan : PlanFields = plan_fields c.args.plan.now in
     let fault = err_from_is_err_and c.from_residual-in_err-batch.result c.from_residual-in_err-batch.ensures.1 in
-    rw fault.1 (nothing_written plan (offered_in plan gives) fault.0 (g.K.Sink.told c.args.sink.now).held (c.there_is_one_stream.ensures.is plan (offered_in plan gives) c.args.plan.now.whole))
+    rw fault.1 (nothing_written plan (offered_in plan gives) fault.0 (g.K.Sink.told c.args.sink.now).held (c.there_is_one_stream.ensures.is plan (offered_in plan gives) c.args.plan.now.whole c.requires.built))
 
 pub returns-in-Ok-clause-written : goal.returns-in-Ok-clause-written
 returns-in-Ok-clause-written g c = λ gives stands.
@@ -70,6 +70,14 @@ count_datagrams-datagrams-requires-clause-versions g c =
 pub count_datagrams-datagrams-requires-clause-services : goal.count_datagrams-datagrams-requires-clause-services
 count_datagrams-datagrams-requires-clause-services g c =
     few_lists (plan_fields c.args.plan.now) c.requires.offered.records c.args.offered.now c.requires.offered.stands (few_services (plan_fields c.args.plan.now) c.args.plan.now.valid)
+
+pub units_of-requires-clause-few : goal.units_of-requires-clause-few
+units_of-requires-clause-few g c =
+    below (datagram_count c.args.offered.now.lists)
+    (omega (arith, c.nothing_is_left_out.ensures.all (plan_fields c.args.plan.now) c.requires.offered.records c.args.offered.now c.requires.offered.stands, c.requires.offered.few))
+  where
+    below : (n : ℕ) → n < 4294967296 → n < 4294967296
+    below n less = less
 
 pub count_datagrams-datagrams-requires-clause-few : goal.count_datagrams-datagrams-requires-clause-few
 count_datagrams-datagrams-requires-clause-few g c =

@@ -7,7 +7,7 @@ use Rattle.plan.specs.Parts.{service_seen}
 use Rattle.plan.specs.PlanView.{plan_fields}
 use Rattle.plan.specs.declared.plan.Plan.{Plan}
 use Rattle.stream_law.proofs.Plans.{few_services}
-use Rattle.mux_core.specs.Services.{AreTaken, Takes}
+use Rattle.mux_core.specs.Services.{AreTaken, Takes, frames_before}
 use Rattle.mux_core.proofs.Items.{map_at}
 use Rattle.mux_core.proofs.Moved.{stays_in, kind_in, has_pid_in, pid_most, version_within, some_item}
 use Rattle.mux_core.proofs.services.packets_of.Goals as goal
@@ -32,10 +32,12 @@ new-requires c =
     let found = map_at service_seen c.args.plan.now.services c.args.k c.at.result.now c.at.ensures.read in
     let takes : Takes (service_seen c.at.result.now) c.at-2.result.now = c.requires.lists.taken.each c.args.k (service_seen c.at.result.now) c.at-2.result.now found c.at-2.ensures.read in
     record {
-      built = takes.built;
       datagrams = takes.datagrams_are;
       few = takes.few;
-      ends = c.requires.lists.each c.args.k (service_seen c.at.result.now) c.at-2.result.now c.ends_at.result.now found c.at-2.ensures.read c.ends_at.ensures.read;
+      units = (
+        frames_before (plan_fields c.args.plan.now) c.args.lists.now c.args.version c.args.k,
+        c.requires.lists.each c.args.k (service_seen c.at.result.now) c.at-2.result.now c.units_at.result.now found c.at-2.ensures.read c.units_at.ensures.read,
+      );
       pid = pid_most c.args.plan.now c.args.version c.args.k c.at.result.now c.at.ensures.read c.args.plan.now.whole (version_within c.args.plan.now c.args.version c.requires.version)
           c.in-Some.pid (sym c.pid_in.ensures.read ∙ c.in-Some.is);
       counter = c.requires.counter;
@@ -46,10 +48,12 @@ returns-clause-written c = λ datagrams listed.
     let same : c.at-2.result.now ≡ datagrams = same_item c.at-2.result.now datagrams (sym c.at-2.ensures.read ∙ listed) in
     let stays = stays_in c.args.plan.now c.args.version c.args.k c.at.result.now c.at.ensures.read in
     let service = service_in (plan_fields c.args.plan.now) c.args.version c.args.k in
-    c.new.ensures.written
-    ∙ ap₂ (λ (kind : KindFields) (unicast : List ℕ). packets_of_kind kind unicast c.args.counter c.at-2.result.now)
+    let number : ℕ = frames_before (plan_fields c.args.plan.now) c.args.lists.now c.args.version c.args.k in
+    let found = map_at service_seen c.args.plan.now.services c.args.k c.at.result.now c.at.ensures.read in
+    c.new.ensures.written number (c.requires.lists.each c.args.k (service_seen c.at.result.now) c.at-2.result.now c.units_at.result.now found c.at-2.ensures.read c.units_at.ensures.read)
+    ∙ ap₂ (λ (kind : KindFields) (unicast : List ℕ). packets_of_kind kind unicast c.args.counter number c.at-2.result.now)
     (sym (kind_in c.args.plan.now c.args.version c.args.k c.at.result.now c.at.ensures.read c.in-Some.pid (sym c.pid_in.ensures.read ∙ c.in-Some.is))) (sym stays.unicast)
-    ∙ ap (λ (ds : List (List ℕ)). packets_of_kind service.kind service.unicast c.args.counter ds) same
+    ∙ ap (λ (ds : List (List ℕ)). packets_of_kind service.kind service.unicast c.args.counter number ds) same
   where
     same_item : (a b : List (List ℕ)) → Some a ≡ Some b → a ≡ b
     same_item a b e = cc

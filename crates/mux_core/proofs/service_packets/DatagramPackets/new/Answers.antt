@@ -14,7 +14,7 @@ invariant_of-result g c =
     let kind : KindFields = kind_seen c.args.service.now.kind in
     let unicast : List ℕ = c.args.service.now.unicast in
     let datagrams : List (List ℕ) = c.args.datagrams.now in
-    sending_first g.F.UnitForm.START kind unicast datagrams c.args.ends.now c.new.result c.with_counter.result c.requires.built c.requires.datagrams c.requires.few c.new.ensures.first.0 c.new.ensures.first.1
+    sending_first g.F.UnitForm.START kind unicast datagrams c.args.ends.now c.new.result c.with_counter.result c.requires.single c.requires.datagrams c.requires.few c.new.ensures.first.0 c.new.ensures.first.1
     c.requires.ends.places
     (subst (AreRising g.F.UnitForm.START 0) (sym c.requires.ends.places) (rising_held g.F.UnitForm.START 0 (map (unit_of kind unicast) datagrams) c.requires.least))
     c.with_counter.ensures.on_way

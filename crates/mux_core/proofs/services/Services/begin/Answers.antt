@@ -11,7 +11,7 @@ use Rattle.plan.specs.PlanView.{plan_fields}
 use Rattle.plan.specs.declared.plan.Plan.{Plan}
 use Rattle.stream_law.proofs.Plans.{few_services}
 use Rattle.stream_law.proofs.Wholes.{no_item}
-use Rattle.mux_core.specs.Services.{packets_in, behind_in, packet_total, Serving, counter_at}
+use Rattle.mux_core.specs.Services.{packets_in, behind_in, packet_total, Serving, counter_at, frames_before}
 use Rattle.mux_core.specs.declared.service_packets.ServicePackets.{ServicePackets}
 use Rattle.mux_core.proofs.Turned.{total_at, service_at}
 use Rattle.mux_core.proofs.Made.{none_made, made_set, made_begin, made_few, behind_at}
@@ -28,7 +28,7 @@ loop-k-init c =
     let behind : map behind_in items ≡ c.args.self.now.behind = ap (λ (s : Serving). s.behind) c.self.view_is in
     record {
       size = omega (arith, length-map items packets_in, ap (λ (l : List (List PacketFields)). length l) packets, c.requires.size);
-      made = none_made (plan_fields c.args.plan.now) c.args.version (get_or c.args.lists.now c.args.version []) (counter_at (plan_fields c.args.plan.now) c.args.version c.args.self.now.behind) items;
+      made = none_made (plan_fields c.args.plan.now) c.args.version (get_or c.args.lists.now c.args.version []) (counter_at (plan_fields c.args.plan.now) c.args.version c.args.self.now.behind) (frames_before (plan_fields c.args.plan.now) c.args.lists.now c.args.version) items;
       out = λ j le. ap (λ (l : List (List PacketFields)). slice_index_or l j []) packets ∙ none_each c.args.self.now.packets c.requires.out j;
       kept = λ j le. ap (λ (l : List ℕ). slice_index l j) behind;
     }
@@ -58,8 +58,8 @@ loop-k-preserved c =
     = c.counter_of-counter.ensures.read ∙ ap (λ (n : ℕ). cond (shares_pid (pid_in plan c.args.version k) (pid_in plan (c.args.version - 1) k)) n 0) behind in
     record {
       size = length-set items k it ∙ c.loop-k.invariant.size;
-      made = made_set plan c.args.version (get_or c.args.lists.now c.args.version []) (counter_at plan c.args.version c.args.self.now.behind) items k it c.loop-k.invariant.made known
-          (λ datagrams listed. c.packets_of.ensures.written datagrams listed ∙ ap (λ (n : ℕ). packets_of (service_in plan c.args.version k) n datagrams) counter)
+      made = made_set plan c.args.version (get_or c.args.lists.now c.args.version []) (counter_at plan c.args.version c.args.self.now.behind) (frames_before plan c.args.lists.now c.args.version) items k it c.loop-k.invariant.made known
+          (λ datagrams listed. c.packets_of.ensures.written datagrams listed ∙ ap (λ (n : ℕ). packets_of (service_in plan c.args.version k) n (frames_before plan c.args.lists.now c.args.version k) datagrams) counter)
           (c.packets_of.ensures.behind ∙ ap (λ (n : ℕ). (n + length (packets_in it)) % 16) counter) c.packets_of.ensures.most;
       out = λ j le.
           ap (λ (l : List (List PacketFields)). slice_index_or l j []) (map-set packets_in items k it)
@@ -72,14 +72,14 @@ loop-k-preserved c =
 pub returns-clause-begun : goal.returns-clause-begun
 returns-clause-begun c =
     let size = same_size c.args.plan.now c.self.inside.services.items c.args.self.now (ap (λ (s : Serving). s.packets) c.self.view_is) c.requires.size in
-    made_begin (plan_fields c.args.plan.now) c.args.version (get_or c.args.lists.now c.args.version []) (counter_at (plan_fields c.args.plan.now) c.args.version c.args.self.now.behind) c.loop-k.self-inside.services.items
+    made_begin (plan_fields c.args.plan.now) c.args.version (get_or c.args.lists.now c.args.version []) (counter_at (plan_fields c.args.plan.now) c.args.version c.args.self.now.behind) (frames_before (plan_fields c.args.plan.now) c.args.lists.now c.args.version) c.loop-k.self-inside.services.items
     c.loop-k.k c.loop-k.invariant.made (omega (arith, c.loop-k.invariant.size, length-map c.args.plan.now.services service_seen))
     (omega (arith, c.loop-k-test.false, c.len-k-end.ensures, c.self.inside.services.ok.0, size, length-map c.args.plan.now.services service_seen))
 
 pub returns-clause-most : goal.returns-clause-most
 returns-clause-most c =
     let size = same_size c.args.plan.now c.self.inside.services.items c.args.self.now (ap (λ (s : Serving). s.packets) c.self.view_is) c.requires.size in
-    made_few (plan_fields c.args.plan.now) c.args.version (get_or c.args.lists.now c.args.version []) (counter_at (plan_fields c.args.plan.now) c.args.version c.args.self.now.behind) c.loop-k.self-inside.services.items
+    made_few (plan_fields c.args.plan.now) c.args.version (get_or c.args.lists.now c.args.version []) (counter_at (plan_fields c.args.plan.now) c.args.version c.args.self.now.behind) (frames_before (plan_fields c.args.plan.now) c.args.lists.now c.args.version) c.loop-k.self-inside.services.items
     c.loop-k.k c.loop-k.invariant.made (omega (arith, c.loop-k.invariant.size, length-map c.args.plan.now.services service_seen))
     (omega (arith, c.loop-k-test.false, c.len-k-end.ensures, c.self.inside.services.ok.0, size, length-map c.args.plan.now.services service_seen))
     (few_services (plan_fields c.args.plan.now) c.args.plan.now.valid)

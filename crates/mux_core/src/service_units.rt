@@ -1,0 +1,60 @@
+//! The datagrams of a service in one part -> its units, held until they are sent.
+ghost use Rattle.std.specs.Prelude.{◌≡◌, ◌<◌, ◌^◌, true, length, IfOk};
+ghost use Rattle.plan_spec.specs.Built.{is_sent};
+ghost use Rattle.plan.specs.Parts.{kind_seen};
+ghost use Rattle.stream_spec.specs.Units.{frame_count};
+ghost use Rattle.mux_core.specs.Units.{AreFor};
+ghost use Rattle.mux_core.specs.ServiceUnits.{AreUnitsFor, HasFrames, frames_in};
+
+use crate::units::ends_of;
+use frame_units::{FrameUnits, make_units};
+use ip_datagram::DatagramList;
+use plan::{Kind, Service};
+use std::alloc::{AllocError as OutOfMemory, Global};
+
+/// The units of a service in one part.
+#[derive(Drop)]
+pub(crate) enum ServiceUnits {
+    /// Where the units of its datagrams end among the bytes of all of them: each is made when it is sent.
+    Ends(Vec<usize>),
+    /// Those of its frames.
+    Frames(FrameUnits),
+}
+
+/// The units of these datagrams; the first frame has this number.
+pub(crate) fn units_of_service(
+    alloc: Global,
+    service: &Service,
+    datagrams: &DatagramList,
+    first: u32,
+) -> Result<ServiceUnits, OutOfMemory>
+    requires built { is_sent (kind_seen service.now.kind) ≡ true }
+    requires frames { HasFrames (kind_seen service.now.kind) }
+    requires datagrams { AreFor (kind_seen service.now.kind) datagrams.now }
+    requires few { length datagrams.now < 2 ^ 32 }
+    ensures made { IfOk result (AreUnitsFor (kind_seen service.now.kind) service.now.unicast first datagrams.now) }
+    ensures frames { IfOk result (λ units. frames_in units ≡ frame_count (kind_seen service.now.kind) datagrams.now) }
+{
+    match service.kind {
+        Kind::Fec { rows, parity, .. } => {
+            let made = make_units(alloc, datagrams, rows, parity, service.unicast, first)?;
+            Ok(ServiceUnits::Frames(made))
+        }
+        _ => Ok(ServiceUnits::Ends(ends_of(alloc, service, datagrams)?)),
+    }
+}
+
+impl ServiceUnits {
+    ghost use Rattle.std.specs.Prelude.{◌≡◌};
+    ghost use Rattle.mux_core.specs.ServiceUnits.{frames_in};
+
+    /// How many frames they are of.
+    pub(crate) fn frames(&self) -> u32
+        ensures { result ≡ frames_in self.now }
+    {
+        match self {
+            ServiceUnits::Ends(_) => 0,
+            ServiceUnits::Frames(made) => made.frames,
+        }
+    }
+}
