@@ -34,12 +34,12 @@ run_is bytes marks limit (suc size) (suc most) place long order at known over =
     (λ below. ap (λ (p : ℕ). is_known_mark (get_or marks p 0)) e ∙ over (omega (arith, below))))
     ∙ ap (take (suc size)) (sym (drop_more bytes place 0 (omega arith)))
 
--- a run goes on after its first byte
-pub run_later : (marks : List ℕ) (limit start end : ℕ) → IsRun marks limit start end → start + 1 < end → IsRun marks limit (start + 1) end
-run_later marks limit start end run some = record {
-  order = omega (arith, some);
+-- a run goes on after its first bytes
+pub run_later : (marks : List ℕ) (limit start later end : ℕ) → IsRun marks limit start end → start ≤ later → later ≤ end → IsRun marks limit later end
+run_later marks limit start later end run after before = record {
+  order = before;
   within = run.within;
-  known = λ place from below. run.known place (omega (arith, from)) below;
+  known = λ place from below. run.known place (omega (arith, after, from)) below;
   over = run.over;
 }
 

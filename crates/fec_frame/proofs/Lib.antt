@@ -1,4 +1,5 @@
 pub mod KnownRuns
+pub mod Blocks
 pub mod Marking
 pub mod Filling
 pub mod Placing

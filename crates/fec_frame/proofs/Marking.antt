@@ -137,6 +137,34 @@ module _ (bytes old marks : List ℕ) (limit place : ℕ) (up_to : AreMarkedUpTo
             by_only (inl first) = inl first
             by_only (inr found) = inr (found.0, omega (arith, found.1), kept_start found.0 found.2, found.3)
 
+-- Further on, where nothing starts in between.
+
+module _ (bytes old marks : List ℕ) (limit place next : ℕ) (up_to : AreMarkedUpTo bytes old marks limit place) (order : place ≤ next)
+    (none : (p : ℕ) → place ≤ p → p < next → is_start_mark (get_or marks p 0) ≡ false) where
+  start_before : (p : ℕ) → p < next → is_start_mark (get_or marks p 0) ≡ true → p < place
+  start_before p below start = by_place (cases_lt p place)
+    where
+      by_place : (p < place) ⊎ (place ≤ p) → p < place
+      by_place (inl before) = before
+      by_place (inr after) = both_tests (sym start ∙ none p after below)
+        where
+          both_tests : true ≡ false → p < place
+          both_tests e = absurd (cc)
+
+  pub marked_on : AreMarkedUpTo bytes old marks limit next
+  marked_on = record {
+    long = up_to.long;
+    known = up_to.known;
+    kept = up_to.kept;
+    told = λ p q below low start told. up_to.told p q (start_before p below start) low start told;
+    only = λ q low start. by_only q (up_to.only q low start);
+  }
+    where
+      by_only : (q : ℕ) → (is_start_mark (get_or old q 0) ≡ true) ⊎ ((p : ℕ) × (p < place) × (is_start_mark (get_or marks p 0) ≡ true) × IsEndTold bytes old limit p q)
+          → (is_start_mark (get_or old q 0) ≡ true) ⊎ ((p : ℕ) × (p < next) × (is_start_mark (get_or marks p 0) ≡ true) × IsEndTold bytes old limit p q)
+      by_only q (inl first) = inl first
+      by_only q (inr found) = inr (found.0, omega (arith, found.1, order), found.2, found.3)
+
 -- nothing is marked yet
 pub marked_none : (bytes marks : List ℕ) (limit : ℕ) → AreMarkedUpTo bytes marks marks limit 0
 marked_none bytes marks limit = record {

@@ -19,7 +19,7 @@ mod table;
 
 pub use padding::padding_of;
 pub use place::TableAnswer;
-pub use run::{is_start, run_end};
+pub use run::{is_start, next_start, run_end};
 pub use solving::RowCounts;
 pub use table::Table;
 

@@ -5,6 +5,7 @@ ghost use Rattle.fec_frame.specs.Marks.{is_known_mark};
 ghost use Rattle.fec_frame.specs.Runs.{IsPattern, unmarked};
 
 use crate::fill::is_known;
+use crate::run::{gap_end, run_end};
 use arrayvec::ArrayVec;
 
 /// Answers where the rows end that are known in a column exactly where row `from` is: `end` at most.
@@ -18,12 +19,13 @@ fn column_end(marks: &[u8], rows: usize, j: usize, from: usize, end: usize) -> u
     ensures most { result ≤ end }
     ensures same { (r : ℕ) → from ≤ r → r < result → is_known_mark (slice_index marks.now (j * rows + r)) ≡ is_known_mark (slice_index marks.now (j * rows + from)) }
 {
-    let known = is_known(marks[j * rows + from]);
-    let mut to = from + 1;
-    while to < end && is_known(marks[j * rows + to]) == known {
-        to += 1;
-    }
-    to
+    let first = j * rows;
+    let to = if is_known(marks[first + from]) {
+        run_end(marks, first + from + 1, first + end)
+    } else {
+        gap_end(marks, first + from + 1, first + end)
+    };
+    to - first
 }
 
 /// Answers where the rows end that lack the same columns as row `from`.

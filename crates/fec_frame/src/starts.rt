@@ -5,7 +5,7 @@ ghost use Rattle.fec_frame.specs.Marks.{AreEdgesMarked, AreStartsMarked, IsRun, 
 ghost use Rattle.fec_frame.specs.Marking.{AreMarkedUpTo};
 
 use crate::fill::with_start;
-use crate::run::{is_start, run_end};
+use crate::run::{next_start, run_end};
 use ip_datagram::{Hint, length_hint};
 
 /// Answers where the known bytes end that begin at `place`: `end`, where that is further on.
@@ -39,18 +39,16 @@ fn mark_next(bytes: &[u8], marks: &mut [u8], place: usize, end: usize, limit: us
     }
 }
 
-/// Marks what the start at `place` tells, if there is one, and answers where the known bytes end.
+/// Marks what the start at `place` tells, and answers where the known bytes end.
 fn mark_at(bytes: &[u8], marks: &mut [u8], place: usize, end: usize, limit: usize) -> usize
     requires bytes_long { limit ≤ length bytes.now }
     requires marks_long { limit ≤ length marks.old }
     requires below { place < limit }
     requires run { place < end → IsRun marks.old limit place end }
+    requires start { is_start_mark (slice_index marks.old place) ≡ true }
     ensures more { (old : List ℕ) → AreMarkedUpTo bytes.now old marks.old limit place → AreMarkedUpTo bytes.now old marks.new limit (place + 1) }
-    ensures run { place + 1 < result → IsRun marks.new limit (place + 1) result }
+    ensures run { IsRun marks.new limit place result }
 {
-    if !is_start(marks[place]) {
-        return end;
-    }
     let run = end_of(marks, place, end, limit);
     mark_next(bytes, marks, place, run, limit);
     run
@@ -64,7 +62,9 @@ pub fn mark_starts(bytes: &[u8], marks: &mut [u8], limit: usize)
     ensures marked { (rows : ℕ) (sections : List MpeFields) → limit ≡ 191 * rows → AreEdgesMarked rows marks.old sections → AreStartsMarked rows bytes.now marks.new sections }
 {
     let mut end = 0;
-    for place in 0..limit {
+    let mut place = next_start(marks, 0, limit);
+    while place < limit {
         end = mark_at(bytes, marks, place, end, limit);
+        place = next_start(marks, place + 1, limit);
     }
 }

@@ -1,5 +1,5 @@
 -- Where the marks tell the starts, a walk finds the datagrams of the frame.
-use Rattle.std.proofs.Common.{◌≡◌, ◌⊎◌, inl, inr, ℕ, zero, suc, ◌+◌, ◌-◌, ◌*◌, ◌<◌, ◌≤◌, Bool, true, false, ◌||◌, ◌&&◌, cond, leb, List, [], ◌∷◌, ◌++◌, length, get_or, flat_map, Option, Some, None, refl, ap, ap₂, sym, ◌∙◌, subst, arith, append_assoc, append-nil}
+use Rattle.std.proofs.Common.{◌≡◌, ◌⊎◌, inl, inr, ℕ, zero, suc, ◌+◌, ◌-◌, ◌*◌, ◌<◌, ◌≤◌, Bool, true, false, ◌||◌, ◌&&◌, cond, leb, List, [], ◌∷◌, ◌++◌, get_or, flat_map, Option, refl, ap, ap₂, sym, ◌∙◌, subst, arith, append_assoc, append-nil}
 use Rattle.std.specs.List.{list_any}
 use Rattle.std.proofs.lemmas.Bool.{cases_Bool}
 use Rattle.std.proofs.lemmas.List.Concat.{flat_map-append}
@@ -11,7 +11,7 @@ use Rattle.frame_spec.specs.Sections.{FrameSection, data_of}
 use Rattle.frame_spec.specs.Known.{known_byte}
 use Rattle.frame_spec.specs.Corrected.{corrected_byte}
 use Rattle.frame_spec.specs.Delivered.{frame_datagrams}
-use Rattle.frame_spec.specs.Starts.{run_on, run_within, known_run, is_first_start, ends_at, tells_end, starts_below, front_datagram, datagram_from, found_datagrams, IsDatagramStart}
+use Rattle.frame_spec.specs.Starts.{run_on, run_within, known_run, is_first_start, ends_at, tells_end, starts_below, front_datagram, datagram_from, found_datagrams}
 use Rattle.frame_law.proofs.Starts.{starts_are, start_in}
 use Rattle.fec_frame.specs.Marks.{is_start_mark, marked_byte, marked_run, AreStartsMarked}
 use Rattle.fec_frame.specs.Stands.{TableState, IsSolved}

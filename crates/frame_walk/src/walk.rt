@@ -3,7 +3,7 @@ ghost use Rattle.std.specs.Prelude.{◌≡◌, ◌<◌, ◌≤◌, [], ◌∷◌
 ghost use Rattle.frame_walk.specs.Found.{front_list};
 ghost use Rattle.fec_frame.specs.Marks.{IsRun};
 
-use fec_frame::{Table, is_start, run_end};
+use fec_frame::{Table, next_start, run_end};
 use ip_datagram::front;
 use std::alloc::Allocator;
 
@@ -53,19 +53,20 @@ impl<'t> Walk<'t> {
         }
     }
 
-    /// Answers where the known bytes end that begin here.
-    fn end(&self) -> usize
-        requires below { self.now.at < self.now.limit }
-        ensures run { IsRun self.now.marks.now self.now.limit self.now.at result }
+    /// Answers where the known bytes end that begin at `start`.
+    fn end(&self, start: usize) -> usize
+        requires ahead { self.now.at ≤ start }
+        requires below { start < self.now.limit }
+        ensures run { IsRun self.now.marks.now self.now.limit start result }
     {
-        if self.at < self.run {
+        if start < self.run {
             self.run
         } else {
-            run_end(self.marks, self.at, self.limit)
+            run_end(self.marks, start, self.limit)
         }
     }
 
-    /// Goes one place on, and answers the datagram that stands at the place before.
+    /// Goes past the next start, and answers the datagram that stands there.
     fn step(&mut self) -> Option<&'t [u8]>
         requires before { self.old.at < self.old.limit }
         ensures some { IfSome result (λ d. left_of self.old ≡ d.now ∷ left_of self.new) }
@@ -73,15 +74,14 @@ impl<'t> Walk<'t> {
         ensures at { self.old.at < self.new.at }
         ensures limit { self.new.limit ≡ self.old.limit }
     {
-        let start = self.at;
-        let marks = self.marks;
         let bytes = self.bytes;
         let limit = self.limit;
-        if !is_start(marks[start]) {
-            self.at = start + 1;
+        let start = next_start(self.marks, self.at, limit);
+        if start == limit {
+            self.at = limit;
             return None;
         }
-        let end = self.end();
+        let end = self.end(start);
         self.run = end;
         self.at = start + 1;
         front_of(&bytes[start..end])

@@ -1,4 +1,4 @@
-use Rattle.std.proofs.Common.{◌≡◌, ◌*◌, ℕ, List, ap, ◌∙◌}
+use Rattle.std.proofs.Common.{◌*◌, ℕ, List, ap, ◌∙◌}
 use Rattle.frame_walk.specs.Found.{found_from}
 use Rattle.frame_walk.proofs.Marked.{walk_finds}
 use Rattle.frame_walk.proofs.walk.Walk.over.Goals as goal
