@@ -3,8 +3,9 @@ use Rattle.std.proofs.Common.{◌≡◌, ℕ, ◌+◌, ◌*◌, ◌^◌, ◌≤�
 use Rattle.wire_spec.specs.Causes.{raised}
 use Rattle.reception_spec.specs.Numbers.{PidNumbers, UnitNumbers}
 use Rattle.reception_spec.specs.Sums.{sum_of_numbers}
-use Rattle.reception_law.specs.Sums.{sum_of_units, AreAtMost, UnitsAreAtMost}
-use Rattle.demux_core.specs.Counts.{raised_numbers, raised_units}
+use Rattle.reception_spec.specs.Frames.{FrameNumbers, sum_of_frames}
+use Rattle.reception_law.specs.Sums.{sum_of_units, AreAtMost, UnitsAreAtMost, FramesAreAtMost}
+use Rattle.demux_core.specs.Counts.{raised_numbers, raised_units, raised_frames}
 
 below : (a b n : ℕ) → a ≤ 2 ^ 45 → b ≤ 189 * n → n ≤ 2 ^ 32 → raised a b ≡ a + b
 below a b n few_a few_b few = omega (arith, few_a, few_b, few)
@@ -36,3 +37,16 @@ units_summed a b n most_a most_b few =
     ap (λ (x : ℕ). units_from x (raised a.filtered b.filtered) (raised a.datagrams b.datagrams)) (below a.unread b.unread n most_a.unread most_b.unread few)
     ∙ ap (λ (x : ℕ). units_from (a.unread + b.unread) x (raised a.datagrams b.datagrams)) (below a.filtered b.filtered n most_a.filtered most_b.filtered few)
     ∙ ap (λ (x : ℕ). units_from (a.unread + b.unread) (a.filtered + b.filtered) x) (below a.datagrams b.datagrams n most_a.datagrams most_b.datagrams few)
+
+below_frames : (a b n : ℕ) → a ≤ 2 ^ 63 → b ≤ 36965565 * n → n ≤ 2 ^ 32 → raised a b ≡ a + b
+below_frames a b n few_a few_b few = omega (arith, few_a, few_b, few)
+
+abbrev frames_from : ℕ → ℕ → ℕ → ℕ → FrameNumbers
+frames_from f m l d = record { frames = f; rows_mended = m; rows_left = l; datagrams = d }
+
+pub frames_summed : (a b : FrameNumbers) (n : ℕ) → FramesAreAtMost (2 ^ 63) a → FramesAreAtMost (36965565 * n) b → n ≤ 2 ^ 32 → raised_frames a b ≡ sum_of_frames a b
+frames_summed a b n most_a most_b few =
+    ap (λ (x : ℕ). frames_from x (raised a.rows_mended b.rows_mended) (raised a.rows_left b.rows_left) (raised a.datagrams b.datagrams)) (below_frames a.frames b.frames n most_a.frames most_b.frames few)
+    ∙ ap (λ (x : ℕ). frames_from (a.frames + b.frames) x (raised a.rows_left b.rows_left) (raised a.datagrams b.datagrams)) (below_frames a.rows_mended b.rows_mended n most_a.rows_mended most_b.rows_mended few)
+    ∙ ap (λ (x : ℕ). frames_from (a.frames + b.frames) (a.rows_mended + b.rows_mended) x (raised a.datagrams b.datagrams)) (below_frames a.rows_left b.rows_left n most_a.rows_left most_b.rows_left few)
+    ∙ ap (λ (x : ℕ). frames_from (a.frames + b.frames) (a.rows_mended + b.rows_mended) (a.rows_left + b.rows_left) x) (below_frames a.datagrams b.datagrams n most_a.datagrams most_b.datagrams few)

@@ -1,9 +1,12 @@
+pub mod KindWords
 pub mod Laws
 pub mod Counted
 pub mod OnPids
 pub mod PlacesFrom
 pub mod One
+pub mod Switches
 pub mod Whole
 pub mod OnePacket
 pub mod Numbers
 pub mod Opened
+pub mod Closing

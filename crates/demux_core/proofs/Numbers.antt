@@ -17,7 +17,7 @@ use Rattle.demux_core.specs.Services.{HaveAllReceived}
 use Rattle.demux_core.specs.declared.service.ServiceReceiver.{ServiceReceiver}
 use Rattle.demux_core.specs.declared.table.TableReceiver.{TableReceiver}
 use Rattle.demux_core.proofs.Laws.{Laws}
-use Rattle.demux_core.proofs.Whole.{Misses, all_passed, nothing_given}
+use Rattle.demux_core.proofs.Whole.{Misses, int_passes, all_passed, nothing_given}
 
 -- Which record is counted where.
 
@@ -221,17 +221,18 @@ pub misses_none : (r : Record) → IsOnNone r → (receivers : List ServiceRecei
 misses_none r none receivers = λ k receiver found. none receiver.pid
 
 pub all_miss : (plan : PlanFields) (laws : Laws plan) (receivers : List ServiceReceiver) (table : Option TableReceiver) (records : List Record) (r : Record) → IsOnNone r
-    → HaveAllReceived plan receivers table records → HaveAllReceived plan receivers table (records ++ r ∷ [])
+    → HaveAllReceived false plan receivers table records → HaveAllReceived false plan receivers table (records ++ r ∷ [])
 all_miss plan laws receivers table records r none all = all_passed plan laws receivers table records r all (λ pid own. none pid) (misses_none r none receivers)
 
 pub none_given : (plan : PlanFields) (laws : Laws plan) (receivers : List ServiceReceiver) (table : Option TableReceiver) (records : List Record) (r : Record) → IsOnNone r
-    → HaveAllReceived plan receivers table records → pairs_of_record plan (records ++ r ∷ []) (length records) ≡ []
-none_given plan laws receivers table records r none all = nothing_given plan laws receivers table records r all (misses_none r none receivers)
+    → HaveAllReceived false plan receivers table records → pairs_of_record plan (records ++ r ∷ []) (length records) ≡ []
+none_given plan laws receivers table records r none all =
+    nothing_given plan laws receivers table records r all (misses_none r none receivers) (int_passes plan laws receivers table records r all (λ pid own. none pid)).1
 
 -- the same under equal plans, receivers and records
-pub all_along : (a b : PlanFields) (xs ys : List ServiceReceiver) (table : Option TableReceiver) (rs ss : List Record) → a ≡ b → xs ≡ ys → rs ≡ ss
-    → HaveAllReceived a xs table rs → HaveAllReceived b ys table ss
-all_along a b xs ys table rs ss plans receivers records all =
-    subst (λ (t : List Record). HaveAllReceived b ys table t) records
-    (subst (λ (t : List ServiceReceiver). HaveAllReceived b t table rs) receivers
-    (subst (λ (t : PlanFields). HaveAllReceived t xs table rs) plans all))
+pub all_along : (ended : Bool) (a b : PlanFields) (xs ys : List ServiceReceiver) (table : Option TableReceiver) (rs ss : List Record) → a ≡ b → xs ≡ ys → rs ≡ ss
+    → HaveAllReceived ended a xs table rs → HaveAllReceived ended b ys table ss
+all_along ended a b xs ys table rs ss plans receivers records all =
+    subst (λ (t : List Record). HaveAllReceived ended b ys table t) records
+    (subst (λ (t : List ServiceReceiver). HaveAllReceived ended b t table rs) receivers
+    (subst (λ (t : PlanFields). HaveAllReceived ended t xs table rs) plans all))

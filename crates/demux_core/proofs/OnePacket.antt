@@ -1,5 +1,5 @@
 -- A packet that is none of the INT: it is one of a service, or of no one.
-use Rattle.std.proofs.Common.{◌≡◌, ℕ, ◌^◌, ◌<◌, true, false, ◌||◌, Option, None, Some, List, [], ◌∷◌, ◌++◌, length, set, get_or, refl, ap, ap₂, ◌∙◌, subst}
+use Rattle.std.proofs.Common.{◌≡◌, ℕ, ◌^◌, ◌<◌, true, false, ◌||◌, Option, None, Some, List, [], ◌∷◌, ◌++◌, length, set, get_or, refl, ap, ap₂, sym, ◌∙◌, subst}
 use Rattle.std.specs.Prelude.{◌==◌, slice_get}
 use Rattle.std.specs.List.{position}
 use Rattle.std.proofs.lemmas.Option.{slice_get_read, get_or_from_slice_get}
@@ -10,20 +10,29 @@ use Rattle.plan_spec.specs.Changes.{no_service, plan_in, has_wrong_change}
 use Rattle.reception_spec.specs.Packets.{is_pid_of}
 use Rattle.reception_spec.specs.Spans.{version_at_end, span_of}
 use Rattle.reception_spec.specs.Delivered.{service_on, pairs_of_record}
-use Rattle.service_reception.specs.Reception.{packet_record, added_by}
+use Rattle.reception_law.specs.Words.{added_by}
+use Rattle.service_reception.specs.Reception.{packet_record}
 use Rattle.service_reception.specs.Telling.{pairs_of}
 use Rattle.service_reception.proofs.Records.{is_of_read}
 use Rattle.demux_core.specs.Services.{IsReception, IsReceivingOne, HaveAllReceived, is_table_pid}
 use Rattle.demux_core.specs.declared.service.ServiceReceiver.{ServiceReceiver}
+use Rattle.demux_core.specs.declared.services.Services.{Services}
 use Rattle.demux_core.specs.declared.table.TableReceiver.{TableReceiver}
 use Rattle.demux_core.proofs.Laws.{Laws}
 use Rattle.demux_core.proofs.OnPids.{found_at, not_found, place_known}
 use Rattle.demux_core.proofs.One.{is_receiving}
-use Rattle.demux_core.proofs.Whole.{known, misses_all, none_took, nothing_given, service_took, given_by_one}
+use Rattle.demux_core.proofs.Whole.{known, misses_all, still_in_force, none_took, nothing_given, service_took, given_by_one}
+
+-- what left the receivers as they were
+pub left_as : (plan : PlanFields) (old new : Services) (table left : Option TableReceiver) (records : List Record) → new ≡ old → left ≡ table
+    → HaveAllReceived false plan old.receivers.items table records → HaveAllReceived false plan new.receivers.items left records
+left_as plan old new table left records same same_table all =
+    subst (λ (t : Option TableReceiver). HaveAllReceived false plan new.receivers.items t records) (sym same_table)
+    (subst (λ (s : Services). HaveAllReceived false plan s.receivers.items table records) (sym same) all)
 
 module _ (plan : PlanFields) (laws : Laws plan) (right : has_wrong_change plan ≡ false) (receivers : List ServiceReceiver) (table : Option TableReceiver) (records : List Record)
     (moment : ℕ) (bytes : List ℕ) (pid : ℕ) (readable : is_packet bytes ≡ true) (of_pid : (fields_of bytes).pid ≡ pid)
-    (off : is_table_pid table pid ≡ false) (all : HaveAllReceived plan receivers table records) where
+    (off : is_table_pid table pid ≡ false) (all : HaveAllReceived false plan receivers table records) where
   abbrev r : Record
   r = packet_record moment bytes
 
@@ -35,7 +44,7 @@ module _ (plan : PlanFields) (laws : Laws plan) (right : has_wrong_change plan �
 
   -- of no service
   module _ (none : found ≡ None) where
-    pub none_received : HaveAllReceived plan receivers table after
+    pub none_received : HaveAllReceived false plan receivers table after
     none_received = none_took plan laws receivers table records r all right pid of_pid off (not_found receivers pid none)
 
     pub none_known : is_pid_of (plan_in plan (version_at_end plan records)) pid ≡ false
@@ -44,7 +53,9 @@ module _ (plan : PlanFields) (laws : Laws plan) (right : has_wrong_change plan �
         ∙ ap₂ (λ a b. a || b) off (not_found receivers pid none)
 
     pub none_pairs : pairs_of_record plan after (length records) ≡ []
-    none_pairs = nothing_given plan laws receivers table records r all (misses_all plan laws receivers table records r all right pid of_pid (not_found receivers pid none))
+    none_pairs =
+        nothing_given plan laws receivers table records r all (misses_all plan laws receivers table records r all right pid of_pid (not_found receivers pid none))
+        (still_in_force plan laws receivers table records r all right pid of_pid off)
 
   -- of a service
   module _ (k : ℕ) (old : ServiceReceiver) (is_found : found ≡ Some k) (is_there : old ≡ get_or receivers k old) where
@@ -60,16 +71,16 @@ module _ (plan : PlanFields) (laws : Laws plan) (right : has_wrong_change plan �
         ∙ ap₂ (λ a b. a || b) off (place_known receivers pid k is_found)
 
     pub to_receive : (service : ServiceFields) → slice_get plan.services k ≡ Some service → length records < 2 ^ 32
-        → IsReceivingOne service.filter pid (service_on plan k old.pid) old (span_of plan k old.pid records)
+        → IsReceivingOne plan.recording service.filter pid (service_on plan k old.pid) old (span_of plan k old.pid records)
     to_receive service is few =
-        subst (λ (s : ServiceFields). IsReceivingOne s.filter pid (service_on plan k old.pid) old (span_of plan k old.pid records))
+        subst (λ (s : ServiceFields). IsReceivingOne plan.recording s.filter pid (service_on plan k old.pid) old (span_of plan k old.pid records))
         (get_or_from_slice_get plan.services k service no_service is)
         (is_receiving plan laws k old records r (all.services.each k old there) pid at few)
 
-    pub one_received : (new : ServiceReceiver) → new.pid ≡ old.pid → new.before ≡ old.before
-        → IsReception (service_on plan k old.pid) new.reception (span_of plan k old.pid records ++ r ∷ []) → HaveAllReceived plan (set receivers k new) table after
-    one_received new pid_same before_same took =
-        service_took plan laws receivers table records r all right pid of_pid k old there at new off pid_same before_same took
+    pub one_received : (new : ServiceReceiver) → new.pid ≡ old.pid → new.before ≡ old.before → new.frames_before ≡ old.frames_before
+        → IsReception false plan.recording (service_on plan k old.pid) new.reception (span_of plan k old.pid records ++ r ∷ []) → HaveAllReceived false plan (set receivers k new) table after
+    one_received new pid_same before_same frames_same took =
+        service_took plan laws receivers table records r all right pid of_pid k old there at new off pid_same before_same frames_same took
 
-    pub one_pairs : pairs_of_record plan after (length records) ≡ pairs_of k (added_by (service_on plan k old.pid) (span_of plan k old.pid records) r)
+    pub one_pairs : pairs_of_record plan after (length records) ≡ pairs_of k (added_by plan.recording (service_on plan k old.pid) (span_of plan k old.pid records) r)
     one_pairs = given_by_one plan laws receivers table records r all right pid of_pid k old there at (is_of_read pid bytes readable of_pid)

@@ -20,18 +20,21 @@ use Rattle.reception_spec.specs.Table.{is_int_section, table_pid, table_sections
 use Rattle.reception_spec.specs.Shown.{says_version, table_section}
 use Rattle.reception_spec.specs.Spans.{version_at_end, span_of}
 use Rattle.reception_spec.specs.Delivered.{service_on, pairs_of_record}
-use Rattle.service_reception.specs.Reception.{added_by}
+use Rattle.reception_spec.specs.Delivered as delivered
+use Rattle.reception_law.specs.Words.{added_by}
+use Rattle.reception_law.specs.InForce.{pid_in_force}
 use Rattle.service_reception.specs.Telling.{pairs_of, Told, StopsWithin}
 use Rattle.service_reception.specs.Table.{shown_among}
 use Rattle.service_reception.proofs.Fronts.{table_stays}
 use Rattle.demux_core.specs.Outlets.{Delivers, DeliversFront}
-use Rattle.demux_core.specs.Moving.{AllFollow}
+use Rattle.demux_core.specs.Moving.{AllFollow, closed_by_switch}
 use Rattle.demux_core.specs.Services.{IsReception, HasReceivedOne, HaveReceived, HasReceivedBy, HasReceivedInt, HaveAllReceived, is_table_pid, is_service_pid, version_of_table}
 use Rattle.demux_core.specs.declared.service.ServiceReceiver.{ServiceReceiver}
 use Rattle.demux_core.specs.declared.table.TableReceiver.{TableReceiver}
 use Rattle.demux_core.proofs.Laws.{Laws}
 use Rattle.demux_core.proofs.OnPids.{neither, some_at, set_same, set_other, receiver_pids, none_passes, pids_apart, any_by_pid}
 use Rattle.demux_core.proofs.One.{one_passes, one_took, one_follows}
+use Rattle.demux_core.proofs.Switches.{switch_pairs}
 
 true_false : true ≡ false → ⊥
 true_false e = cc
@@ -65,7 +68,7 @@ pids_by (it ∷ services) (receiver ∷ receivers) size each =
     ap (λ (o : Option ℕ). cons_option o (pids_of services)) (each 0 receiver refl)
     ∙ ap (λ (t : List ℕ). receiver.pid ∷ t) (pids_by services receivers (omega (arith, size)) (λ k other found. each (suc k) other found))
 
-pub same_pids : (plan : PlanFields) (version : ℕ) (receivers : List ServiceReceiver) (records : List Record) → HaveReceived plan version receivers records
+pub same_pids : (plan : PlanFields) (version : ℕ) (receivers : List ServiceReceiver) (records : List Record) → HaveReceived false plan version receivers records
     → service_pids (plan_in plan version) ≡ receiver_pids receivers
 unfolding pid_in
 same_pids plan version receivers records has =
@@ -126,7 +129,7 @@ shown_is plan laws table records has = by_int plan.table refl table has
         ∙ ap (λ (version : ℕ). shown_by version (table_sections plan records)) (sym (laws.in_force records))
 
 module _ (plan : PlanFields) (laws : Laws plan) (receivers : List ServiceReceiver) (table : Option TableReceiver) (records : List Record) (r : Record)
-    (all : HaveAllReceived plan receivers table records) where
+    (all : HaveAllReceived false plan receivers table records) where
   abbrev after : List Record
   after = records ++ r ∷ []
 
@@ -134,7 +137,7 @@ module _ (plan : PlanFields) (laws : Laws plan) (receivers : List ServiceReceive
   now = version_at_end plan records
 
   -- no receiver is on the PID of the record, and nor is the INT's
-  pub all_pass : Misses r receivers → HaveReceived plan now receivers after
+  pub all_pass : Misses r receivers → HaveReceived false plan now receivers after
   all_pass misses = record {
     count_is = all.services.count_is;
     each = λ k receiver found. one_passes plan laws k receiver records r (all.services.each k receiver found) (misses k receiver found);
@@ -151,22 +154,26 @@ module _ (plan : PlanFields) (laws : Laws plan) (receivers : List ServiceReceive
         laws.version_stays int records r is (ap (λ (p : ℕ). is_on p r) has.0 ∙ off),
       )
 
-  int_passes : ((pid : ℕ) → is_table_pid table pid ≡ true → is_on pid r ≡ false) → HasReceivedInt plan table after × (version_at_end plan after ≡ now)
+  pub int_passes : ((pid : ℕ) → is_table_pid table pid ≡ true → is_on pid r ≡ false) → HasReceivedInt plan table after × (version_at_end plan after ≡ now)
   int_passes none = int_by plan.table refl table none all.int
 
-  pub all_passed : ((pid : ℕ) → is_table_pid table pid ≡ true → is_on pid r ≡ false) → Misses r receivers → HaveAllReceived plan receivers table after
+  pub all_passed : ((pid : ℕ) → is_table_pid table pid ≡ true → is_on pid r ≡ false) → Misses r receivers → HaveAllReceived false plan receivers table after
   all_passed none misses =
       let int = int_passes none in
-      record { services = subst (λ (v : ℕ). HaveReceived plan v receivers after) (sym int.1) (all_pass misses); int = int.0 }
+      record { services = subst (λ (v : ℕ). HaveReceived false plan v receivers after) (sym int.1) (all_pass misses); int = int.0 }
 
-  pub nothing_given : Misses r receivers → pairs_of_record plan after (length records) ≡ []
-  nothing_given misses = laws.pairs_none records r (λ k pid less in_force.
+  -- the PIDs in force are those of the receivers
+  off_services : Misses r receivers → (k pid : ℕ) → k < length plan.services → pid_in_force plan k records ≡ Some pid → is_on pid r ≡ false
+  off_services misses k pid less in_force =
       let at = some_at receivers k (omega (arith, less, all.services.count_is)) in
-      let same : at.0.pid ≡ pid = same_some (pid_in plan now k) at.0.pid pid (all.services.each k at.0 at.1).pid_is in_force in
-      ap (λ (p : ℕ). is_on p r) (sym same) ∙ misses k at.0 at.1)
+      let same : at.0.pid ≡ pid = same_some (pid_in_force plan k records) at.0.pid pid (all.services.each k at.0 at.1).pid_is in_force in
+      ap (λ (p : ℕ). is_on p r) (sym same) ∙ misses k at.0 at.1
     where
       same_some : (o : Option ℕ) (p q : ℕ) → o ≡ Some p → o ≡ Some q → p ≡ q
       same_some o p q is_p is_q = cc
+
+  pub nothing_given : Misses r receivers → version_at_end plan after ≡ now → pairs_of_record plan after (length records) ≡ []
+  nothing_given misses stays = laws.pairs_none records r (off_services misses) (λ k less. ap (λ (v : ℕ). pid_in plan v k) stays)
 
   -- a packet of a PID
   module _ (right : has_wrong_change plan ≡ false) (pid : ℕ) (of_pid : (fields_of r.bytes).pid ≡ pid) where
@@ -218,20 +225,42 @@ module _ (plan : PlanFields) (laws : Laws plan) (receivers : List ServiceReceive
     off_int : is_table_pid table pid ≡ false → (p : ℕ) → is_table_pid table p ≡ true → is_on p r ≡ false
     off_int off = λ p own. off_pid p pid r of_pid (λ is. true_false (sym own ∙ ap (is_table_pid table) is ∙ off))
 
-    pub none_took : is_table_pid table pid ≡ false → is_service_pid receivers pid ≡ false → HaveAllReceived plan receivers table after
+    -- the version stays
+    pub still_in_force : is_table_pid table pid ≡ false → version_at_end plan after ≡ now
+    still_in_force off = (int_passes (off_int off)).1
+
+    pub none_took : is_table_pid table pid ≡ false → is_service_pid receivers pid ≡ false → HaveAllReceived false plan receivers table after
     none_took off none = all_passed (off_int off) (misses_all none)
 
     -- the INT's receiver took it, and left the version in force, or all receivers follow
     module _ (new : Option TableReceiver) (own : is_table_pid table pid ≡ true) (took : HasReceivedInt plan new after) where
-      pub int_took : version_of_table new ≡ version_of_table table → HaveAllReceived plan receivers new after
+      pub int_took : version_of_table new ≡ version_of_table table → HaveAllReceived false plan receivers new after
       int_took stays = record {
-        services = subst (λ (v : ℕ). HaveReceived plan v receivers after)
+        services = subst (λ (v : ℕ). HaveReceived false plan v receivers after)
             (sym (version_is plan laws table records all.int) ∙ sym stays ∙ version_is plan laws new after took) (all_pass (misses_int own));
         int = took;
       }
 
+      pub int_gives_none : version_of_table new ≡ version_of_table table → pairs_of_record plan after (length records) ≡ []
+      int_gives_none stays =
+          nothing_given (misses_int own) (sym (version_is plan laws new after took) ∙ stays ∙ version_is plan laws table records all.int)
+
+      -- what is closed by the switch
+      pub int_gives : is_on pid r ≡ true → (version : ℕ) → version ≡ version_of_table new
+          → pairs_of_record plan after (length records) ≡ delivered.pairs_of plan (closed_by_switch plan now version records)
+      int_gives on version is_version = by_int plan.table refl table all.int own
+        where
+          by_int : (int : Option IntFields) → plan.table ≡ int → (t : Option TableReceiver) → HasReceivedBy plan int t records → is_table_pid t pid ≡ true
+              → pairs_of_record plan after (length records) ≡ delivered.pairs_of plan (closed_by_switch plan now version records)
+          by_int None is None has mine = absurd (cc)
+          by_int None is (Some t) has mine = absurd has
+          by_int (Some int) is None has mine = absurd has
+          by_int (Some int) is (Some t) has mine =
+              switch_pairs plan laws records r int is (ap (λ (p : ℕ). is_on p r) (has.0 ∙ eqb-true t.pid pid mine) ∙ on) (off_services (misses_int own))
+              ∙ ap (λ (v : ℕ). delivered.pairs_of plan (closed_by_switch plan now v records)) (sym (version_is plan laws new after took) ∙ sym is_version)
+
       pub int_switched : length records < 2 ^ 32 → length plan.changes ≤ 31 → (news : List ServiceReceiver) → length news ≡ length receivers
-          → AllFollow plan (version_of_table new) receivers news → HaveAllReceived plan news new after
+          → AllFollow plan (version_of_table new) receivers news → HaveAllReceived false plan news new after
       int_switched few few_changes news count follow = record {
         services = record {
           count_is = count ∙ all.services.count_is;
@@ -245,32 +274,32 @@ module _ (plan : PlanFields) (laws : Laws plan) (receivers : List ServiceReceive
 
     -- the receiver of a service took it
     module _ (k : ℕ) (old : ServiceReceiver) (there : slice_get receivers k ≡ Some old) (at : old.pid ≡ pid) where
-      pub service_took : (new : ServiceReceiver) → is_table_pid table pid ≡ false → new.pid ≡ old.pid → new.before ≡ old.before
-          → IsReception (service_on plan k old.pid) new.reception (span_of plan k old.pid records ++ r ∷ []) → HaveAllReceived plan (set receivers k new) table after
-      service_took new off pid_same before_same took =
+      pub service_took : (new : ServiceReceiver) → is_table_pid table pid ≡ false → new.pid ≡ old.pid → new.before ≡ old.before → new.frames_before ≡ old.frames_before
+          → IsReception false plan.recording (service_on plan k old.pid) new.reception (span_of plan k old.pid records ++ r ∷ []) → HaveAllReceived false plan (set receivers k new) table after
+      service_took new off pid_same before_same frames_same took =
           let int = int_passes (off_int off) in
           record {
-            services = subst (λ (v : ℕ). HaveReceived plan v (set receivers k new) after) (sym int.1) (record {
+            services = subst (λ (v : ℕ). HaveReceived false plan v (set receivers k new) after) (sym int.1) (record {
               count_is = length-set receivers k new ∙ all.services.count_is;
               each = λ j receiver found. by_place j receiver found (j == k) refl;
             });
             int = int.0;
           }
         where
-          by_place : (j : ℕ) (receiver : ServiceReceiver) → slice_get (set receivers k new) j ≡ Some receiver → (b : Bool) → (j == k) ≡ b → HasReceivedOne plan now j receiver after
+          by_place : (j : ℕ) (receiver : ServiceReceiver) → slice_get (set receivers k new) j ≡ Some receiver → (b : Bool) → (j == k) ≡ b → HasReceivedOne false plan now j receiver after
           by_place j receiver found true e =
               let place : j ≡ k = eqb-true j k e in
               let is : new ≡ receiver = set_same receivers k new receiver (ap (λ (n : ℕ). slice_get (set receivers k new) n) (sym place) ∙ found) in
-              subst (λ (n : ℕ). HasReceivedOne plan now n receiver after) (sym place)
-              (subst (λ (t : ServiceReceiver). HasReceivedOne plan now k t after) is
-              (one_took plan laws k old records r (all.services.each k old there) new pid_same before_same took))
+              subst (λ (n : ℕ). HasReceivedOne false plan now n receiver after) (sym place)
+              (subst (λ (t : ServiceReceiver). HasReceivedOne false plan now k t after) is
+              (one_took plan laws k old records r (all.services.each k old there) new pid_same before_same frames_same took))
           by_place j receiver found false e =
               let apart : j ≡ k → ⊥ = λ same. true_false (sym (eq-eqb j k same) ∙ e) in
               let before : slice_get receivers j ≡ Some receiver = set_other receivers k j new receiver apart found in
               one_passes plan laws j receiver records r (all.services.each j receiver before)
               (off_pid receiver.pid pid r of_pid (λ is. pids_apart receivers j k receiver old receivers_differ before there apart (is ∙ sym at)))
 
-      pub given_by_one : is_on pid r ≡ true → pairs_of_record plan after (length records) ≡ pairs_of k (added_by (service_on plan k old.pid) (span_of plan k old.pid records) r)
+      pub given_by_one : is_on pid r ≡ true → pairs_of_record plan after (length records) ≡ pairs_of k (added_by plan.recording (service_on plan k old.pid) (span_of plan k old.pid records) r)
       given_by_one own = laws.pairs_one k old.pid records r (omega (arith, slice_get_within receivers k old there, all.services.count_is))
           (all.services.each k old there).pid_is (ap (λ (p : ℕ). is_on p r) at ∙ own)
 

@@ -1,22 +1,34 @@
 -- Receivers that were given nothing.
-use Rattle.std.specs.Prelude.{◌≡◌, List, [], ◌∷◌, Some}
-use Rattle.plan_spec.specs.Plan.{ServiceFields, pid_of}
+use Rattle.std.specs.Prelude.{◌≡◌, Bool, true, false, List, [], ◌∷◌, Some}
+use Rattle.ts_spec.specs.Recording.{RecordingForm}
+use Rattle.plan_spec.specs.Plan.{KindFields, ule, mpe, fec, gse, ServiceFields, pid_of}
+use Rattle.plan_spec.specs.Checks.{is_row_count}
 use Rattle.reception_spec.specs.Numbers.{no_numbers}
+use Rattle.reception_spec.specs.Frames.{no_frames}
 use Rattle.reception_law.specs.Sums.{no_units}
 use Rattle.service_reception.specs.Counting.{on_pid, of_units}
+use Rattle.demux_core.specs.Counts.{totals_in}
 use Rattle.demux_core.specs.Services.{IsReception}
 use Rattle.demux_core.specs.declared.service.ServiceReceiver.{ServiceReceiver}
 
 -- the receiver is on the service's PID, and was given nothing of it or of PIDs before
-pub record IsOpened (it : ServiceFields) (receiver : ServiceReceiver) : Type 0 where
+pub record IsOpened (form : RecordingForm) (it : ServiceFields) (receiver : ServiceReceiver) : Type 0 where
   pub pid_is : pid_of it.kind ≡ Some receiver.pid
-  pub reception : IsReception it receiver.reception []
+  pub reception : IsReception false form it receiver.reception []
   pub before_on_pid : on_pid receiver.before ≡ no_numbers
   pub before_of_units : of_units receiver.before ≡ no_units
+  pub before_of_frames : totals_in receiver.frames_before ≡ no_frames
 
 -- each receiver is, service by service
-abbrev pub AreOpened : List ServiceFields → List ServiceReceiver → Type 0
-AreOpened [] [] = Unit {0}
-AreOpened [] (receiver ∷ receivers) = ⊥
-AreOpened (it ∷ services) [] = ⊥
-AreOpened (it ∷ services) (receiver ∷ receivers) = IsOpened it receiver × AreOpened services receivers
+abbrev pub AreOpened : RecordingForm → List ServiceFields → List ServiceReceiver → Type 0
+AreOpened form [] [] = Unit {0}
+AreOpened form [] (receiver ∷ receivers) = ⊥
+AreOpened form (it ∷ services) [] = ⊥
+AreOpened form (it ∷ services) (receiver ∷ receivers) = IsOpened form it receiver × AreOpened form services receivers
+
+-- the rows of frames are as many as frames can have
+abbrev pub has_right_rows : KindFields → Bool
+has_right_rows (ule pid address packing) = true
+has_right_rows (mpe pid) = true
+has_right_rows (fec pid rows parity window) = is_row_count rows
+has_right_rows (gse isi address) = true

@@ -18,8 +18,8 @@ pub record ReceiverState : Type 0 where
   pub services : List ServiceReceiver
   pub table : Option TableReceiver
 
--- the receiver was given these records under this plan
-pub record HasReceived (plan : PlanFields) (records : List Record) (receiver : ReceiverState) : Type 0 where
+-- the receiver was given these records under this plan, and the recording has ended, or more may come
+pub record HasReceived (ended : Bool) (plan : PlanFields) (records : List Record) (receiver : ReceiverState) : Type 0 where
   pub plan_is : receiver.plan ≡ plan
   pub stream : receiver.stream ≡ stream_counts_of (stream_numbers plan records)
-  pub all : HaveAllReceived plan receiver.services receiver.table records
+  pub all : HaveAllReceived ended plan receiver.services receiver.table records

@@ -1,65 +1,113 @@
 -- The receivers of single services and of the INT, and the records that they were given.
-use Rattle.std.specs.Prelude.{◌≡◌, ℕ, ◌^◌, ◌<◌, ◌≤◌, ◌==◌, Bool, false, List, [], length, slice_get, Option, Some, None}
+use Rattle.std.specs.Prelude.{◌≡◌, ℕ, ◌^◌, ◌<◌, ◌≤◌, ◌==◌, Bool, true, false, List, [], length, slice_get, Option, Some, None, is_some}
 use Rattle.std.specs.List.{list_any}
-use Rattle.ts_spec.specs.Recording.{Record}
-use Rattle.plan_spec.specs.Plan.{KindFields, pid_of, ServiceFields, IntFields, PlanFields}
+use Rattle.ts_spec.specs.Recording.{RecordingForm, Record}
+use Rattle.slice_spec.specs.Sections.{Timing}
+use Rattle.frame_spec.specs.Groups.{timing_in}
+use Rattle.plan_spec.specs.Plan.{KindFields, ule, mpe, fec, gse, pid_of, ServiceFields, IntFields, PlanFields}
 use Rattle.plan_spec.specs.Changes.{pid_in, has_wrong_change}
+use Rattle.reception_spec.specs.Numbers.{PidNumbers, UnitNumbers}
+use Rattle.reception_spec.specs.Frames.{FrameNumbers, no_frames}
 use Rattle.reception_spec.specs.Spans.{version_at_end, span_of}
 use Rattle.reception_spec.specs.Delivered.{service_on}
-use Rattle.reception_law.specs.Sums.{numbers_before, unit_numbers_before}
+use Rattle.reception_law.specs.Sums.{numbers_before, unit_numbers_before, frame_numbers_before}
 use Rattle.service_reception.specs.Counting.{on_pid, of_units}
 use Rattle.service_reception.specs.Services.{IsUle, IsMpe}
-use Rattle.service_reception.specs.Reception.{ReceptionState}
 use Rattle.service_reception.specs.Reception as one
+use Rattle.frame_reception.specs.Reception.{FramesState, FrameReceptionState, IsOver}
+use Rattle.frame_reception.specs.Reception as framed
+use Rattle.demux_core.specs.Counts.{totals_in}
 use Rattle.service_reception.specs.Table.{HasReceivedTable}
 use Rattle.demux_core.specs.declared.service.ByKind.{ByKind}
-use Rattle.demux_core.specs.declared.service.ByKind.TheVariants.{Ule, Mpe}
+use Rattle.demux_core.specs.declared.service.ByKind.TheVariants.{Ule, Mpe, Fec}
 use Rattle.demux_core.specs.declared.service.ServiceReceiver.{ServiceReceiver}
 use Rattle.demux_core.specs.declared.table.TableReceiver.{TableReceiver}
 
 -- One service.
 
--- what a reception stands for, whatever the kind of its units
-abbrev pub state_of : ByKind → ReceptionState
-state_of (Ule reception) = reception
-state_of (Mpe reception) = reception
+-- what a reception counted, whatever the kind of its units: of the PID, of what the units give by themselves, and of frames
+abbrev pub pid_numbers_in : ByKind → PidNumbers
+pid_numbers_in (Ule reception) = reception.on_pid
+pid_numbers_in (Mpe reception) = reception.on_pid
+pid_numbers_in (Fec reception) = reception.frames.on_pid
+
+abbrev pub unit_numbers_in : ByKind → UnitNumbers
+unit_numbers_in (Ule reception) = reception.of_units
+unit_numbers_in (Mpe reception) = reception.of_units
+unit_numbers_in (Fec reception) = record { unread = reception.frames.unread; filtered = 0; datagrams = 0 }
+
+abbrev pub frame_numbers_in : ByKind → FrameNumbers
+frame_numbers_in (Ule reception) = no_frames
+frame_numbers_in (Mpe reception) = no_frames
+frame_numbers_in (Fec reception) = reception.frames.of_frames
+
+-- the frames are those of services of this kind, in recordings of this form
+abbrev pub ReadsFrames : RecordingForm → FramesState → KindFields → Type 0
+ReadsFrames form frames (ule pid address packing) = ⊥
+ReadsFrames form frames (mpe pid) = ⊥
+ReadsFrames form frames (fec pid rows parity window) = IsOver (timing_in form (is_some window)) rows frames
+ReadsFrames form frames (gse isi address) = ⊥
 
 -- the reception reads the units of services of this kind
-abbrev pub ReadsKind : ByKind → KindFields → Type 0
-ReadsKind (Ule reception) kind = IsUle kind
-ReadsKind (Mpe reception) kind = IsMpe kind
+abbrev pub ReadsKind : RecordingForm → ByKind → KindFields → Type 0
+ReadsKind form (Ule reception) kind = IsUle kind
+ReadsKind form (Mpe reception) kind = IsMpe kind
+ReadsKind form (Fec reception) kind = ReadsFrames form reception.frames kind
 
--- the reception reads the units of the service, and these records were received of it
-pub record IsReception (it : ServiceFields) (reception : ByKind) (records : List Record) : Type 0 where
-  pub reads : ReadsKind reception it.kind
-  pub received : one.HasTaken it (state_of reception) records
+-- these records were received of a service with frames: no more can come (ended), or more may
+abbrev pub HasFramesOf : Bool → Timing → ℕ → ℕ → FrameReceptionState → List Record → Type 0
+HasFramesOf true timing rows pid reception records = framed.HasEnded timing rows pid reception records
+HasFramesOf false timing rows pid reception records = framed.HasTaken timing rows pid reception records
+
+abbrev pub HasTakenFrames : Bool → RecordingForm → KindFields → FrameReceptionState → List Record → Type 0
+HasTakenFrames ended form (ule pid address packing) reception records = ⊥
+HasTakenFrames ended form (mpe pid) reception records = ⊥
+HasTakenFrames ended form (fec pid rows parity window) reception records = HasFramesOf ended (timing_in form (is_some window)) rows pid reception records
+HasTakenFrames ended form (gse isi address) reception records = ⊥
+
+-- these records were received of a service
+abbrev pub HasTakenBy : Bool → RecordingForm → ServiceFields → ByKind → List Record → Type 0
+HasTakenBy ended form it (Ule reception) records = one.HasTaken it reception records
+HasTakenBy ended form it (Mpe reception) records = one.HasTaken it reception records
+HasTakenBy ended form it (Fec reception) records = HasTakenFrames ended form it.kind reception records
+
+-- the reception reads the units of the service, and these records were received of it: no more can come (ended), or more may
+pub record IsReception (ended : Bool) (form : RecordingForm) (it : ServiceFields) (reception : ByKind) (records : List Record) : Type 0 where
+  pub reads : ReadsKind form reception it.kind
+  pub received : HasTakenBy ended form it reception records
 
 -- the reception reads the units of the service, and nothing was received of it
-pub record IsFresh (it : ServiceFields) (reception : ByKind) : Type 0 where
-  pub reads : ReadsKind reception it.kind
-  pub received : (pid : ℕ) → pid_of it.kind ≡ Some pid → one.HasTaken it (state_of reception) []
+pub record IsFresh (form : RecordingForm) (it : ServiceFields) (reception : ByKind) : Type 0 where
+  pub reads : ReadsKind form reception it.kind
+  pub received : (pid : ℕ) → pid_of it.kind ≡ Some pid → HasTakenBy false form it reception []
 
 -- the receiver was given these records of a service, fewer than 2^32 of them, and one more packet of this PID is to be taken
-pub record IsReceivingOne (filter : List (List ℕ)) (pid : ℕ) (it : ServiceFields) (receiver : ServiceReceiver) (records : List Record) : Type 0 where
-  pub has : IsReception it receiver.reception records
+pub record IsReceivingOne (form : RecordingForm) (filter : List (List ℕ)) (pid : ℕ) (it : ServiceFields) (receiver : ServiceReceiver) (records : List Record) : Type 0 where
+  pub has : IsReception false form it receiver.reception records
   pub filter_is : it.filter ≡ filter
   pub of_pid : pid_of it.kind ≡ Some pid
   pub few : length records < 2 ^ 32
 
+-- the receiver was given these records of a service, 2^32 of them at most, and no packet of its PID comes after them
+pub record IsEndingOne (form : RecordingForm) (it : ServiceFields) (reception : ByKind) (records : List Record) : Type 0 where
+  pub has : IsReception false form it reception records
+  pub few : length records ≤ 2 ^ 32
+
 -- the receiver of service k is on its PID of a version. Of the records it received the span on this PID, and it has the numbers of the
--- spans on all its other PIDs, which ended before
-pub record HasReceivedOne (plan : PlanFields) (version k : ℕ) (receiver : ServiceReceiver) (records : List Record) : Type 0 where
+-- spans on all its other PIDs, which ended before; whether this span has ended too is told before
+pub record HasReceivedOne (ended : Bool) (plan : PlanFields) (version k : ℕ) (receiver : ServiceReceiver) (records : List Record) : Type 0 where
   pub pid_is : pid_in plan version k ≡ Some receiver.pid
-  pub reception : IsReception (service_on plan k receiver.pid) receiver.reception (span_of plan k receiver.pid records)
+  pub reception : IsReception ended plan.recording (service_on plan k receiver.pid) receiver.reception (span_of plan k receiver.pid records)
   pub before_on_pid : on_pid receiver.before ≡ numbers_before plan k receiver.pid records
   pub before_of_units : of_units receiver.before ≡ unit_numbers_before plan k receiver.pid records
+  pub before_of_frames : totals_in receiver.frames_before ≡ frame_numbers_before plan k receiver.pid records
 
 -- All services.
 
 -- there is a receiver for each service, on its PID of the version, and it was given the records
-pub record HaveReceived (plan : PlanFields) (version : ℕ) (receivers : List ServiceReceiver) (records : List Record) : Type 0 where
+pub record HaveReceived (ended : Bool) (plan : PlanFields) (version : ℕ) (receivers : List ServiceReceiver) (records : List Record) : Type 0 where
   pub count_is : length receivers ≡ length plan.services
-  pub each : (k : ℕ) (receiver : ServiceReceiver) → slice_get receivers k ≡ Some receiver → HasReceivedOne plan version k receiver records
+  pub each : (k : ℕ) (receiver : ServiceReceiver) → slice_get receivers k ≡ Some receiver → HasReceivedOne ended plan version k receiver records
 
 -- the PID is that of one of the services
 abbrev pub is_service_pid : List ServiceReceiver → ℕ → Bool
@@ -103,6 +151,6 @@ pub record FitsPlan (plan : PlanFields) (count : ℕ) (table : Option TableRecei
   pub up_to_last : IsUpToLast plan table
 
 -- all receivers were given these records, and the services are on their PIDs of the version that is then in force
-pub record HaveAllReceived (plan : PlanFields) (receivers : List ServiceReceiver) (table : Option TableReceiver) (records : List Record) : Type 0 where
-  pub services : HaveReceived plan (version_at_end plan records) receivers records
+pub record HaveAllReceived (ended : Bool) (plan : PlanFields) (receivers : List ServiceReceiver) (table : Option TableReceiver) (records : List Record) : Type 0 where
+  pub services : HaveReceived ended plan (version_at_end plan records) receivers records
   pub int : HasReceivedInt plan table records

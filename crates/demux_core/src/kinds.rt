@@ -13,11 +13,13 @@ fn is_known(kind: &Kind) -> bool
 {
     match kind {
         Kind::Ule { .. } | Kind::Mpe { .. } => true,
-        Kind::Fec { .. } | Kind::Gse { .. } => false,
+        Kind::Fec { window, .. } => window.is_none(),
+        Kind::Gse { .. } => false,
     }
 }
 
-/// Whether a receiver can be opened under this plan: all its services are of SNDUs or datagram_sections.
+/// Whether a receiver can be opened under this plan: all its services are of SNDUs, of datagram_sections, or of MPE-FEC
+/// frames without time slicing.
 pub fn can_receive(plan: &Plan) -> bool
     ensures read { result ≡ are_received (plan_fields plan.now) }
 {

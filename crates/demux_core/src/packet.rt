@@ -1,5 +1,5 @@
 //! A packet -> the receiver of its PID: the INT's, or that of a service.
-ghost use Rattle.std.specs.Prelude.{◌≡◌, ℕ, ◌^◌, ◌<◌, ◌≤◌, true, false, List, [], ◌∷◌, ◌++◌, length, IfOk, IsOk, OnOk, OnErr};
+ghost use Rattle.std.specs.Prelude.{◌≡◌, ℕ, ◌^◌, ◌<◌, ◌≤◌, true, false, List, [], ◌∷◌, ◌++◌, length, IfOk, OnOk, OnErr};
 ghost use Rattle.wire_spec.specs.Causes.{HasCause};
 ghost use Rattle.ts_spec.specs.Recording.{Record};
 ghost use Rattle.plan_spec.specs.Changes.{plan_in};
@@ -33,13 +33,20 @@ fn receive_table<T: Outlet>(
 ) -> Result<bool, Failed>
     requires read { IsRead packet.now bytes.now }
     requires fits { FitsPlan (plan_fields plan.now) (length services.old.receivers.items) table.old }
+    requires served { length plan.now.services ≤ T.services outlet.old }
     requires found { AreFound services.old }
     ensures taken { IfOk result (λ taken. taken ≡ is_table_pid table.old packet.now.pid) }
-    ensures received { (records : List Record) → length records < 2 ^ 32 → HaveAllReceived (plan_fields plan.now) services.old.receivers.items table.old records
-        → IfOk result (λ taken. taken ≡ true → HaveAllReceived (plan_fields plan.now) services.new.receivers.items table.new (records ++ packet_record moment bytes.now ∷ [])) }
-    ensures left { IfOk result (λ taken. taken ≡ false → (services.new ≡ services.old) × (table.new ≡ table.old)) }
-    ensures done { IsOk result }
-    ensures unchanged { outlet.new ≡ outlet.old }
+    ensures of_table { OnErr result (is_table_pid table.old packet.now.pid ≡ true) }
+    ensures received { (records : List Record) → length records < 2 ^ 32 → HaveAllReceived false (plan_fields plan.now) services.old.receivers.items table.old records
+        → is_table_pid table.old packet.now.pid ≡ true → HaveAllReceived false (plan_fields plan.now) services.new.receivers.items table.new (records ++ packet_record moment bytes.now ∷ []) }
+    ensures written { (records : List Record) → length records < 2 ^ 32 → HaveAllReceived false (plan_fields plan.now) services.old.receivers.items table.old records
+        → is_table_pid table.old packet.now.pid ≡ true
+        → OnOk result (Delivers (T.StandsFor outlet.old) (T.StandsFor outlet.new) (pairs_of_record (plan_fields plan.now) (records ++ packet_record moment bytes.now ∷ []) (length records))) }
+    ensures failed { (records : List Record) → length records < 2 ^ 32 → HaveAllReceived false (plan_fields plan.now) services.old.receivers.items table.old records
+        → OnErr result (DeliversFront (T.StandsFor outlet.old) (T.StandsFor outlet.new) (T.Refused outlet.new) (pairs_of_record (plan_fields plan.now) (records ++ packet_record moment bytes.now ∷ []) (length records))) }
+    ensures left { is_table_pid table.old packet.now.pid ≡ false → (services.new ≡ services.old) × (table.new ≡ table.old) × (outlet.new ≡ outlet.old) }
+    ensures services { T.services outlet.new ≡ T.services outlet.old }
+    ensures cause { HasCause (T.faults outlet.old) (T.faults outlet.new) result }
     ensures fits { FitsPlan (plan_fields plan.now) (length services.new.receivers.items) table.new }
     ensures found { AreFound services.new }
 {
@@ -72,15 +79,15 @@ pub(crate) fn receive_packet<T: Outlet>(
     requires fits { FitsPlan (plan_fields plan.now) (length services.old.receivers.items) table.old }
     requires served { length plan.now.services ≤ T.services outlet.old }
     requires found { AreFound services.old }
-    ensures received { (records : List Record) → length records < 2 ^ 32 → HaveAllReceived (plan_fields plan.now) services.old.receivers.items table.old records
-        → HaveAllReceived (plan_fields plan.now) services.new.receivers.items table.new (records ++ packet_record moment bytes.now ∷ []) }
-    ensures known { (records : List Record) → HaveAllReceived (plan_fields plan.now) services.old.receivers.items table.old records
+    ensures received { (records : List Record) → length records < 2 ^ 32 → HaveAllReceived false (plan_fields plan.now) services.old.receivers.items table.old records
+        → HaveAllReceived false (plan_fields plan.now) services.new.receivers.items table.new (records ++ packet_record moment bytes.now ∷ []) }
+    ensures known { (records : List Record) → HaveAllReceived false (plan_fields plan.now) services.old.receivers.items table.old records
         → IfOk result (λ known. known ≡ is_pid_of (plan_in (plan_fields plan.now) (version_at_end (plan_fields plan.now) records)) packet.now.pid) }
-    ensures of_plan { (records : List Record) → HaveAllReceived (plan_fields plan.now) services.old.receivers.items table.old records
+    ensures of_plan { (records : List Record) → HaveAllReceived false (plan_fields plan.now) services.old.receivers.items table.old records
         → OnErr result (is_pid_of (plan_in (plan_fields plan.now) (version_at_end (plan_fields plan.now) records)) packet.now.pid ≡ true) }
-    ensures written { (records : List Record) → length records < 2 ^ 32 → HaveAllReceived (plan_fields plan.now) services.old.receivers.items table.old records
+    ensures written { (records : List Record) → length records < 2 ^ 32 → HaveAllReceived false (plan_fields plan.now) services.old.receivers.items table.old records
         → OnOk result (Delivers (T.StandsFor outlet.old) (T.StandsFor outlet.new) (pairs_of_record (plan_fields plan.now) (records ++ packet_record moment bytes.now ∷ []) (length records))) }
-    ensures failed { (records : List Record) → length records < 2 ^ 32 → HaveAllReceived (plan_fields plan.now) services.old.receivers.items table.old records
+    ensures failed { (records : List Record) → length records < 2 ^ 32 → HaveAllReceived false (plan_fields plan.now) services.old.receivers.items table.old records
         → OnErr result (DeliversFront (T.StandsFor outlet.old) (T.StandsFor outlet.new) (T.Refused outlet.new) (pairs_of_record (plan_fields plan.now) (records ++ packet_record moment bytes.now ∷ []) (length records))) }
     ensures fits { FitsPlan (plan_fields plan.now) (length services.new.receivers.items) table.new }
     ensures found { AreFound services.new }

@@ -1,5 +1,5 @@
 //! The receiver: it takes one record at a time.
-ghost use Rattle.std.specs.Prelude.{◌≡◌, ℕ, ◌+◌, ◌^◌, ◌<◌, ◌≤◌, true, false, List, [], ◌∷◌, ◌++◌, length, IsOk, IfOk, OnOk, OnErr, option_copied};
+ghost use Rattle.std.specs.Prelude.{◌≡◌, ℕ, ◌+◌, ◌^◌, ◌<◌, ◌≤◌, Bool, true, false, List, [], ◌∷◌, ◌++◌, length, IfOk, OnOk, OnErr, option_copied};
 ghost use Rattle.wire_spec.specs.Causes.{HasCause};
 ghost use Rattle.ts_spec.specs.Recording.{Record as ReadRecord};
 ghost use Rattle.plan_spec.specs.Plan.{PlanFields};
@@ -18,6 +18,7 @@ ghost use Rattle.plan_spec.specs.Built.{are_received};
 use crate::content::{Content, content_of};
 use crate::packet::receive_packet;
 use crate::services::{Services, open_services};
+use crate::switch::close_services;
 use crate::table::{TableReceiver, open_table, version_in_force};
 use bumpalo::Bump;
 use ipe_io::{Failed, OutOfMemory, Outlet};
@@ -61,7 +62,7 @@ impl<'a> Receiver<'a> {
     /// A receiver that was given nothing. All its buffers lie in the arena, and none is taken later.
     pub fn open(arena: &'a Bump, plan: &'a Plan) -> Result<Receiver<'a>, OutOfMemory>
         requires built { are_received (plan_fields plan.now) ≡ true }
-        ensures received { IfOk result (λ receiver. HasReceived (plan_fields plan.now) [] receiver) }
+        ensures received { IfOk result (λ receiver. HasReceived false (plan_fields plan.now) [] receiver) }
         ensures is_open { IfOk result (λ receiver. receiver.is_open ≡ true) }
         ensures plan { IfOk result (λ receiver. receiver.plan ≡ plan_fields plan.now) }
     {
@@ -84,11 +85,11 @@ impl<'a> Receiver<'a> {
         requires is_open { self.old.is_open ≡ true }
         requires few { self.old.stream.records < 2 ^ 32 }
         requires served { length self.old.plan.services ≤ T.services outlet.old }
-        ensures received { (plan : PlanFields) (records : List ReadRecord) → HasReceived plan records self.old
-            → HasReceived plan (records ++ record_seen item.now ∷ []) self.new }
-        ensures written { (plan : PlanFields) (records : List ReadRecord) → HasReceived plan records self.old
+        ensures received { (plan : PlanFields) (records : List ReadRecord) → HasReceived false plan records self.old
+            → HasReceived false plan (records ++ record_seen item.now ∷ []) self.new }
+        ensures written { (plan : PlanFields) (records : List ReadRecord) → HasReceived false plan records self.old
             → OnOk result (Delivers (T.StandsFor outlet.old) (T.StandsFor outlet.new) (pairs_of_record plan (records ++ record_seen item.now ∷ []) (length records))) }
-        ensures failed { (plan : PlanFields) (records : List ReadRecord) → HasReceived plan records self.old
+        ensures failed { (plan : PlanFields) (records : List ReadRecord) → HasReceived false plan records self.old
             → OnErr result (DeliversFront (T.StandsFor outlet.old) (T.StandsFor outlet.new) (T.Refused outlet.new) (pairs_of_record plan (records ++ record_seen item.now ∷ []) (length records))) }
         ensures goes_on { OnOk result (self.new.is_open ≡ true) }
         ensures counted { self.new.stream.records ≡ self.old.stream.records + 1 }
@@ -113,11 +114,11 @@ impl<'a> Receiver<'a> {
         requires is_open { self.old.is_open ≡ true }
         requires few { self.old.stream.records < 2 ^ 32 }
         requires served { length self.old.plan.services ≤ T.services outlet.old }
-        ensures received { (plan : PlanFields) (records : List ReadRecord) → HasReceived plan records self.old
-            → HasReceived plan (records ++ record { moment = moment; bytes = bytes.now } ∷ []) self.new }
-        ensures written { (plan : PlanFields) (records : List ReadRecord) → HasReceived plan records self.old
+        ensures received { (plan : PlanFields) (records : List ReadRecord) → HasReceived false plan records self.old
+            → HasReceived false plan (records ++ record { moment = moment; bytes = bytes.now } ∷ []) self.new }
+        ensures written { (plan : PlanFields) (records : List ReadRecord) → HasReceived false plan records self.old
             → OnOk result (Delivers (T.StandsFor outlet.old) (T.StandsFor outlet.new) (pairs_of_record plan (records ++ record { moment = moment; bytes = bytes.now } ∷ []) (length records))) }
-        ensures failed { (plan : PlanFields) (records : List ReadRecord) → HasReceived plan records self.old
+        ensures failed { (plan : PlanFields) (records : List ReadRecord) → HasReceived false plan records self.old
             → OnErr result (DeliversFront (T.StandsFor outlet.old) (T.StandsFor outlet.new) (T.Refused outlet.new) (pairs_of_record plan (records ++ record { moment = moment; bytes = bytes.now } ∷ []) (length records))) }
         ensures goes_on { OnOk result (self.new.is_open ≡ true) }
         ensures counted { self.new.stream.records ≡ self.old.stream.records + 1 }
@@ -159,22 +160,25 @@ impl<'a> Receiver<'a> {
         }
     }
 
-    /// Ends the reception: the receiver is then not open, and its counts are those of the recording.
+    /// Ends the reception: the frames under way are closed, and their datagrams delivered. The receiver is then not open, and its counts are
+    /// those of the recording.
     ///
-    /// Failed: the outlet refused a datagram. Services of SNDUs or datagram sections have none left to deliver.
+    /// Failed: the outlet refused a datagram, and those after it are not offered; all frames are closed and counted as with Ok.
     pub fn finish<T: Outlet>(&mut self, outlet: &mut T) -> Result<(), Failed>
         requires is_open { self.old.is_open ≡ true }
         requires served { length self.old.plan.services ≤ T.services outlet.old }
-        ensures received { (plan : PlanFields) (records : List ReadRecord) → HasReceived plan records self.old → HasReceived plan records self.new }
-        ensures written { (plan : PlanFields) (records : List ReadRecord) → HasReceived plan records self.old
+        ensures received { (plan : PlanFields) (records : List ReadRecord) → HasReceived false plan records self.old → HasReceived true plan records self.new }
+        ensures written { (plan : PlanFields) (records : List ReadRecord) → HasReceived false plan records self.old
             → OnOk result (Delivers (T.StandsFor outlet.old) (T.StandsFor outlet.new) (pairs_of_end plan records)) }
-        ensures done { IsOk result }
-        ensures unchanged { outlet.new ≡ outlet.old }
+        ensures failed { (plan : PlanFields) (records : List ReadRecord) → HasReceived false plan records self.old
+            → OnErr result (DeliversFront (T.StandsFor outlet.old) (T.StandsFor outlet.new) (T.Refused outlet.new) (pairs_of_end plan records)) }
         ensures closed { self.new.is_open ≡ false }
         ensures plan { self.new.plan ≡ self.old.plan }
+        ensures services { T.services outlet.new ≡ T.services outlet.old }
+        ensures cause { HasCause (T.faults outlet.old) (T.faults outlet.new) result }
     {
         self.is_open = false;
-        Ok(())
+        close_services(self.plan, &mut self.services, outlet)
     }
 
     /// Whether it may be given records: until the first `Failed` or `finish`.
@@ -187,7 +191,7 @@ impl<'a> Receiver<'a> {
     /// What was counted of the stream. The bytes after the last record are not the receiver's: `tail_bytes` is 0.
     pub fn stream_counts(&self) -> StreamCounts
         ensures seen { result ≡ self.now.stream }
-        ensures read { (plan : PlanFields) (records : List ReadRecord) → HasReceived plan records self.now
+        ensures read { (ended : Bool) (plan : PlanFields) (records : List ReadRecord) → HasReceived ended plan records self.now
             → result ≡ stream_counts_of (stream_numbers plan records) }
     {
         self.stream
@@ -196,10 +200,12 @@ impl<'a> Receiver<'a> {
     /// What was counted of a service, numbered from 0, on all its PIDs.
     pub fn counts(&self, service: u32) -> ServiceCounts
         requires { service < length self.now.plan.services }
-        ensures read { (plan : PlanFields) (records : List ReadRecord) → HasReceived plan records self.now
-            → result ≡ counts_of_service plan service records }
+        ensures read { (ended : Bool) (plan : PlanFields) (records : List ReadRecord) → HasReceived ended plan records self.now
+            → result ≡ counts_of_service ended plan service records }
     {
-        let counts = self.services.receivers[service as usize].counts();
+        let receiver = &self.services.receivers[service as usize];
+        let counts = receiver.counts();
+        let totals = receiver.totals();
         ServiceCounts {
             heard: counts.heard,
             repeats: counts.repeats,
@@ -210,16 +216,16 @@ impl<'a> Receiver<'a> {
             bad_length: counts.bad_length,
             unread: counts.unread,
             filtered: counts.filtered,
-            frames: 0,
-            rows_mended: 0,
-            rows_left: 0,
-            datagrams: counts.datagrams,
+            frames: totals.frames,
+            rows_mended: totals.rows_mended,
+            rows_left: totals.rows_left,
+            datagrams: counts.datagrams.saturating_add(totals.datagrams),
         }
     }
 
     /// The version of the plan that is in force: the greatest that an accepted section of the INT said, at first 0.
     pub fn plan_in_force(&self) -> u8
-        ensures read { (plan : PlanFields) (records : List ReadRecord) → HasReceived plan records self.now
+        ensures read { (ended : Bool) (plan : PlanFields) (records : List ReadRecord) → HasReceived ended plan records self.now
             → result ≡ version_at_end plan records }
     {
         version_in_force(&self.table)
@@ -228,7 +234,7 @@ impl<'a> Receiver<'a> {
     /// The section of the INT that put the version in force; at version 0 the first accepted section with the table_id of an INT
     /// on the INT's PID (EN 301 192 clause 8.4).
     pub fn table_section(&self) -> Option<&[u8]>
-        ensures read { (plan : PlanFields) (records : List ReadRecord) → HasReceived plan records self.now
+        ensures read { (ended : Bool) (plan : PlanFields) (records : List ReadRecord) → HasReceived ended plan records self.now
             → option_copied result ≡ table_section plan records }
     {
         match &self.table {
@@ -239,7 +245,7 @@ impl<'a> Receiver<'a> {
 
     /// The accepted sections on the INT's PID.
     pub fn table_units(&self) -> u64
-        ensures read { (plan : PlanFields) (records : List ReadRecord) → HasReceived plan records self.now
+        ensures read { (ended : Bool) (plan : PlanFields) (records : List ReadRecord) → HasReceived ended plan records self.now
             → result ≡ table_units plan records }
     {
         match &self.table {

@@ -1,23 +1,29 @@
 //! The receiver of one service: its PID, the reception of its units there by their kind, and what was counted on PIDs before.
-ghost use Rattle.std.specs.Prelude.{◌≡◌, ℕ, ◌<◌, true, List, [], ◌∷◌, ◌++◌, Some, IfOk, OnOk, OnErr};
+ghost use Rattle.std.specs.Prelude.{◌≡◌, ℕ, ◌<◌, true, false, List, [], ◌∷◌, ◌++◌, None, Some, IfOk, OnOk, OnErr};
 ghost use Rattle.wire_spec.specs.Causes.{HasCause};
-ghost use Rattle.ts_spec.specs.Recording.{Record};
-ghost use Rattle.plan_spec.specs.Plan.{ServiceFields, pid_of};
+ghost use Rattle.ts_spec.specs.Recording.{RecordingForm, Record};
+ghost use Rattle.section_spec.specs.Mpe.{IsRows};
+ghost use Rattle.plan_spec.specs.Plan.{ServiceFields, fec, pid_of};
+ghost use Rattle.plan_spec.specs.Built.{is_received};
 ghost use Rattle.plan.specs.Parts.{kind_seen};
-ghost use Rattle.service_reception.specs.Reception.{packet_record, added_by};
+ghost use Rattle.reception_law.specs.Words.{added_by, closed_by};
+ghost use Rattle.service_reception.specs.Reception.{packet_record};
 ghost use Rattle.service_reception.specs.Telling.{Told, StopsWithin};
 ghost use Rattle.service_reception.specs.Counting.{on_pid, of_units};
-ghost use Rattle.demux_core.specs.Contents.{IsRead};
-ghost use Rattle.demux_core.specs.Counts.{raised_numbers, raised_units};
-ghost use Rattle.plan_spec.specs.Built.{is_received};
 ghost use Rattle.service_reception.specs.Services.{IsUle, IsMpe};
-ghost use Rattle.demux_core.specs.Services.{ReadsKind, IsReception, IsReceivingOne, IsFresh, state_of};
-ghost use Rattle.demux_core.specs.Opening.{IsOpened};
+ghost use Rattle.frame_reception.specs.Delivering.{Delivers, GoesOn};
+ghost use Rattle.demux_core.specs.Contents.{IsRead};
+ghost use Rattle.demux_core.specs.Counts.{raised_numbers, raised_units, raised_frames, totals_in};
+ghost use Rattle.demux_core.specs.Services.{ReadsKind, IsReception, IsReceivingOne, IsEndingOne, IsFresh, pid_numbers_in, unit_numbers_in, frame_numbers_in};
+ghost use Rattle.demux_core.specs.Opening.{IsOpened, has_right_rows};
+ghost use Rattle.demux_core.specs.Moving.{Closes};
 
-use crate::sums::sum;
+use crate::sums::{FrameTotals, counts_of, sum, sum_totals, totals_of};
 use addr_rules::MacList;
 use bumpalo::Bump;
 use byte_slices::zeros;
+use fec_frame::Table;
+use frame_reception::FrameReception;
 use ipe_io::{Failed, OutOfMemory, Outlet};
 use plan::Kind;
 use section_codec::SectionForm;
@@ -33,6 +39,8 @@ pub(crate) enum ByKind<'a> {
     Ule(Reception<UleForm, &'a Bump>),
     /// Of datagram_sections.
     Mpe(Reception<SectionForm, &'a Bump>),
+    /// Of the sections of MPE-FEC frames.
+    Fec(FrameReception<&'a Bump>),
 }
 
 /// The receiver of one service.
@@ -44,11 +52,13 @@ pub(crate) struct ServiceReceiver<'a> {
     pub(crate) reception: ByKind<'a>,
     /// What was counted on all PIDs before.
     pub(crate) before: Counts,
+    /// And of the frames there.
+    pub(crate) frames_before: FrameTotals,
 }
 
 /// A reception of SNDUs that was given nothing.
 fn ule_reception(arena: &Bump) -> Result<ByKind<'_>, OutOfMemory>
-    ensures received { IfOk result (λ reception. (it : ServiceFields) → IsUle it.kind → IsFresh it reception) }
+    ensures received { IfOk result (λ reception. (form : RecordingForm) (it : ServiceFields) → IsUle it.kind → IsFresh form it reception) }
 {
     let buffer = zeros(arena, UleForm::LONGEST)?;
     Ok(ByKind::Ule(Reception::over(buffer)))
@@ -56,51 +66,100 @@ fn ule_reception(arena: &Bump) -> Result<ByKind<'_>, OutOfMemory>
 
 /// A reception of datagram_sections that was given nothing.
 fn mpe_reception(arena: &Bump) -> Result<ByKind<'_>, OutOfMemory>
-    ensures received { IfOk result (λ reception. (it : ServiceFields) → IsMpe it.kind → IsFresh it reception) }
+    ensures received { IfOk result (λ reception. (form : RecordingForm) (it : ServiceFields) → IsMpe it.kind → IsFresh form it reception) }
 {
     let buffer = zeros(arena, SectionForm::LONGEST)?;
     Ok(ByKind::Mpe(Reception::over(buffer)))
 }
 
+/// A reception of frames with so many rows, without time slicing, that was given nothing. The table of the frame under way has 255 bytes
+/// and as many marks for each row, and 65 bytes of work.
+fn fec_reception(arena: &Bump, rows: u16) -> Result<ByKind<'_>, OutOfMemory>
+    requires rows { IsRows rows }
+    ensures received { IfOk result (λ reception. (form : RecordingForm) (it : ServiceFields) (pid parity : ℕ) → it.kind ≡ fec pid rows parity None → IsFresh form it reception) }
+{
+    let count = usize::from(rows);
+    let bytes = zeros(arena, 255 * count)?;
+    let marks = zeros(arena, 255 * count)?;
+    let work = zeros(arena, 65 * count)?;
+    let buffer = zeros(arena, SectionForm::LONGEST)?;
+    let table = Table::over(rows, bytes, marks, work);
+    Ok(ByKind::Fec(FrameReception::over(buffer, table, false, 0)))
+}
+
 impl<'a> ByKind<'a> {
     /// Begins anew: nothing was received.
     fn begin_anew(&mut self)
-        ensures fresh { (it : ServiceFields) → ReadsKind self.old it.kind → IsFresh it self.new }
+        ensures fresh { (form : RecordingForm) (it : ServiceFields) → ReadsKind form self.old it.kind → IsFresh form it self.new }
     {
         match self {
             ByKind::Ule(reception) => reception.begin_anew(),
             ByKind::Mpe(reception) => reception.begin_anew(),
+            ByKind::Fec(reception) => reception.begin_anew(),
         }
     }
 
-    /// The numbers of all that was taken since it began.
+    /// Closes the frame under way, where there is one, and delivers its datagrams where none was refused before.
+    fn close<T: Outlet>(
+        &mut self,
+        service: u32,
+        went: Result<(), Failed>,
+        outlet: &mut T,
+    ) -> Result<(), Failed>
+        requires served { service < T.services outlet.old }
+        ensures closed { Closes self.old self.new }
+        ensures delivered { (form : RecordingForm) (it : ServiceFields) (records : List Record) → IsEndingOne form it self.old records
+            → Delivers T.StandsFor T.Refused service (closed_by form it records) (record { outlet = outlet.old; went = went }) (record { outlet = outlet.new; went = result }) }
+        ensures goes { GoesOn T.services T.faults (record { outlet = outlet.old; went = went }) (record { outlet = outlet.new; went = result }) }
+    {
+        match self {
+            ByKind::Ule(_) => went,
+            ByKind::Mpe(_) => went,
+            ByKind::Fec(reception) => reception.close_after(service, went, outlet),
+        }
+    }
+
+    /// The numbers of all that was taken since it began, but for its frames.
     fn counts(&self) -> Counts
-        ensures packets { on_pid result ≡ (state_of self.now).on_pid }
-        ensures units { of_units result ≡ (state_of self.now).of_units }
+        ensures packets { on_pid result ≡ pid_numbers_in self.now }
+        ensures units { of_units result ≡ unit_numbers_in self.now }
     {
         match self {
             ByKind::Ule(reception) => reception.counts(),
             ByKind::Mpe(reception) => reception.counts(),
+            ByKind::Fec(reception) => counts_of(&reception.counts()),
+        }
+    }
+
+    /// The numbers of its frames.
+    fn totals(&self) -> FrameTotals
+        ensures frames { totals_in result ≡ frame_numbers_in self.now }
+    {
+        match self {
+            ByKind::Ule(_) | ByKind::Mpe(_) => FrameTotals::new(),
+            ByKind::Fec(reception) => totals_of(&reception.counts()),
         }
     }
 }
 
 /// A receiver on its first PID.
 fn first_receiver(pid: u16, reception: ByKind<'_>) -> ServiceReceiver<'_>
-    ensures opened { (it : ServiceFields) → pid_of it.kind ≡ Some pid → IsFresh it reception.entry → IsOpened it result }
+    ensures opened { (form : RecordingForm) (it : ServiceFields) → pid_of it.kind ≡ Some pid → IsFresh form it reception.entry → IsOpened form it result }
 {
     ServiceReceiver {
         pid,
         reception,
         before: Counts::new(),
+        frames_before: FrameTotals::new(),
     }
 }
 
 impl<'a> ServiceReceiver<'a> {
     /// The receiver of a service that was given nothing.
     pub(crate) fn open(arena: &'a Bump, kind: &Kind) -> Result<ServiceReceiver<'a>, OutOfMemory>
-        requires { is_received (kind_seen kind.now) ≡ true }
-        ensures opened { IfOk result (λ receiver. (it : ServiceFields) → it.kind ≡ kind_seen kind.now → IsOpened it receiver) }
+        requires received { is_received (kind_seen kind.now) ≡ true }
+        requires rows { has_right_rows (kind_seen kind.now) ≡ true }
+        ensures opened { IfOk result (λ receiver. (form : RecordingForm) (it : ServiceFields) → it.kind ≡ kind_seen kind.now → IsOpened form it receiver) }
     {
         match *kind {
             Kind::Ule { pid, .. } => match ule_reception(arena) {
@@ -111,7 +170,11 @@ impl<'a> ServiceReceiver<'a> {
                 Ok(reception) => Ok(first_receiver(pid, reception)),
                 Err(error) => Err(error),
             },
-            Kind::Fec { .. } | Kind::Gse { .. } => unreachable!(),
+            Kind::Fec { pid, rows, .. } => match fec_reception(arena, rows) {
+                Ok(reception) => Ok(first_receiver(pid, reception)),
+                Err(error) => Err(error),
+            },
+            Kind::Gse { .. } => unreachable!(),
         }
     }
 
@@ -127,14 +190,15 @@ impl<'a> ServiceReceiver<'a> {
     ) -> Result<(), Failed>
         requires read { IsRead packet.now bytes.now }
         requires served { service < T.services outlet.old }
-        ensures received { (it : ServiceFields) (records : List Record) → IsReceivingOne filter.now packet.now.pid it self.old records
-            → IsReception it self.new.reception (records ++ packet_record moment bytes.now ∷ []) }
-        ensures delivered { (it : ServiceFields) (records : List Record) → IsReceivingOne filter.now packet.now.pid it self.old records
-            → OnOk result (Told (T.StandsFor outlet.old) (T.StandsFor outlet.new) service (added_by it records (packet_record moment bytes.now))) }
-        ensures failed { (it : ServiceFields) (records : List Record) → IsReceivingOne filter.now packet.now.pid it self.old records
-            → OnErr result (StopsWithin (T.StandsFor outlet.old) (T.StandsFor outlet.new) (T.Refused outlet.new service) service (added_by it records (packet_record moment bytes.now))) }
+        ensures received { (form : RecordingForm) (it : ServiceFields) (records : List Record) → IsReceivingOne form filter.now packet.now.pid it self.old records
+            → IsReception false form it self.new.reception (records ++ packet_record moment bytes.now ∷ []) }
+        ensures delivered { (form : RecordingForm) (it : ServiceFields) (records : List Record) → IsReceivingOne form filter.now packet.now.pid it self.old records
+            → OnOk result (Told (T.StandsFor outlet.old) (T.StandsFor outlet.new) service (added_by form it records (packet_record moment bytes.now))) }
+        ensures failed { (form : RecordingForm) (it : ServiceFields) (records : List Record) → IsReceivingOne form filter.now packet.now.pid it self.old records
+            → OnErr result (StopsWithin (T.StandsFor outlet.old) (T.StandsFor outlet.new) (T.Refused outlet.new service) service (added_by form it records (packet_record moment bytes.now))) }
         ensures pid { self.new.pid ≡ self.old.pid }
         ensures before { self.new.before ≡ self.old.before }
+        ensures frames_before { self.new.frames_before ≡ self.old.frames_before }
         ensures services { T.services outlet.new ≡ T.services outlet.old }
         ensures cause { HasCause (T.faults outlet.old) (T.faults outlet.new) result }
     {
@@ -145,26 +209,55 @@ impl<'a> ServiceReceiver<'a> {
             ByKind::Mpe(reception) => {
                 reception.take(bytes, packet, moment, filter, service, outlet)
             }
+            ByKind::Fec(reception) => reception.take(bytes, packet, moment, service, outlet),
         }
     }
 
-    /// Goes on to another PID. What was counted stays; a unit under way is dropped.
+    /// Closes the frame under way: no more packets of the PID come. Its datagrams are delivered where none was refused before.
+    pub(crate) fn close<T: Outlet>(
+        &mut self,
+        service: u32,
+        went: Result<(), Failed>,
+        outlet: &mut T,
+    ) -> Result<(), Failed>
+        requires served { service < T.services outlet.old }
+        ensures closed { Closes self.old.reception self.new.reception }
+        ensures delivered { (form : RecordingForm) (it : ServiceFields) (records : List Record) → IsEndingOne form it self.old.reception records
+            → Delivers T.StandsFor T.Refused service (closed_by form it records) (record { outlet = outlet.old; went = went }) (record { outlet = outlet.new; went = result }) }
+        ensures goes { GoesOn T.services T.faults (record { outlet = outlet.old; went = went }) (record { outlet = outlet.new; went = result }) }
+        ensures pid { self.new.pid ≡ self.old.pid }
+        ensures before { self.new.before ≡ self.old.before }
+        ensures frames_before { self.new.frames_before ≡ self.old.frames_before }
+    {
+        self.reception.close(service, went, outlet)
+    }
+
+    /// Goes on to another PID. What was counted stays; a unit under way is dropped, and so is a frame: `close` comes before it.
     pub(crate) fn move_to(&mut self, pid: u16)
         ensures pid { self.new.pid ≡ pid }
-        ensures fresh { (it : ServiceFields) → ReadsKind self.old.reception it.kind → IsFresh it self.new.reception }
-        ensures packets { on_pid self.new.before ≡ raised_numbers (on_pid self.old.before) (state_of self.old.reception).on_pid }
-        ensures units { of_units self.new.before ≡ raised_units (of_units self.old.before) (state_of self.old.reception).of_units }
+        ensures fresh { (form : RecordingForm) (it : ServiceFields) → ReadsKind form self.old.reception it.kind → IsFresh form it self.new.reception }
+        ensures packets { on_pid self.new.before ≡ raised_numbers (on_pid self.old.before) (pid_numbers_in self.old.reception) }
+        ensures units { of_units self.new.before ≡ raised_units (of_units self.old.before) (unit_numbers_in self.old.reception) }
+        ensures frames { totals_in self.new.frames_before ≡ raised_frames (totals_in self.old.frames_before) (frame_numbers_in self.old.reception) }
     {
         self.before = self.counts();
+        self.frames_before = self.totals();
         self.reception.begin_anew();
         self.pid = pid;
     }
 
-    /// The numbers of all that was taken, on this PID and on those before.
+    /// The numbers of all that was taken, on this PID and on those before, but for frames.
     pub(crate) fn counts(&self) -> Counts
-        ensures packets { on_pid result ≡ raised_numbers (on_pid self.now.before) (state_of self.now.reception).on_pid }
-        ensures units { of_units result ≡ raised_units (of_units self.now.before) (state_of self.now.reception).of_units }
+        ensures packets { on_pid result ≡ raised_numbers (on_pid self.now.before) (pid_numbers_in self.now.reception) }
+        ensures units { of_units result ≡ raised_units (of_units self.now.before) (unit_numbers_in self.now.reception) }
     {
         sum(&self.before, &self.reception.counts())
+    }
+
+    /// The numbers of all frames, on this PID and on those before.
+    pub(crate) fn totals(&self) -> FrameTotals
+        ensures frames { totals_in result ≡ raised_frames (totals_in self.now.frames_before) (frame_numbers_in self.now.reception) }
+    {
+        sum_totals(&self.frames_before, &self.reception.totals())
     }
 }

@@ -1,10 +1,11 @@
 //! The receivers of all services of a plan, in its order, and the place of each by its PID.
 ghost use Rattle.std.specs.Prelude.{◌≡◌, ◌==◌, ℕ, ◌≤◌, true, map, IfOk, length};
 ghost use Rattle.std.specs.List.{list_all, position};
+ghost use Rattle.ts_spec.specs.Recording.{RecordingForm};
 ghost use Rattle.plan.specs.Parts.{kind_seen, service_seen};
 ghost use Rattle.plan.specs.declared.service.Service.{Service};
 ghost use Rattle.plan_spec.specs.Built.{is_received};
-ghost use Rattle.demux_core.specs.Opening.{AreOpened};
+ghost use Rattle.demux_core.specs.Opening.{AreOpened, has_right_rows};
 ghost use Rattle.demux_core.specs.Places.{AreFound};
 
 use crate::places::{NO_SERVICE, open_places};
@@ -25,8 +26,9 @@ fn open_receivers<'a>(
     arena: &'a Bump,
     list: &ServiceList,
 ) -> Result<Vec<ServiceReceiver<'a>, &'a Bump>, OutOfMemory>
-    requires { list_all (λ (it : Service). is_received (kind_seen it.kind)) list.now ≡ true }
-    ensures opened { IfOk result (λ receivers. AreOpened (map service_seen list.now) receivers.items) }
+    requires known { list_all (λ (it : Service). is_received (kind_seen it.kind)) list.now ≡ true }
+    requires rows { list_all (λ (it : Service). has_right_rows (kind_seen it.kind)) list.now ≡ true }
+    ensures opened { IfOk result (λ receivers. (form : RecordingForm) → AreOpened form (map service_seen list.now) receivers.items) }
 {
     let mut receivers = Vec::with_capacity(arena, list.len())?;
     for at in 0..list.len() {
@@ -42,8 +44,9 @@ pub(crate) fn open_services<'a>(
     list: &ServiceList,
 ) -> Result<Services<'a>, OutOfMemory>
     requires known { list_all (λ (it : Service). is_received (kind_seen it.kind)) list.now ≡ true }
+    requires rows { list_all (λ (it : Service). has_right_rows (kind_seen it.kind)) list.now ≡ true }
     requires few { length list.now ≤ 64 }
-    ensures opened { IfOk result (λ services. AreOpened (map service_seen list.now) services.receivers.items) }
+    ensures opened { IfOk result (λ services. (form : RecordingForm) → AreOpened form (map service_seen list.now) services.receivers.items) }
     ensures found { IfOk result (λ services. AreFound services) }
 {
     let receivers = open_receivers(arena, list)?;

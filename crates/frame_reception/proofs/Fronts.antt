@@ -22,7 +22,8 @@ use Rattle.reception_spec.specs.Packets.{is_on}
 use Rattle.service_reception.proofs.Records.{packet_in, received_more, none_received}
 use Rattle.service_reception.proofs.Fronts.{same_numbers, same_units}
 use Rattle.std.specs.List.{count_by}
-use Rattle.frame_reception.specs.Frames.{frame_numbers, open_sections, last_time, is_unread, told_in}
+use Rattle.reception_spec.specs.Frames.{frame_numbers}
+use Rattle.frame_reception.specs.Frames.{open_sections, last_time, is_unread, told_in}
 use Rattle.frame_reception.specs.Steps.{frame_with}
 use Rattle.frame_reception.specs.Reception.{FrameReceptionState, HasTaken, added_by, added_by_end}
 use Rattle.frame_reception.specs.Frames.{open_in, closed_in}

@@ -9,3 +9,4 @@ pub mod Heard
 pub mod Few
 pub mod Taken
 pub mod Fronts
+pub mod Served

@@ -13,7 +13,8 @@ use Rattle.frame_spec.specs.Known.{known_byte}
 use Rattle.frame_spec.specs.Corrected.{corrected_byte, corrected_row, lacks_data}
 use Rattle.frame_spec.specs.Starts.{known_run, starts_below, is_first_start, tells_end, front_datagram, datagram_from}
 use Rattle.frame_spec.specs.Delivered.{frame_datagrams, datagrams_of_frames}
-use Rattle.frame_reception.specs.Frames.{FrameNumbers, frame_numbers, mended_in, left_in}
+use Rattle.reception_spec.specs.Frames.{FrameNumbers, frame_numbers}
+use Rattle.frame_reception.specs.Frames.{mended_in, left_in}
 use Rattle.frame_reception.specs.Counting.{counted_frame}
 
 raised_below : (n k : ℕ) → n + k < 2 ^ 64 → raised n k ≡ n + k

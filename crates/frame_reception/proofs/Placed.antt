@@ -12,7 +12,8 @@ use Rattle.frame_spec.specs.Groups.{last_section, is_cut, is_cut_by_table}
 use Rattle.frame_spec.specs.Delivered.{frame_datagrams, datagrams_of_frames}
 use Rattle.fec_frame.specs.Stands.{Stands}
 use Rattle.time_slice.specs.Views.{Seen, none_seen, with_seen, time_of as time_seen}
-use Rattle.frame_reception.specs.Frames.{FrameNumbers, frame_numbers, mended_in, left_in, last_time}
+use Rattle.reception_spec.specs.Frames.{FrameNumbers, frame_numbers}
+use Rattle.frame_reception.specs.Frames.{mended_in, left_in, last_time}
 use Rattle.frame_reception.specs.Steps.{frame_with}
 use Rattle.frame_reception.specs.Counting.{counted_frame}
 use Rattle.frame_reception.specs.declared.sections.Section.{Section}

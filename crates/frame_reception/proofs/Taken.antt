@@ -28,7 +28,8 @@ use Rattle.service_reception.proofs.Units.{units_accepted}
 use Rattle.service_reception.proofs.Proper.{events_proper}
 use Rattle.service_reception.proofs.Taken.{told_with}
 use Rattle.service_reception.proofs.Tellings.{told_same}
-use Rattle.frame_reception.specs.Frames.{frame_numbers, closed_in, open_in, is_unread, unread_in, told_in}
+use Rattle.reception_spec.specs.Frames.{frame_numbers}
+use Rattle.frame_reception.specs.Frames.{closed_in, open_in, is_unread, unread_in, told_in}
 use Rattle.frame_reception.specs.Steps.{frame_with, closed_with, open_with, sections_of_events}
 use Rattle.frame_reception.specs.Delivering.{Delivers}
 use Rattle.frame_reception.specs.Reception.{FramesState, FrameReceptionState, HasTaken, HasEnded, added_by, added_by_end}
@@ -124,7 +125,7 @@ module _ (timing : Timing) (rows pid : ℕ) (records : List Record) where
       }
 
   -- the end
-  pub ended_of : (state new : FrameReceptionState) → length records < 2 ^ 32 → HasTaken timing rows pid state records
+  pub ended_of : (state new : FrameReceptionState) → length records ≤ 2 ^ 32 → HasTaken timing rows pid state records
       → new.frames.on_pid ≡ state.frames.on_pid → new.frames.unread ≡ state.frames.unread
       → HasFrames timing rows (closed_in false timing rows pid records ++ frame_with (open_in timing rows pid records)) [] new.frames
       → HasEnded timing rows pid new records
@@ -135,7 +136,7 @@ module _ (timing : Timing) (rows pid : ℕ) (records : List Record) where
     of_frames_are =
         frames.numbers_are (omega (
           arith,
-          few_frames (omega (arith, few)),
+          few_frames few,
           few_open timing rows (open_in timing rows pid records),
           length-append (closed_in false timing rows pid records) (frame_with (open_in timing rows pid records)),
         ))

@@ -2,8 +2,8 @@
 use Rattle.std.specs.Prelude.{ℕ}
 use Rattle.wire_spec.specs.Causes.{raised}
 use Rattle.reception_spec.specs.Numbers.{PidNumbers}
+use Rattle.reception_spec.specs.Frames.{FrameNumbers}
 use Rattle.frame_reception.specs.declared.counts.FrameCounts.{FrameCounts}
-use Rattle.frame_reception.specs.Frames.{FrameNumbers}
 
 -- the numbers of the PID, and those of its frames
 abbrev pub on_pid : FrameCounts → PidNumbers
@@ -24,9 +24,6 @@ of_frames counts = record {
   rows_left = counts.rows_left;
   datagrams = counts.datagrams;
 }
-
-abbrev pub no_frames : FrameNumbers
-no_frames = record { frames = 0; rows_mended = 0; rows_left = 0; datagrams = 0 }
 
 -- one frame more is counted: its rows that were corrected, and that were not, and its datagrams
 abbrev pub counted_frame : FrameNumbers → ℕ → ℕ → ℕ → FrameNumbers

@@ -1,6 +1,6 @@
 -- The frames that the records of one PID give, and what is counted of them (EN 301 192 clause 9).
 use Rattle.std.specs.Prelude.{ℕ, Bool, List, [], ◌∷◌, length, count_by, ◌==◌, if◌then◌else◌, Option, Some, None}
-use Rattle.std.specs.List.{list_any, sum_by}
+use Rattle.std.specs.List.{list_any}
 use Rattle.ts_spec.specs.Recording.{Record}
 use Rattle.section_spec.specs.Section.{section_form}
 use Rattle.slice_spec.specs.Sections.{Timing, SectionTime}
@@ -33,26 +33,12 @@ abbrev pub last_time : List TimedSection → Option SectionTime
 last_time [] = None
 last_time (s ∷ group) = Some (time_of (last_section s group))
 
--- frames; rows of them that lacked application data and were corrected, and that were not; datagrams found in them
-pub record FrameNumbers : Type 0 where
-  pub frames : ℕ
-  pub rows_mended : ℕ
-  pub rows_left : ℕ
-  pub datagrams : ℕ
-
+-- the rows of a frame that lacked application data and were corrected, and those that were not
 abbrev pub mended_in : ℕ → List TimedSection → ℕ
 mended_in rows frame = mended_rows rows (known_byte rows (sections_of frame))
 
 abbrev pub left_in : ℕ → List TimedSection → ℕ
 left_in rows frame = left_rows rows (known_byte rows (sections_of frame))
-
-abbrev pub frame_numbers : ℕ → List (List TimedSection) → FrameNumbers
-frame_numbers rows frames = record {
-  frames = length frames;
-  rows_mended = sum_by (mended_in rows) frames;
-  rows_left = sum_by (left_in rows) frames;
-  datagrams = length (datagrams_of_frames rows frames);
-}
 
 -- a unit of which no section of a frame is read
 abbrev pub is_unread : ℕ → List ℕ → Bool

@@ -6,10 +6,11 @@ use Rattle.slice_spec.specs.Sections.{Timing}
 use Rattle.frame_spec.specs.Sections.{TimedSection, sections_of}
 use Rattle.frame_spec.specs.Delivered.{datagrams_of_frames}
 use Rattle.reception_spec.specs.Numbers.{PidNumbers}
+use Rattle.reception_spec.specs.Frames.{frame_numbers}
 use Rattle.fec_frame.specs.Stands.{Stands}
 use Rattle.service_reception.specs.Counting.{units_in, with_events}
 use Rattle.service_reception.specs.Taking.{IsProper}
-use Rattle.frame_reception.specs.Frames.{frame_numbers, last_time, is_unread}
+use Rattle.frame_reception.specs.Frames.{last_time, is_unread}
 use Rattle.frame_reception.specs.Steps.{closed_with, open_with, sections_of_events}
 use Rattle.frame_reception.specs.Delivering.{Going, Delivers, GoesOn}
 use Rattle.frame_reception.specs.Reception.{FramesState, IsOver}

@@ -1,5 +1,5 @@
 -- What a reception of frames stands for.
-use Rattle.std.specs.Prelude.{◌≡◌, ℕ, ◌^◌, ◌<◌, true, false, List, [], ◌∷◌, ◌++◌, drop, length, Option, None}
+use Rattle.std.specs.Prelude.{◌≡◌, ℕ, ◌^◌, ◌<◌, ◌≤◌, true, false, List, [], ◌∷◌, ◌++◌, drop, length, Option, None}
 use Rattle.ts_spec.specs.Recording.{Record}
 use Rattle.ts_spec.specs.Received.{received_packets}
 use Rattle.reassembly_law.specs.Records.{last_bytes}
@@ -8,10 +8,11 @@ use Rattle.section_spec.specs.Mpe.{IsRows}
 use Rattle.slice_spec.specs.Sections.{Timing}
 use Rattle.frame_spec.specs.Sections.{sections_of}
 use Rattle.reception_spec.specs.Numbers.{PidNumbers, pid_numbers}
+use Rattle.reception_spec.specs.Frames.{FrameNumbers, frame_numbers}
 use Rattle.unit_stream.specs.Joining.{JoinerState, Stands}
 use Rattle.fec_frame.specs.Stands.{TableState, Stands as TableStands}
 use Rattle.time_slice.specs.Views.{Seen}
-use Rattle.frame_reception.specs.Frames.{FrameNumbers, frame_numbers, closed_in, open_in, last_time, unread_in, told_in}
+use Rattle.frame_reception.specs.Frames.{closed_in, open_in, last_time, unread_in, told_in}
 
 -- the table of the open frame, the section seen last of it, and all numbers
 pub record FramesState : Type 0 where
@@ -51,9 +52,14 @@ pub record HasEnded (timing : Timing) (rows pid : ℕ) (state : FrameReceptionSt
   pub unread_is : state.frames.unread ≡ unread_in rows pid records
   pub of_frames_are : state.frames.of_frames ≡ frame_numbers rows (closed_in true timing rows pid records)
 
--- these records were received, fewer than 2^32, and one packet more of this PID is to be taken, or none can come
+-- these records were received, fewer than 2^32, and one packet more of this PID is to be taken
 pub record IsReceiving (timing : Timing) (rows pid : ℕ) (state : FrameReceptionState) (records : List Record) : Type 0 where
   pub few : length records < 2 ^ 32
+  pub received : HasTaken timing rows pid state records
+
+-- these records were received, 2^32 of them at most, and no packet of this PID comes after them
+pub record IsEnding (timing : Timing) (rows pid : ℕ) (state : FrameReceptionState) (records : List Record) : Type 0 where
+  pub few : length records ≤ 2 ^ 32
   pub received : HasTaken timing rows pid state records
 
 -- the datagrams that one record more tells, and those that the end does

@@ -3,8 +3,9 @@ ghost use Rattle.std.specs.Prelude.{◌≡◌};
 ghost use Rattle.wire_spec.specs.Causes.{raised};
 ghost use Rattle.unit_stream.specs.States.{event_in};
 ghost use Rattle.reception_spec.specs.Numbers.{no_numbers};
+ghost use Rattle.reception_spec.specs.Frames.{no_frames};
 ghost use Rattle.service_reception.specs.Counting.{counted_link, counted_event};
-ghost use Rattle.frame_reception.specs.Counting.{on_pid, of_frames, no_frames, counted_frame};
+ghost use Rattle.frame_reception.specs.Counting.{on_pid, of_frames, counted_frame};
 
 use fec_frame::RowCounts;
 use ts_packet::Link;

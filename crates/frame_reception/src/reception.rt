@@ -42,7 +42,8 @@ impl<A: Allocator> FrameReception<A> {
     ghost use Rattle.service_reception.specs.Reception.{packet_record};
     ghost use Rattle.service_reception.specs.Telling.{Told, StopsWithin};
     ghost use Rattle.frame_reception.specs.Counting.{on_pid, of_frames};
-    ghost use Rattle.frame_reception.specs.Reception.{HasTaken, HasEnded, IsOver, IsReceiving, added_by, added_by_end};
+    ghost use Rattle.frame_reception.specs.Delivering.{Delivers, GoesOn};
+    ghost use Rattle.frame_reception.specs.Reception.{HasTaken, HasEnded, IsOver, IsReceiving, IsEnding, added_by, added_by_end};
 
     /// A reception of nothing, over a buffer of 4,096 bytes and a table, which is cleared. It takes no memory afterwards.
     ///
@@ -111,16 +112,34 @@ impl<A: Allocator> FrameReception<A> {
     /// Its datagrams go to the outlet. Failed: the outlet refused one, and those after it are not offered; the frame is counted as with Ok.
     pub fn close<T: Outlet>(&mut self, service: u32, outlet: &mut T) -> Result<(), Failed>
         requires served { service < T.services outlet.old }
-        ensures ended { (timing : Timing) (rows pid : ℕ) (records : List Record) → IsReceiving timing rows pid self.old records
+        ensures ended { (timing : Timing) (rows pid : ℕ) (records : List Record) → IsEnding timing rows pid self.old records
             → HasEnded timing rows pid self.new records }
-        ensures delivered { (timing : Timing) (rows pid : ℕ) (records : List Record) → IsReceiving timing rows pid self.old records
+        ensures delivered { (timing : Timing) (rows pid : ℕ) (records : List Record) → IsEnding timing rows pid self.old records
             → OnOk result (Told (T.StandsFor outlet.old) (T.StandsFor outlet.new) service (added_by_end timing rows pid records)) }
-        ensures failed { (timing : Timing) (rows pid : ℕ) (records : List Record) → IsReceiving timing rows pid self.old records
+        ensures failed { (timing : Timing) (rows pid : ℕ) (records : List Record) → IsEnding timing rows pid self.old records
             → OnErr result (StopsWithin (T.StandsFor outlet.old) (T.StandsFor outlet.new) (T.Refused outlet.new service) service (added_by_end timing rows pid records)) }
         ensures services { T.services outlet.new ≡ T.services outlet.old }
         ensures cause { HasCause (T.faults outlet.old) (T.faults outlet.new) result }
     {
-        self.frames.close(service, Ok(()), outlet)
+        self.close_after(service, Ok(()), outlet)
+    }
+
+    /// The same where datagrams were delivered before, of other services at the same record: after a refused one those of the frame are
+    /// not offered. The frame is closed and counted all the same.
+    pub fn close_after<T: Outlet>(
+        &mut self,
+        service: u32,
+        went: Result<(), Failed>,
+        outlet: &mut T,
+    ) -> Result<(), Failed>
+        requires served { service < T.services outlet.old }
+        ensures ended { (timing : Timing) (rows pid : ℕ) (records : List Record) → IsEnding timing rows pid self.old records
+            → HasEnded timing rows pid self.new records }
+        ensures delivered { (timing : Timing) (rows pid : ℕ) (records : List Record) → IsEnding timing rows pid self.old records
+            → Delivers T.StandsFor T.Refused service (added_by_end timing rows pid records) (record { outlet = outlet.old; went = went }) (record { outlet = outlet.new; went = result }) }
+        ensures goes { GoesOn T.services T.faults (record { outlet = outlet.old; went = went }) (record { outlet = outlet.new; went = result }) }
+    {
+        self.frames.close(service, went, outlet)
     }
 
     /// The numbers of all that was taken.

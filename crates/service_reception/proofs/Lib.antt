@@ -10,3 +10,4 @@ pub mod Taken
 pub mod Fronts
 pub mod InForce
 pub mod Keeping
+pub mod Readable

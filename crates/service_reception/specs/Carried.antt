@@ -1,17 +1,18 @@
 -- What the code reads of a unit, and what becomes of the unit.
-use Rattle.std.specs.Prelude.{◌≡◌, ℕ, List, [], ◌∷◌, Option, Some, None}
+use Rattle.std.specs.Prelude.{◌≡◌, ℕ, true, false, List, [], ◌∷◌, Option, Some, None}
 use Rattle.plan_spec.specs.Plan.{KindFields, ServiceFields}
 use Rattle.stream_spec.specs.Services.{carried_by_unit}
-use Rattle.reception_spec.specs.Units.{label_of, delivered_by_unit}
+use Rattle.reception_spec.specs.Units.{label_of, is_read, delivered_by_unit}
 use Rattle.reception_spec.specs.Numbers.{UnitNumbers, unit_numbers}
 use Rattle.service_reception.specs.declared.carried.Carried.{Carried}
 use Rattle.service_reception.specs.declared.handling.Handling.{Handling}
 use Rattle.service_reception.specs.declared.handling.Handling.TheVariants as handling
 
--- a unit of this kind carries this: its label and its datagram, or nothing
+-- a unit of this kind carries this: its label and its datagram, or nothing; it is read where it carries a datagram, and only there
 abbrev pub ReadsAs : KindFields → List ℕ → Option Carried → Type 0
-ReadsAs kind unit None = carried_by_unit kind unit ≡ []
-ReadsAs kind unit (Some carried) = (carried.label ≡ label_of kind unit) × (carried_by_unit kind unit ≡ carried.datagram.now ∷ [])
+ReadsAs kind unit None = (is_read kind unit ≡ false) × (carried_by_unit kind unit ≡ [])
+ReadsAs kind unit (Some carried) =
+    (is_read kind unit ≡ true) × (carried.label ≡ label_of kind unit) × (carried_by_unit kind unit ≡ carried.datagram.now ∷ [])
 
 -- what is counted of one unit, and what is delivered of it
 abbrev pub handling_numbers : Handling → UnitNumbers

@@ -1,15 +1,19 @@
 use Rattle.std.proofs.Common.{◌+◌, List, map, take, refl, sym, subst}
 use Rattle.plan.specs.Parts.{service_seen}
-use Rattle.demux_core.specs.Opening.{AreOpened}
+use Rattle.plan_spec.specs.Built.{is_received}
+use Rattle.demux_core.specs.Opening.{AreOpened, has_right_rows}
 use Rattle.demux_core.specs.declared.service.ServiceReceiver.{ServiceReceiver}
-use Rattle.demux_core.proofs.Opened.{built_at, opened_next}
+use Rattle.demux_core.proofs.Opened.{kind_at, opened_next}
 use Rattle.demux_core.proofs.services.open_receivers.Goals as goal
 
 pub open-requires : goal.open-requires
-open-requires c = built_at c.args.list.now c.loop-at.at c.at.result.now c.requires c.at.ensures.read
+open-requires c = record {
+  received = kind_at is_received c.args.list.now c.loop-at.at c.at.result.now c.requires.known c.at.ensures.read;
+  rows = kind_at has_right_rows c.args.list.now c.loop-at.at c.at.result.now c.requires.rows c.at.ensures.read;
+}
 
 pub loop-at-preserved : goal.loop-at-preserved
-loop-at-preserved c =
-    subst (λ (t : List ServiceReceiver). AreOpened (map service_seen (take (c.loop-at.at + 1) c.args.list.now)) t) (sym c.in_ok-push.ensures.items)
-    (opened_next c.args.list.now c.loop-at.receivers.items c.loop-at.at c.at.result.now c.in_ok-receiver.receiver c.at.ensures.read c.loop-at.invariant
-    (c.in_ok-receiver.ensures.opened (service_seen c.at.result.now) refl))
+loop-at-preserved c = λ form.
+    subst (λ (t : List ServiceReceiver). AreOpened form (map service_seen (take (c.loop-at.at + 1) c.args.list.now)) t) (sym c.in_ok-push.ensures.items)
+    (opened_next form c.args.list.now c.loop-at.receivers.items c.loop-at.at c.at.result.now c.in_ok-receiver.receiver c.at.ensures.read (c.loop-at.invariant form)
+    (c.in_ok-receiver.ensures.opened form (service_seen c.at.result.now) refl))

@@ -8,8 +8,8 @@ use Rattle.demux_core.proofs.receiver.Receiver.plan_in_force.Goals as goal
 
 pub returns : goal.returns
 returns c = record {
-  read = λ plan records has.
-      let seen : HasReceived plan records _ = subst (λ (v : ReceiverState). HasReceived plan records v) (sym c.self.view_is) has in
+  read = λ ended plan records has.
+      let seen : HasReceived ended plan records _ = subst (λ (v : ReceiverState). HasReceived ended plan records v) (sym c.self.view_is) has in
       c.version_in_force.ensures.read
       ∙ version_is plan (laws_of plan (subst (λ (p : PlanFields). has_wrong_change p ≡ false) seen.plan_is c.self.invariant.0.right_changes)) c.self.inside.table records seen.all.int;
 }

@@ -18,7 +18,7 @@ packet_with moment bytes = record { moment = moment; bytes = bytes }
 
 pub returns-in-WithoutPayload-clause-received : goal.returns-in-WithoutPayload-clause-received
 returns-in-WithoutPayload-clause-received g c = λ plan records has.
-    let seen : HasReceived plan records _ = (subst (λ (v : ReceiverState). HasReceived plan records v) (sym c.self.view_is) has) in
+    let seen : HasReceived false plan records _ = (subst (λ (v : ReceiverState). HasReceived false plan records v) (sym c.self.view_is) has) in
     let laws : Laws plan = laws_of plan (subst (λ (p : PlanFields). has_wrong_change p ≡ false) seen.plan_is c.self.invariant.0.right_changes) in
     record {
       plan_is = seen.plan_is;
@@ -29,14 +29,14 @@ returns-in-WithoutPayload-clause-received g c = λ plan records has.
 
 pub returns-in-WithoutPayload-clause-written : goal.returns-in-WithoutPayload-clause-written
 returns-in-WithoutPayload-clause-written g c = λ plan records has.
-    let seen : HasReceived plan records _ = (subst (λ (v : ReceiverState). HasReceived plan records v) (sym c.self.view_is) has) in
+    let seen : HasReceived false plan records _ = (subst (λ (v : ReceiverState). HasReceived false plan records v) (sym c.self.view_is) has) in
     let laws : Laws plan = laws_of plan (subst (λ (p : PlanFields). has_wrong_change p ≡ false) seen.plan_is c.self.invariant.0.right_changes) in
     told_none (g.T.Outlet.StandsFor c.args.outlet.now) _
     (none_given plan laws c.self.inside.services.receivers.items c.self.inside.table records (packet_with c.args.moment c.args.bytes.now) (without_on_none (packet_with c.args.moment c.args.bytes.now) c.in-WithoutPayload.ensures.holds) seen.all)
 
 pub returns-in-Unreadable-clause-received : goal.returns-in-Unreadable-clause-received
 returns-in-Unreadable-clause-received g c = λ plan records has.
-    let seen : HasReceived plan records _ = (subst (λ (v : ReceiverState). HasReceived plan records v) (sym c.self.view_is) has) in
+    let seen : HasReceived false plan records _ = (subst (λ (v : ReceiverState). HasReceived false plan records v) (sym c.self.view_is) has) in
     let laws : Laws plan = laws_of plan (subst (λ (p : PlanFields). has_wrong_change p ≡ false) seen.plan_is c.self.invariant.0.right_changes) in
     record {
       plan_is = seen.plan_is;
@@ -47,19 +47,19 @@ returns-in-Unreadable-clause-received g c = λ plan records has.
 
 pub returns-in-Unreadable-clause-written : goal.returns-in-Unreadable-clause-written
 returns-in-Unreadable-clause-written g c = λ plan records has.
-    let seen : HasReceived plan records _ = (subst (λ (v : ReceiverState). HasReceived plan records v) (sym c.self.view_is) has) in
+    let seen : HasReceived false plan records _ = (subst (λ (v : ReceiverState). HasReceived false plan records v) (sym c.self.view_is) has) in
     let laws : Laws plan = laws_of plan (subst (λ (p : PlanFields). has_wrong_change p ≡ false) seen.plan_is c.self.invariant.0.right_changes) in
     told_none (g.T.Outlet.StandsFor c.args.outlet.now) _
     (none_given plan laws c.self.inside.services.receivers.items c.self.inside.table records (packet_with c.args.moment c.args.bytes.now) (unreadable_on_none (packet_with c.args.moment c.args.bytes.now) c.in-Unreadable.ensures.holds) seen.all)
 
 pub returns-in-Ok-true-clause-received : goal.returns-in-Ok-true-clause-received
 returns-in-Ok-true-clause-received g c = λ plan records has.
-    let seen : HasReceived plan records _ = (subst (λ (v : ReceiverState). HasReceived plan records v) (sym c.self.view_is) has) in
+    let seen : HasReceived false plan records _ = (subst (λ (v : ReceiverState). HasReceived false plan records v) (sym c.self.view_is) has) in
     let laws : Laws plan = laws_of plan (subst (λ (p : PlanFields). has_wrong_change p ≡ false) seen.plan_is c.self.invariant.0.right_changes) in
     let r : ReadRecord = packet_with c.args.moment c.args.bytes.now in
     let same : r ≡ packet_record c.in-Packet.moment c.args.bytes.now = ap (λ (m : Option ℕ). packet_with m c.args.bytes.now) c.in-Packet.ensures.holds.0 in
     let few : c.self.inside.stream.records < 2 ^ 32 = (subst (λ (v : ReceiverState). v.stream.records < 2 ^ 32) (sym c.self.view_is) c.requires.few) in
-    let before = all_along plan (plan_fields c.self.inside.plan.now) c.self.inside.services.receivers.items c.self.inside.services.receivers.items c.self.inside.table records records
+    let before = all_along false plan (plan_fields c.self.inside.plan.now) c.self.inside.services.receivers.items c.self.inside.services.receivers.items c.self.inside.table records records
     (sym seen.plan_is) refl refl seen.all in
     let known : is_pid_of (plan_in plan (version_at_end plan records)) (fields_of c.args.bytes.now).pid ≡ true =
     ap₂ (λ (p : PlanFields) (pid : ℕ). is_pid_of (plan_in p (version_at_end p records)) pid) (sym seen.plan_is) (sym (ap (λ (f : PacketFields). f.pid) c.in-Packet.ensures.holds.1.fields_are)) ∙ sym (c.in-Ok-true.ensures.known records before) ∙ c.in-Ok-true.field-0-test in
@@ -67,7 +67,7 @@ returns-in-Ok-true-clause-received g c = λ plan records has.
       plan_is = seen.plan_is;
       stream = records_more plan laws records r c.self.inside.stream seen.stream few
           (packet_is (plan_in plan (version_at_end plan records)) r c.in-Packet.moment true c.in-Packet.ensures.holds.0 c.in-Packet.ensures.holds.1.readable known);
-      all = all_along (plan_fields c.self.inside.plan.now) plan c.receive_packet.new.services.receivers.items c.receive_packet.new.services.receivers.items c.receive_packet.new.table
+      all = all_along false (plan_fields c.self.inside.plan.now) plan c.receive_packet.new.services.receivers.items c.receive_packet.new.services.receivers.items c.receive_packet.new.table
           (records ++ packet_record c.in-Packet.moment c.args.bytes.now ∷ []) (records ++ r ∷ [])
           seen.plan_is refl
           (ap (λ (t : ReadRecord). records ++ t ∷ []) (sym same))
@@ -76,12 +76,12 @@ returns-in-Ok-true-clause-received g c = λ plan records has.
 
 pub returns-in-Ok-false-clause-received : goal.returns-in-Ok-false-clause-received
 returns-in-Ok-false-clause-received g c = λ plan records has.
-    let seen : HasReceived plan records _ = (subst (λ (v : ReceiverState). HasReceived plan records v) (sym c.self.view_is) has) in
+    let seen : HasReceived false plan records _ = (subst (λ (v : ReceiverState). HasReceived false plan records v) (sym c.self.view_is) has) in
     let laws : Laws plan = laws_of plan (subst (λ (p : PlanFields). has_wrong_change p ≡ false) seen.plan_is c.self.invariant.0.right_changes) in
     let r : ReadRecord = packet_with c.args.moment c.args.bytes.now in
     let same : r ≡ packet_record c.in-Packet.moment c.args.bytes.now = ap (λ (m : Option ℕ). packet_with m c.args.bytes.now) c.in-Packet.ensures.holds.0 in
     let few : c.self.inside.stream.records < 2 ^ 32 = (subst (λ (v : ReceiverState). v.stream.records < 2 ^ 32) (sym c.self.view_is) c.requires.few) in
-    let before = all_along plan (plan_fields c.self.inside.plan.now) c.self.inside.services.receivers.items c.self.inside.services.receivers.items c.self.inside.table records records
+    let before = all_along false plan (plan_fields c.self.inside.plan.now) c.self.inside.services.receivers.items c.self.inside.services.receivers.items c.self.inside.table records records
     (sym seen.plan_is) refl refl seen.all in
     let known : is_pid_of (plan_in plan (version_at_end plan records)) (fields_of c.args.bytes.now).pid ≡ false =
     ap₂ (λ (p : PlanFields) (pid : ℕ). is_pid_of (plan_in p (version_at_end p records)) pid) (sym seen.plan_is) (sym (ap (λ (f : PacketFields). f.pid) c.in-Packet.ensures.holds.1.fields_are)) ∙ sym (c.in-Ok-false.ensures.known records before) ∙ c.in-Ok-false.field-0-test in
@@ -90,7 +90,7 @@ returns-in-Ok-false-clause-received g c = λ plan records has.
       stream = other_more plan laws records r c.self.inside.stream seen.stream few
           c.saturating_add-self-inside-in-Ok-false.result c.saturating_add-self-inside-in-Ok-false.ensures
           (packet_is (plan_in plan (version_at_end plan records)) r c.in-Packet.moment false c.in-Packet.ensures.holds.0 c.in-Packet.ensures.holds.1.readable known);
-      all = all_along (plan_fields c.self.inside.plan.now) plan c.receive_packet.new.services.receivers.items c.receive_packet.new.services.receivers.items c.receive_packet.new.table
+      all = all_along false (plan_fields c.self.inside.plan.now) plan c.receive_packet.new.services.receivers.items c.receive_packet.new.services.receivers.items c.receive_packet.new.table
           (records ++ packet_record c.in-Packet.moment c.args.bytes.now ∷ []) (records ++ r ∷ [])
           seen.plan_is refl
           (ap (λ (t : ReadRecord). records ++ t ∷ []) (sym same))
@@ -99,12 +99,12 @@ returns-in-Ok-false-clause-received g c = λ plan records has.
 
 pub returns-in-Err-clause-received : goal.returns-in-Err-clause-received
 returns-in-Err-clause-received g c = λ plan records has.
-    let seen : HasReceived plan records _ = (subst (λ (v : ReceiverState). HasReceived plan records v) (sym c.self.view_is) has) in
+    let seen : HasReceived false plan records _ = (subst (λ (v : ReceiverState). HasReceived false plan records v) (sym c.self.view_is) has) in
     let laws : Laws plan = laws_of plan (subst (λ (p : PlanFields). has_wrong_change p ≡ false) seen.plan_is c.self.invariant.0.right_changes) in
     let r : ReadRecord = packet_with c.args.moment c.args.bytes.now in
     let same : r ≡ packet_record c.in-Packet.moment c.args.bytes.now = ap (λ (m : Option ℕ). packet_with m c.args.bytes.now) c.in-Packet.ensures.holds.0 in
     let few : c.self.inside.stream.records < 2 ^ 32 = (subst (λ (v : ReceiverState). v.stream.records < 2 ^ 32) (sym c.self.view_is) c.requires.few) in
-    let before = all_along plan (plan_fields c.self.inside.plan.now) c.self.inside.services.receivers.items c.self.inside.services.receivers.items c.self.inside.table records records
+    let before = all_along false plan (plan_fields c.self.inside.plan.now) c.self.inside.services.receivers.items c.self.inside.services.receivers.items c.self.inside.table records records
     (sym seen.plan_is) refl refl seen.all in
     let known : is_pid_of (plan_in plan (version_at_end plan records)) (fields_of c.args.bytes.now).pid ≡ true =
     ap₂ (λ (p : PlanFields) (pid : ℕ). is_pid_of (plan_in p (version_at_end p records)) pid) (sym seen.plan_is) (sym (ap (λ (f : PacketFields). f.pid) c.in-Packet.ensures.holds.1.fields_are)) ∙ c.in-Err.ensures.of_plan records before in
@@ -112,7 +112,7 @@ returns-in-Err-clause-received g c = λ plan records has.
       plan_is = seen.plan_is;
       stream = records_more plan laws records r c.self.inside.stream seen.stream few
           (packet_is (plan_in plan (version_at_end plan records)) r c.in-Packet.moment true c.in-Packet.ensures.holds.0 c.in-Packet.ensures.holds.1.readable known);
-      all = all_along (plan_fields c.self.inside.plan.now) plan c.receive_packet.new.services.receivers.items c.receive_packet.new.services.receivers.items c.receive_packet.new.table
+      all = all_along false (plan_fields c.self.inside.plan.now) plan c.receive_packet.new.services.receivers.items c.receive_packet.new.services.receivers.items c.receive_packet.new.table
           (records ++ packet_record c.in-Packet.moment c.args.bytes.now ∷ []) (records ++ r ∷ [])
           seen.plan_is refl
           (ap (λ (t : ReadRecord). records ++ t ∷ []) (sym same))

@@ -8,16 +8,16 @@ use Rattle.demux_core.proofs.receiver.Receiver.table_section.Goals as goal
 
 pub returns-in-Some : goal.returns-in-Some
 returns-in-Some c = record {
-  read = λ plan records has.
-      let seen : HasReceived plan records _ = subst (λ (v : ReceiverState). HasReceived plan records v) (sym c.self.view_is) has in
+  read = λ ended plan records has.
+      let seen : HasReceived ended plan records _ = subst (λ (v : ReceiverState). HasReceived ended plan records v) (sym c.self.view_is) has in
       c.section.ensures.read ∙ ap shown_of (sym c.in-Some.is)
       ∙ shown_is plan (laws_of plan (subst (λ (p : PlanFields). has_wrong_change p ≡ false) seen.plan_is c.self.invariant.0.right_changes)) c.self.inside.table records seen.all.int;
 }
 
 pub returns-in-None : goal.returns-in-None
 returns-in-None c = record {
-  read = λ plan records has.
-      let seen : HasReceived plan records _ = subst (λ (v : ReceiverState). HasReceived plan records v) (sym c.self.view_is) has in
+  read = λ ended plan records has.
+      let seen : HasReceived ended plan records _ = subst (λ (v : ReceiverState). HasReceived ended plan records v) (sym c.self.view_is) has in
       ap shown_of (sym c.in-None.is)
       ∙ shown_is plan (laws_of plan (subst (λ (p : PlanFields). has_wrong_change p ≡ false) seen.plan_is c.self.invariant.0.right_changes)) c.self.inside.table records seen.all.int;
 }
