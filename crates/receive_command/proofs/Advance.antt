@@ -1,5 +1,5 @@
 -- From one record of a recording to the next, and the ends of the reading.
-use Rattle.std.proofs.Common.{◌≡◌, ℕ, suc, ◌+◌, ◌*◌, ◌^◌, ◌<◌, ◌≤◌, List, [], ◌∷◌, ◌++◌, length, take, refl, ap, ap₂, sym, ◌∙◌, subst, arith, add-one, Option, None, Some, All, append_assoc}
+use Rattle.std.proofs.Common.{◌≡◌, ℕ, suc, ◌+◌, ◌*◌, ◌^◌, ◌<◌, ◌≤◌, false, List, [], ◌∷◌, ◌++◌, length, take, refl, ap, ap₂, sym, ◌∙◌, subst, arith, add-one, Option, None, Some, All, append_assoc}
 use Rattle.std.proofs.lemmas.List.{append-nil, length_push, length-map}
 use Rattle.std.proofs.Math.Nat.{mul-suc, mul_comm, mul-le-mul_left}
 use Rattle.std.proofs.lemmas.Nat.{mul-add-lt}
@@ -70,14 +70,6 @@ text_is_none plan first at =
 pub text_none : (plan : PlanFields) (first : ℕ) (a : Option (List File)) → Grow a a (text_at plan first [])
 text_none plan first a = grow_same a a (λ at. []) (text_at plan first []) (λ at. sym (text_is_none plan first at)) (grow-nil a)
 
-pub received_none : (plan : PlanFields) (receiver : ReceiverState) → HasReceived plan [] receiver → HasReceived plan (records_in plan []) receiver
-received_none plan receiver received = subst (λ (records : List Record). HasReceived plan records receiver) (sym (records_none plan.recording)) received
-
--- what the receiver's conditions need
-pub services_received : (plan : PlanFields) (receiver : ReceiverState) (records : List Record) (services : ℕ) → HasReceived plan records receiver
-    → services ≡ length plan.services → length receiver.plan.services ≤ services
-services_received plan receiver records services received size = omega (arith, ap (λ (p : PlanFields). length p.services) received.plan_is, size)
-
 -- One record more.
 
 pub record_more : (form : RecordingForm) (reader now_reader : ReaderState) (left now : Option (List ℕ)) (taken now_taken : ℕ) (pieces : List (List ℕ)) (r : Record) → reader.form ≡ form
@@ -105,8 +97,8 @@ files_more plan first pieces piece r a b c more before now =
 
 pub received_more : (plan : PlanFields) (receiver : ReceiverState) (pieces : List (List ℕ)) (piece : List ℕ) (r : Record)
     → records_in plan (pieces ++ piece ∷ []) ≡ records_in plan pieces ++ r ∷ []
-    → HasReceived plan (records_in plan pieces ++ r ∷ []) receiver → HasReceived plan (records_in plan (pieces ++ piece ∷ [])) receiver
-received_more plan receiver pieces piece r more received = subst (λ (records : List Record). HasReceived plan records receiver) (sym more) received
+    → HasReceived false plan (records_in plan pieces ++ r ∷ []) receiver → HasReceived false plan (records_in plan (pieces ++ piece ∷ [])) receiver
+received_more plan receiver pieces piece r more received = subst (λ (records : List Record). HasReceived false plan records receiver) (sym more) received
 
 pub taken_more : (size before mid now : ℕ) (pieces : List (List ℕ)) (piece : List ℕ) → length piece ≡ size → mid ≡ raised before (size * length pieces)
     → now ≡ raised mid (length piece) → now ≡ raised before (size * length (pieces ++ piece ∷ []))
@@ -151,7 +143,7 @@ has_read_all form reader pieces left now same stands read = record {
 pub whole_at_end : (plan : PlanFields) (receiver : ReceiverState) (left mid now : Option (List ℕ)) (taken now_taken : ℕ) (old new : Option (List File)) (first tail : ℕ) (pieces : List (List ℕ)) (reader now_reader : ReaderState)
     → reader.form ≡ plan.recording → ReaderOf reader pieces → reader.count < 2 ^ 32 → Consumes left mid (joined pieces)
     → ReadsEnd reader now_reader mid now taken now_taken pieces → tail ≡ now_reader.tail
-    → Grow old new (text_at plan first pieces) → HasReceived plan (records_in plan pieces) receiver → ReadsWhole plan receiver left now old new first tail
+    → Grow old new (text_at plan first pieces) → HasReceived false plan (records_in plan pieces) receiver → ReadsWhole plan receiver left now old new first tail
 whole_at_end plan receiver left mid now taken now_taken old new first tail pieces reader now_reader same stands few before end tail_is files received = record {
   pieces = pieces;
   behind = end.bytes;

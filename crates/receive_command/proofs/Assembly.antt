@@ -5,16 +5,13 @@ use Rattle.std.proofs.lemmas.List.{append-nil, drop_all, take_all, length-take, 
 use Rattle.std.proofs.lemmas.Option.{slice_get_within, slice_get_cases}
 use Rattle.std.proofs.lemmas.Bool.{cases_lt}
 use Rattle.wire_spec.specs.Content.{File, grown, flushed_file, no_file}
-use Rattle.ts_spec.specs.Recording.{Record}
-use Rattle.plan_spec.specs.Plan.{ServiceFields, PlanFields}
-use Rattle.plan_spec.specs.Changes.{has_wrong_change}
-use Rattle.reception_spec.specs.Delivered.{told_pairs}
+use Rattle.plan_spec.specs.Plan.{ServiceFields}
 use Rattle.pcap_file.specs.Capture.{capture_head}
 use Rattle.receive_command.specs.Growth.{GrowEach, Grow, records_at, records_and}
-use Rattle.receive_command.specs.Files.{file_with, files_from, head_of, capture_of, capture_of_pairs, capture_and, AddsFiles, AddsCaptures, AddsFlushed}
+use Rattle.receive_command.specs.Files.{file_with, files_from, head_of, capture_of_pairs, capture_and, AddsFiles, AddsCaptures, AddsFlushed}
 use Rattle.receive_command.specs.Flushes.{FlushEach, Flush}
 use Rattle.receive_command.proofs.Grown.{grown_nil}
-use Rattle.receive_command.proofs.Pairs.{part_of_service, none_before, text_before, records_from, text_from}
+use Rattle.receive_command.proofs.Pairs.{none_before, text_before, records_from, text_from}
 
 -- files that are as told at each place, before the added ones and from there on
 same_files : (olds news files : List File) (first : ℕ) → length olds ≡ first → length news ≡ first + length files
@@ -125,15 +122,16 @@ pairs_and_grown services service text pairs a b c first size added grew =
     (λ at low. ap₂ (λ x y. x ++ y) (none_before first at pairs low) (text_before first service text at low))
     (λ k. ap₂ (λ x y. x ++ y) (records_from first k pairs) (text_from first service text k))
 
--- the files of all told pairs are the captures of the delivered datagrams
-pub captures_of_pairs : (plan : PlanFields) → has_wrong_change plan ≡ false → (records : List Record) (a b : Option (List File))
-    → AddsCaptures false (capture_of_pairs (told_pairs plan records)) plan.services a b → AddsCaptures false (capture_of plan records) plan.services a b
-captures_of_pairs plan right records a b added =
+-- the files of pairs, by what the captures of the services among them are
+pub captures_of_pairs : (services : List ServiceFields) (pairs : List (ℕ × List ℕ)) (text : ℕ → List ℕ) (a b : Option (List File))
+    → ((k : ℕ) → k < length services → capture_of_pairs pairs k ≡ text k)
+    → AddsCaptures false (capture_of_pairs pairs) services a b → AddsCaptures false text services a b
+captures_of_pairs services pairs text a b are added =
     subst (λ (fs : List File). AddsFiles a b fs)
-    (files_same false 0 (capture_of_pairs (told_pairs plan records)) (capture_of plan records) plan.services
+    (files_same false 0 (capture_of_pairs pairs) text services
     (λ k low.
     let here : k ≡ 0 + k = omega arith in
-    ap (λ (t : List ℕ). capture_head ++ t) (part_of_service plan right 0 k records low) ∙ ap (capture_of plan records) here)) added
+    ap (capture_of_pairs pairs) (sym here) ∙ are k low ∙ ap text here)) added
 
 -- Flushed.
 

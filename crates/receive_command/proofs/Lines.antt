@@ -1,5 +1,5 @@
 -- Lines of a report, added one after another.
-use Rattle.std.proofs.Common.{◌≡◌, ℕ, zero, suc, ◌+◌, Bool, true, false, cond, List, [], ◌∷◌, ◌++◌, map, take, flat_map, refl, ap, ap₂, sym, ◌∙◌, subst, append_assoc, arith, Option, None, Some, Result, Ok, Err, OnOk, IfOk}
+use Rattle.std.proofs.Common.{◌≡◌, ℕ, zero, suc, ◌+◌, ◌<◌, Bool, true, false, cond, List, [], ◌∷◌, ◌++◌, length, map, take, flat_map, refl, ap, ap₂, sym, ◌∙◌, subst, append_assoc, arith, Option, None, Some, Result, Ok, Err, OnOk, IfOk}
 use Rattle.std.specs.List.{slice_get}
 use Rattle.std.proofs.lemmas.List.{take_more, map-append, append-nil}
 use Rattle.std.proofs.lemmas.Grind.{flat_map-append}
@@ -11,7 +11,7 @@ use Rattle.int_spec.specs.Table.{TableFields}
 use Rattle.int_spec.specs.Reading.{IsReading, no_section, no_table, no_loops, no_descriptors, wrong_hash, more_sections, carried}
 use Rattle.int_table.specs.declared.table.IntFault.{IntFault}
 use Rattle.int_table.specs.declared.table.IntFault.TheVariants as fault
-use Rattle.plan_spec.specs.Plan.{ServiceFields, IntFields, PlanFields}
+use Rattle.plan_spec.specs.Plan.{ServiceFields, IntFields, ChangeFields, PlanFields}
 use Rattle.reception_spec.specs.Table.{table_units, table_pid, is_int_section}
 use Rattle.reception_spec.specs.Spans.{version_at_end}
 use Rattle.reception_spec.specs.Shown.{says_version, table_section}
@@ -21,7 +21,7 @@ use Rattle.demux_core.specs.Counts.{stream_counts_of}
 use Rattle.loss_report.specs.Lines.{Line, report_text}
 use Rattle.loss_report.specs.declared.counts.StreamCounts.{StreamCounts}
 use Rattle.loss_report.specs.Counts.{table_lines, stream_lines}
-use Rattle.receive_command.specs.Report.{IsReadingOf, lines_of_table, lines_of_rules, lines_of_service, lines_from, lines_of_version, version_of, lines_of_int, stream_with, table_part, fault_number, IsReport, AddsSection, AddsTable}
+use Rattle.receive_command.specs.Report.{IsReadingOf, lines_of_table, lines_of_rules, lines_of_service, lines_from, lines_of_version, shown_version, version_of, lines_of_int, stream_with, table_part, fault_number, IsReport, AddsSection, AddsTable}
 
 pub on_ok : {T E P Q : Type 0} (r : Result T E) → (P → Q) → OnOk r P → OnOk r Q
 on_ok (Ok x) f h = f h
@@ -82,6 +82,14 @@ lines_more plan records services k service start now new there before added =
     ∙ ap (λ (n : ℕ). start ++ lines_from plan records 0 (take n services)) on
 
 -- The table.
+
+-- the version in force is shown where the plan has changes
+version_of_some : (changes : List ChangeFields) (version told : ℕ) → 0 < length changes → told ≡ version → Some told ≡ shown_version changes version
+version_of_some [] version told some is = absurd (omega (arith, some))
+version_of_some (change ∷ changes) version told some is = ap (λ (n : ℕ). Some n) is
+
+pub shows_version : (plan : PlanFields) (records : List Record) (told : ℕ) → 0 < length plan.changes → told ≡ version_at_end plan records → Some told ≡ version_of plan records
+shows_version plan records told some is = version_of_some plan.changes (version_at_end plan records) told some is
 
 no_sections : (table : Option IntFields) (records : List Record) → table ≡ None → units_on section_form (table_pid table) records ≡ []
 no_sections table records none = ap (λ (t : Option IntFields). units_on section_form (table_pid t) records) none

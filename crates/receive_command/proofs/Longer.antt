@@ -1,5 +1,5 @@
--- What the records of a front deliver stands at the front of what all deliver.
-use Rattle.std.proofs.Common.{◌≡◌, ℕ, ◌<◌, false, List, [], ◌∷◌, ◌++◌, length, map, refl, ap, sym, ◌∙◌, Option, None, Some, append_assoc}
+-- What the records of a front tell stands at the front of what all deliver.
+use Rattle.std.proofs.Common.{◌≡◌, ℕ, false, List, [], ◌∷◌, ◌++◌, length, map, refl, ap, sym, ◌∙◌, Option, None, Some, append_assoc}
 use Rattle.std.proofs.lemmas.List.{append-nil, map-append}
 use Rattle.std.specs.List.{flat_map}
 use Rattle.std.proofs.lemmas.Grind.{flat_map-append}
@@ -7,11 +7,11 @@ use Rattle.ts_spec.specs.Recording.{RecordingForm, plain, stamped, m2ts, Record,
 use Rattle.plan_spec.specs.Plan.{PlanFields}
 use Rattle.plan_spec.specs.Changes.{has_wrong_change}
 use Rattle.pcap_file.specs.Capture.{capture_head, capture_record, capture_text}
-use Rattle.reception_spec.specs.Delivered.{delivered_of, told_pairs, pairs_of_record}
-use Rattle.reception_law.specs.Words.{datagram_of, datagrams_of}
+use Rattle.reception_spec.specs.Delivered.{told_of, delivered_of, given_by_record, given_by_end}
+use Rattle.reception_law.proofs.WhatIsTold.{told_stays, all_at_end}
 use Rattle.receive_command.specs.Files.{capture_of}
 use Rattle.receive_command.specs.Reading.{records_in}
-use Rattle.receive_command.proofs.Pairs.{pairs_next, told_part}
+use Rattle.receive_command.proofs.Pairs.{told_capture}
 
 text-append : (xs ys : List (List ℕ)) → capture_text (xs ++ ys) ≡ capture_text xs ++ flat_map capture_record ys
 text-append xs ys =
@@ -30,34 +30,34 @@ records_more plain xs ys = (map plain_record ys, map-append plain_record xs ys)
 records_more stamped xs ys = (map stamped_record ys, map-append stamped_record xs ys)
 records_more m2ts xs ys = m2ts_more None xs ys
 
--- more records, more pairs
-pairs_go_on : (plan : PlanFields) (ys xs : List Record) → (more : List (ℕ × List ℕ)) × (told_pairs plan (xs ++ ys) ≡ told_pairs plan xs ++ more)
-pairs_go_on plan [] xs = ([], ap (told_pairs plan) (append-nil xs) ∙ sym (append-nil (told_pairs plan xs)))
-pairs_go_on plan (y ∷ ys) xs =
-    let rest : (more : List (ℕ × List ℕ)) × (told_pairs plan ((xs ++ y ∷ []) ++ ys) ≡ told_pairs plan (xs ++ y ∷ []) ++ more) = pairs_go_on plan ys (xs ++ y ∷ []) in
-    let given : List (ℕ × List ℕ) = pairs_of_record plan (xs ++ y ∷ []) (length xs) in (
+-- more records tell more
+told_goes_on : (plan : PlanFields) → has_wrong_change plan ≡ false → (k : ℕ) (ys xs : List Record) → (more : List (List ℕ)) × (told_of plan k (xs ++ ys) ≡ told_of plan k xs ++ more)
+told_goes_on plan right k [] xs = ([], ap (told_of plan k) (append-nil xs) ∙ sym (append-nil (told_of plan k xs)))
+told_goes_on plan right k (y ∷ ys) xs =
+    let rest : (more : List (List ℕ)) × (told_of plan k ((xs ++ y ∷ []) ++ ys) ≡ told_of plan k (xs ++ y ∷ []) ++ more) = told_goes_on plan right k ys (xs ++ y ∷ []) in
+    let given : List (List ℕ) = given_by_record plan k (xs ++ y ∷ []) (length xs) in (
       given ++ rest.0,
-      ap (told_pairs plan) (sym (append_assoc xs (y ∷ []) ys)) ∙ rest.1
-          ∙ ap (λ (t : List (ℕ × List ℕ)). t ++ rest.0) (pairs_next plan xs y)
-          ∙ append_assoc (told_pairs plan xs) given rest.0,
+      ap (told_of plan k) (sym (append_assoc xs (y ∷ []) ys)) ∙ rest.1
+          ∙ ap (λ (t : List (List ℕ)). t ++ rest.0) (told_stays plan k xs y right)
+          ∙ append_assoc (told_of plan k xs) given rest.0,
     )
 
--- so more datagrams of a service
-datagrams_go_on : (plan : PlanFields) → has_wrong_change plan ≡ false → (k : ℕ) → k < length plan.services → (xs ys : List Record)
-    → (more : List (List ℕ)) × (delivered_of plan k (xs ++ ys) ≡ delivered_of plan k xs ++ more)
-datagrams_go_on plan right k there xs ys =
-    let pairs = pairs_go_on plan ys xs in (
-      datagrams_of k pairs.0,
-      sym (told_part plan right k (xs ++ ys) there) ∙ ap (datagrams_of k) pairs.1
-          ∙ flat_map-append (datagram_of k) (told_pairs plan xs) pairs.0
-          ∙ ap (λ (t : List (List ℕ)). t ++ datagrams_of k pairs.0) (told_part plan right k xs there),
+-- and the end gives what is left
+delivered_goes_on : (plan : PlanFields) → has_wrong_change plan ≡ false → (k : ℕ) (xs ys : List Record)
+    → (more : List (List ℕ)) × (delivered_of plan k (xs ++ ys) ≡ told_of plan k xs ++ more)
+delivered_goes_on plan right k xs ys =
+    let told : (more : List (List ℕ)) × (told_of plan k (xs ++ ys) ≡ told_of plan k xs ++ more) = told_goes_on plan right k ys xs in
+    let given : List (List ℕ) = given_by_end plan k (xs ++ ys) in (
+      told.0 ++ given,
+      all_at_end plan k (xs ++ ys) right ∙ ap (λ (t : List (List ℕ)). t ++ given) told.1 ∙ append_assoc (told_of plan k xs) told.0 given,
     )
 
-pub capture_more : (plan : PlanFields) → has_wrong_change plan ≡ false → (xs ys : List (List ℕ)) (k : ℕ) → k < length plan.services
-    → (more : List ℕ) × (capture_of plan (records_in plan (xs ++ ys)) k ≡ capture_of plan (records_in plan xs) k ++ more)
-capture_more plan right xs ys k there =
+-- what the records of a front tell goes on in the capture of what all deliver
+pub capture_more : (plan : PlanFields) → has_wrong_change plan ≡ false → (xs ys : List (List ℕ)) (k : ℕ)
+    → (more : List ℕ) × (capture_of plan (records_in plan (xs ++ ys)) k ≡ told_capture plan (records_in plan xs) k ++ more)
+capture_more plan right xs ys k =
     let records : (more : List Record) × (records_in plan (xs ++ ys) ≡ records_in plan xs ++ more) = records_more plan.recording xs ys in
-    let datagrams = datagrams_go_on plan right k there (records_in plan xs) records.0 in (
+    let datagrams = delivered_goes_on plan right k (records_in plan xs) records.0 in (
       flat_map capture_record datagrams.0,
-      ap (λ (r : List Record). capture_of plan r k) records.1 ∙ ap capture_text datagrams.1 ∙ text-append (delivered_of plan k (records_in plan xs)) datagrams.0,
+      ap (λ (r : List Record). capture_of plan r k) records.1 ∙ ap capture_text datagrams.1 ∙ text-append (told_of plan k (records_in plan xs)) datagrams.0,
     )

@@ -29,7 +29,7 @@ pub given_next : (plan : PlanFields) (first : ℕ) (input mid now : InputTold) (
     (pieces : List (List ℕ)) (r : Record) → HasGiven plan first input mid rack mid_rack reader receiver pieces
     → ReadsRecord reader now_reader mid.left now.left mid.taken now.taken pieces r → (mid.ended ≡ false → now.ended ≡ false) → now.faults ≡ mid.faults
     → Grow mid_rack.files now_rack.files (records_at first (pairs_after plan pieces r)) → now_rack.count ≡ mid_rack.count → now_rack.faults ≡ mid_rack.faults
-    → HasReceived plan (records_in plan pieces ++ r ∷ []) now_receiver → now_receiver.is_open ≡ true
+    → HasReceived false plan (records_in plan pieces ++ r ∷ []) now_receiver → now_receiver.is_open ≡ true
     → (piece : List ℕ) × HasGiven plan first input now rack now_rack now_reader now_receiver (pieces ++ piece ∷ [])
 given_next plan first input mid now rack mid_rack now_rack reader now_reader receiver now_receiver pieces r given read going faults files count rack_faults received is_open =
     let more = record_more plan.recording reader now_reader mid.left now.left mid.taken now.taken pieces r given.form read in

@@ -4,7 +4,9 @@ use Rattle.std.proofs.lemmas.List.{length-take}
 use Rattle.wire_spec.specs.Causes.{Rose}
 use Rattle.wire_spec.specs.Content.{File, ChangesFile, grown}
 use Rattle.pcap_file.specs.Capture.{capture_record}
+use Rattle.ipe_io.specs.Told.{RackTold}
 use Rattle.ipe_io.proofs.Told.{IsThere}
+use Rattle.demux_core.specs.Outlets.{Delivers, DeliversFront}
 use Rattle.receive_command.specs.declared.outlet.Progress.{Progress}
 use Rattle.receive_command.specs.declared.outlet.Progress.TheVariants.{Whole, Stopped, Passed}
 use Rattle.receive_command.specs.Growth.{Grow, GrowTo, StayTold, EndsWith, text_in, records_at}
@@ -96,20 +98,40 @@ refuses_stopped began mid now k put d told first there less changed = (
       (grown_ends began.files mid.files now.files (mid.first + k) (take put (capture_record d)) told there changed),
 )
 
+-- A rack that was given to an outlet: what it is after, by what the outlet was told of the pairs that it was given.
+
+-- a rack as an outlet has it, with the file of service 0 at a place
+abbrev pub seen : ℕ → RackTold → RackSeen
+seen first rack = record { first = first; count = rack.count; faults = rack.faults; files = rack.files }
+
+abbrev pub BeginsWith : RackSeen → RackTold → Type 0
+BeginsWith began rack = (began.count ≡ rack.count) × (began.faults ≡ rack.faults) × (began.files ≡ rack.files)
+
 -- an outlet that was given nothing
-pub stands_nothing : (began now : RackSeen) (borrow : ℕ) → began.first ≡ now.first → began.count ≡ now.count → began.faults ≡ now.faults → began.files ≡ now.files
-    → StandsFor began now Whole borrow ((borrow, []) ∷ [])
-stands_nothing began now borrow first count faults files = (
+stands_nothing : (began : RackSeen) (first : ℕ) (rack : RackTold) (borrow : ℕ) → began.first ≡ first → BeginsWith began rack
+    → StandsFor began (seen first rack) Whole borrow ((borrow, []) ∷ [])
+stands_nothing began first rack borrow place same = (
   refl,
   record {
-    first = sym first;
-    count = sym count;
-    later = omega (arith, faults);
-    files = (sym faults, subst (λ (f : Option (List File)). Grow began.files f (λ at. [])) files (grow-nil began.files));
+    first = sym place;
+    count = sym same.0;
+    later = omega (arith, same.1);
+    files = (sym same.1, subst (λ (f : Option (List File)). Grow began.files f (λ at. [])) same.2 (grow-nil began.files));
   },
 )
 
--- what the rack is where the outlet has not failed
+-- the records of all pairs were written
+pub record WritesAll (first : ℕ) (rack now : RackTold) (pairs : List (ℕ × List ℕ)) : Type 0 where
+  pub files : Grow rack.files now.files (records_at first pairs)
+  pub count : now.count ≡ rack.count
+  pub later : rack.faults ≤ now.faults
+  pub kept : now.faults ≡ rack.faults
+
+-- the rack failed at one of them
+pub record WritesPart (first : ℕ) (rack now : RackTold) (pairs : List (ℕ × List ℕ)) : Type 0 where
+  pub files : GrowTo first rack.files now.files pairs
+  pub later : rack.faults ≤ now.faults
+  pub rose : Rose rack.faults now.faults
 
 whole_given : (began now : RackSeen) (progress : Progress) (pairs : List (ℕ × List ℕ)) → failures progress ≡ 0 → WasGiven began now progress pairs
     → (now.faults ≡ began.faults) × Grow began.files now.files (records_at began.first pairs)
@@ -117,47 +139,66 @@ whole_given began now Whole pairs none given = given.files
 whole_given began now (Stopped service put) pairs none given = absurd (omega (arith, none))
 whole_given began now Passed pairs none given = absurd (omega (arith, none))
 
-pub all_written : (began now : RackSeen) (old new : Option (List File)) (progress : Progress) (first : ℕ) (pairs : List (ℕ × List ℕ)) → failures progress ≡ 0
-    → began.first ≡ first → began.files ≡ old → new ≡ now.files → WasGiven began now progress pairs → Grow old new (records_at first pairs)
-all_written began now old new progress first pairs none place before after given =
-    subst (λ (i : ℕ). Grow old new (records_at i pairs)) place
-    (subst (λ (f : Option (List File)). Grow f new (records_at began.first pairs)) before
-    (subst (λ (f : Option (List File)). Grow began.files f (records_at began.first pairs)) (sym after) (whole_given began now progress pairs none given).1))
-
-pub rack_kept : (began now : RackSeen) (before after : ℕ) (progress : Progress) (pairs : List (ℕ × List ℕ)) → failures progress ≡ 0
-    → began.faults ≡ before → after ≡ now.faults → WasGiven began now progress pairs → after ≡ before
-rack_kept began now before after progress pairs none was is given = is ∙ (whole_given began now progress pairs none given).0 ∙ was
-
--- and where it has
+-- in the words of the rack that the outlet began with
+all_here : (began : RackSeen) (first now_first : ℕ) (rack now : RackTold) (progress : Progress) (pairs : List (ℕ × List ℕ)) → failures progress ≡ 0
+    → began.first ≡ first → BeginsWith began rack → WasGiven began (seen now_first now) progress pairs → WritesAll first rack now pairs
+all_here began first now_first rack now progress pairs none place same given =
+    let whole = whole_given began (seen now_first now) progress pairs none given in
+    record {
+      files = subst (λ (i : ℕ). Grow rack.files now.files (records_at i pairs)) place
+          (subst (λ (f : Option (List File)). Grow f now.files (records_at began.first pairs)) same.2 whole.1);
+      count = given.count ∙ same.0;
+      later = omega (arith, given.later, same.1);
+      kept = whole.0 ∙ same.1;
+    }
 
 stopped_at : (began now : RackSeen) (progress : Progress) (pairs front rest : List (ℕ × List ℕ)) (service : ℕ) (datagram : List ℕ) → pairs ≡ front ++ (service, datagram) ∷ rest
-    → WasGiven began now progress front → Refuses began now progress service datagram → GrowTo began.first began.files now.files pairs
+    → WasGiven began now progress front → Refuses began now progress service datagram → GrowTo began.first began.files now.files pairs × Rose began.faults now.faults
 stopped_at began now Whole pairs front rest service datagram are given refuses = absurd refuses
 stopped_at began now Passed pairs front rest service datagram are given refuses = absurd refuses
-stopped_at began now (Stopped at put) pairs front rest service datagram are given refuses = record {
-  front = front;
-  service = service;
-  datagram = datagram;
-  rest = rest;
-  pairs_are = are;
-  count = put;
-  less = refuses.1;
-  files = grow_exact began.files now.files began.first at service given.files.1.0 (take put (capture_record datagram)) front refuses.0
-      (given.files.1.1 ∙ sym (length_part put (capture_record datagram) refuses.1)) given.files.1.2
-      (subst (λ (i : ℕ). EndsWith began.files now.files (i + service) (take put (capture_record datagram))) given.first refuses.2);
-}
+stopped_at began now (Stopped at put) pairs front rest service datagram are given refuses = (
+  record {
+    front = front;
+    service = service;
+    datagram = datagram;
+    rest = rest;
+    pairs_are = are;
+    count = put;
+    less = refuses.1;
+    files = grow_exact began.files now.files began.first at service given.files.1.0 (take put (capture_record datagram)) front refuses.0
+        (given.files.1.1 ∙ sym (length_part put (capture_record datagram) refuses.1)) given.files.1.2
+        (subst (λ (i : ℕ). EndsWith began.files now.files (i + service) (take put (capture_record datagram))) given.first refuses.2);
+  },
+  given.files.0,
+)
 
-pub part_written : (began now : RackSeen) (old new : Option (List File)) (progress : Progress) (first : ℕ) (pairs front rest : List (ℕ × List ℕ)) (service : ℕ) (datagram : List ℕ)
-    → pairs ≡ front ++ (service, datagram) ∷ rest → began.first ≡ first → began.files ≡ old → new ≡ now.files
-    → WasGiven began now progress front → Refuses began now progress service datagram → GrowTo first old new pairs
-part_written began now old new progress first pairs front rest service datagram are place before after given refuses =
-    subst (λ (i : ℕ). GrowTo i old new pairs) place
-    (subst (λ (f : Option (List File)). GrowTo began.first f new pairs) before
-    (subst (λ (f : Option (List File)). GrowTo began.first began.files f pairs) (sym after)
-    (stopped_at began now progress pairs front rest service datagram are given refuses)))
+part_here : (began : RackSeen) (first now_first : ℕ) (rack now : RackTold) (progress : Progress) (pairs front rest : List (ℕ × List ℕ)) (service : ℕ) (datagram : List ℕ)
+    → pairs ≡ front ++ (service, datagram) ∷ rest → began.first ≡ first → BeginsWith began rack
+    → WasGiven began (seen now_first now) progress front → Refuses began (seen now_first now) progress service datagram → WritesPart first rack now pairs
+part_here began first now_first rack now progress pairs front rest service datagram are place same given refuses =
+    let stop = stopped_at began (seen now_first now) progress pairs front rest service datagram are given refuses in
+    record {
+      files = subst (λ (i : ℕ). GrowTo i rack.files now.files pairs) place
+          (subst (λ (f : Option (List File)). GrowTo began.first f now.files pairs) same.2 stop.0);
+      later = omega (arith, given.later, same.1);
+      rose = subst (λ (n : ℕ). Rose n now.faults) same.1 stop.1;
+    }
 
-pub rack_rose : (began now : RackSeen) (before after : ℕ) (progress : Progress) (pairs : List (ℕ × List ℕ)) (service : ℕ) (datagram : List ℕ) → Refuses began now progress service datagram
-    → began.faults ≡ before → after ≡ now.faults → WasGiven began now progress pairs → Rose before after
-rack_rose began now before after Whole pairs service datagram refuses was is given = absurd refuses
-rack_rose began now before after Passed pairs service datagram refuses was is given = absurd refuses
-rack_rose began now before after (Stopped at put) pairs service datagram refuses was is given = omega (arith, was, is, given.files.0)
+-- The rack `now` is the one that the outlet has at the end, which holds the same borrow.
+
+pub writes_all : (began : RackSeen) (first now_first : ℕ) (rack had now : RackTold) (progress : Progress) (borrow now_borrow : ℕ) (pairs : List (ℕ × List ℕ)) → failures progress ≡ 0
+    → began.first ≡ first → BeginsWith began rack
+    → Delivers (StandsFor began (seen first rack) Whole borrow) (StandsFor began (seen now_first had) progress now_borrow) pairs
+    → (borrow ≡ now_borrow → now ≡ had) → WritesAll first rack now pairs
+writes_all began first now_first rack had now progress borrow now_borrow pairs none place same delivers is =
+    let stands = delivers ((borrow, []) ∷ []) (stands_nothing began first rack borrow place same) in
+    subst (λ (r : RackTold). WritesAll first rack r pairs) (sym (is stands.0)) (all_here began first now_first rack had progress pairs none place same stands.1)
+
+pub writes_part : (began : RackSeen) (first now_first : ℕ) (rack had now : RackTold) (progress : Progress) (borrow now_borrow : ℕ) (pairs : List (ℕ × List ℕ))
+    → began.first ≡ first → BeginsWith began rack
+    → DeliversFront (StandsFor began (seen first rack) Whole borrow) (StandsFor began (seen now_first had) progress now_borrow) (Refuses began (seen now_first had) progress) pairs
+    → (borrow ≡ now_borrow → now ≡ had) → WritesPart first rack now pairs
+writes_part began first now_first rack had now progress borrow now_borrow pairs place same stop is =
+    let stands = stop.delivers ((borrow, []) ∷ []) (stands_nothing began first rack borrow place same) in
+    subst (λ (r : RackTold). WritesPart first rack r pairs) (sym (is stands.0))
+    (part_here began first now_first rack had progress pairs stop.front stop.behind stop.service stop.datagram stop.pairs_are place same stands.1 stop.refuses)

@@ -1,4 +1,4 @@
--- The told pairs, one record more, and the part of a service.
+-- Pairs of service and datagram: one record more, and what the file of a service has of them.
 use Rattle.std.proofs.Common.{◌≡◌, inl, inr, ℕ, ◌+◌, ◌<◌, Bool, false, cond, ◌==◌, List, [], ◌∷◌, ◌++◌, length, flat_map, refl, ap, ap₂, sym, ◌∙◌, arith}
 use Rattle.std.proofs.lemmas.List.{append-nil}
 use Rattle.std.proofs.lemmas.Grind.{flat_map-append}
@@ -6,11 +6,12 @@ use Rattle.std.proofs.lemmas.Bool.{cases_eq, eq-eqb, ne_eqb}
 use Rattle.ts_spec.specs.Recording.{Record}
 use Rattle.plan_spec.specs.Plan.{PlanFields}
 use Rattle.plan_spec.specs.Changes.{has_wrong_change}
-use Rattle.pcap_file.specs.Capture.{capture_record}
-use Rattle.reception_spec.specs.Delivered.{delivered_of, told_pairs, pairs_of_record}
+use Rattle.pcap_file.specs.Capture.{capture_head, capture_record, capture_text}
+use Rattle.reception_spec.specs.Delivered.{told_of, delivered_of, told_pairs, delivered_pairs, pairs_of_record}
 use Rattle.reception_law.specs.Words.{datagram_of, datagrams_of}
-use Rattle.reception_law.proofs.DeliveredPairs.{pairs_more, all_told, part_is}
+use Rattle.reception_law.proofs.DeliveredPairs.{pairs_more, part_is_told, part_is}
 use Rattle.receive_command.specs.Growth.{text_in, record_in_file, records_at}
+use Rattle.receive_command.specs.Files.{capture_of, capture_of_pairs}
 
 pub pairs_none : (plan : PlanFields) → told_pairs plan [] ≡ []
 pairs_none plan = refl
@@ -37,18 +38,29 @@ records_of_service first k (pair ∷ pairs) =
     ap₂ (λ a b. a ++ b) (one_record first k pair) (records_of_service first k pairs)
     ∙ sym (flat_map-append capture_record (datagram_of k pair) (datagrams_of k pairs))
 
--- the datagrams of a service among the told pairs are its delivered ones
-pub told_part : (plan : PlanFields) → has_wrong_change plan ≡ false → (k : ℕ) (records : List Record) → k < length plan.services
-    → datagrams_of k (told_pairs plan records) ≡ delivered_of plan k records
-told_part plan right k records there = ap (datagrams_of k) (sym (all_told plan records)) ∙ part_is plan records k right there
+-- and its file has the capture of its datagrams among the pairs
+capture_is : (k : ℕ) (pairs : List (ℕ × List ℕ)) (datagrams : List (List ℕ)) → datagrams_of k pairs ≡ datagrams → capture_of_pairs pairs k ≡ capture_text datagrams
+capture_is k pairs datagrams are =
+    let here : k ≡ 0 + k = omega arith in
+    ap (λ (n : ℕ). capture_head ++ records_at 0 pairs n) here
+    ∙ ap (λ (t : List ℕ). capture_head ++ t) (records_of_service 0 k pairs ∙ ap (flat_map capture_record) are)
 
--- and its file has them
-pub part_of_service : (plan : PlanFields) → has_wrong_change plan ≡ false → (first k : ℕ) (records : List Record) → k < length plan.services
-    → records_at first (told_pairs plan records) (first + k) ≡ flat_map capture_record (delivered_of plan k records)
-part_of_service plan right first k records there =
-    records_of_service first k (told_pairs plan records) ∙ ap (flat_map capture_record) (told_part plan right k records there)
+-- of what records tell
+abbrev pub told_capture : PlanFields → List Record → ℕ → List ℕ
+told_capture plan records k = capture_text (told_of plan k records)
 
--- and the files before the first have none
+pub capture_of_told : (plan : PlanFields) → has_wrong_change plan ≡ false → (records : List Record) (k : ℕ) → k < length plan.services
+    → capture_of_pairs (told_pairs plan records) k ≡ told_capture plan records k
+capture_of_told plan right records k there = capture_is k (told_pairs plan records) (told_of plan k records) (part_is_told plan records k right there)
+
+-- and of what they deliver where the recording ends
+pub capture_of_delivered : (plan : PlanFields) → has_wrong_change plan ≡ false → (records : List Record) (k : ℕ) → k < length plan.services
+    → capture_of_pairs (delivered_pairs plan records) k ≡ capture_of plan records k
+capture_of_delivered plan right records k there = capture_is k (delivered_pairs plan records) (delivered_of plan k records) (part_is plan records k right there)
+
+-- The places of files.
+
+-- those before the first have no record
 pub none_before : (first at : ℕ) (pairs : List (ℕ × List ℕ)) → at < first → records_at first pairs at ≡ []
 none_before first at [] lt = refl
 none_before first at (pair ∷ pairs) lt =

@@ -1,54 +1,69 @@
--- However a reception stops, each file is a prefix of the capture of what the records read deliver.
+-- However a reception stops, each file is a prefix of a capture: of what the records read tell, or, where the input was read to its end, of what
+-- they deliver.
 use Rattle.std.proofs.Common.{◌≡◌, inl, inr, ℕ, suc, ◌+◌, ◌<◌, ◌≤◌, ◌==◌, Bool, true, false, cond, List, [], ◌∷◌, ◌++◌, length, take, drop, refl, ap, ap₂, sym, ◌∙◌, subst, arith, append_assoc, Option, None, Some}
-use Rattle.std.specs.Io.KnownBytes.{Consumes}
+use Rattle.std.specs.Io.KnownBytes.{Consumes, IsAtEnd}
 use Rattle.std.proofs.lemmas.List.{map-append, take-append-le}
 use Rattle.std.proofs.Math.Seq.{take-append-add}
 use Rattle.wire_spec.specs.Content.{File}
 use Rattle.ts_spec.specs.Recording.{Record, RecordingForm, plain, stamped, m2ts, plain_record, stamped_record, m2ts_record, m2ts_stamp, moment_behind, m2ts_records, records_of}
 use Rattle.plan_spec.specs.Plan.{ServiceFields, PlanFields}
 use Rattle.plan_spec.specs.Changes.{has_wrong_change}
-use Rattle.reception_spec.specs.Delivered.{told_pairs, pairs_of_record}
+use Rattle.reception_spec.specs.Delivered.{told_of, told_pairs, delivered_pairs, pairs_of_record}
 use Rattle.pcap_file.specs.Capture.{capture_head, capture_record}
 use Rattle.receive_command.specs.Growth.{records_at, text_in}
 use Rattle.receive_command.specs.Files.{file_with, files_from, head_of, capture_of, capture_of_pairs, capture_and, AreParts, AddsParts, AddsHeadsPart, AddsCaptures}
 use Rattle.receive_command.specs.Reading.{HasRead, records_in}
-use Rattle.receive_command.specs.Ends.{EndsFront, EndsAtLimit, StopsInRecord, EndsInFiles, in_heads, in_record, in_flush}
-use Rattle.receive_command.proofs.Parts.{parts_whole, parts_front, parts_next, flushed_parts, parts_of_heads}
+use Rattle.receive_command.specs.Ends.{EndsFront, EndsAtLimit, StopsInRecord, StopsAtEnd, EndsInFiles, in_heads, in_record, at_end, in_flush}
+use Rattle.receive_command.proofs.Parts.{parts_whole, parts_front, parts_next, flushed_parts, heads_are_parts}
 use Rattle.receive_command.proofs.Advance.{consumes_none, some_size, records_length}
 use Rattle.receive_command.proofs.Assembly.{captures_of_pairs}
 use Rattle.receive_command.proofs.Grown.{records-append}
-use Rattle.receive_command.proofs.Pairs.{pairs_next, part_of_service}
+use Rattle.receive_command.proofs.Pairs.{pairs_next, told_capture, capture_of_told, capture_of_delivered}
 
--- these records were read, and files were added: those of the first services, each with a prefix of the capture of what they deliver
-pub record EndsPart (plan : PlanFields) (left now : Option (List ℕ)) (old new : Option (List File)) : Type 0 where
+-- these records were read, and files were added: those of the first services, each with a prefix of the capture of what these records tell
+pub record TellsPart (plan : PlanFields) (left now : Option (List ℕ)) (old new : Option (List File)) : Type 0 where
   pub pieces : List (List ℕ)
   pub behind : List ℕ
   pub read : HasRead plan.recording left now pieces behind
+  pub files : AddsParts (told_capture plan (records_in plan pieces)) plan.services old new
+
+-- the input was read to its end, and the files have each a prefix of the capture of what its records deliver
+pub record DeliversPart (plan : PlanFields) (left now : Option (List ℕ)) (old new : Option (List File)) : Type 0 where
+  pub pieces : List (List ℕ)
+  pub behind : List ℕ
+  pub read : HasRead plan.recording left now pieces behind
+  pub at_end : IsAtEnd now
   pub files : AddsParts (capture_of plan (records_in plan pieces)) plan.services old new
 
--- The captures of all pairs.
+pub data EndsPart (plan : PlanFields) (left now : Option (List ℕ)) (old new : Option (List File)) : Type 0 where
+  tells_part : TellsPart plan left now old new → EndsPart plan left now old new
+  delivers_part : DeliversPart plan left now old new → EndsPart plan left now old new
+
+-- The captures of all told pairs.
 
 pairs_parts : (plan : PlanFields) → has_wrong_change plan ≡ false → (records : List Record) (old new : Option (List File))
-    → AddsCaptures false (capture_of_pairs (told_pairs plan records)) plan.services old new → AddsParts (capture_of plan records) plan.services old new
-pairs_parts plan right records old new added = parts_whole false (capture_of plan records) plan.services old new (captures_of_pairs plan right records old new added)
+    → AddsCaptures false (capture_of_pairs (told_pairs plan records)) plan.services old new → AddsParts (told_capture plan records) plan.services old new
+pairs_parts plan right records old new added =
+    parts_whole false (told_capture plan records) plan.services old new
+    (captures_of_pairs plan.services (told_pairs plan records) (told_capture plan records) old new (capture_of_told plan right records) added)
 
 pub part_of_front : (plan : PlanFields) → has_wrong_change plan ≡ false → (left now : Option (List ℕ)) (a b : Option (List File)) → EndsFront plan left now a b
     → EndsPart plan left now a b
-part_of_front plan right left now a b front = record {
+part_of_front plan right left now a b front = tells_part (record {
   pieces = front.pieces;
   behind = front.behind;
   read = front.read;
   files = pairs_parts plan right (records_in plan front.pieces) a b front.files;
-}
+})
 
 pub part_of_limit : (plan : PlanFields) → has_wrong_change plan ≡ false → (left now : Option (List ℕ)) (a b : Option (List File)) → EndsAtLimit plan left now a b
     → EndsPart plan left now a b
-part_of_limit plan right left now a b limit = record {
+part_of_limit plan right left now a b limit = tells_part (record {
   pieces = limit.pieces;
   behind = [];
   read = limit.read;
   files = pairs_parts plan right (records_in plan limit.pieces) a b limit.files;
-}
+})
 
 -- Stopped at a head.
 
@@ -136,59 +151,82 @@ numbered_parts from text own (service ∷ services) each =
           subst (λ (m : ℕ). (n : ℕ) × (own m ≡ take n (text m))) on (each (suc i) (omega (arith, low)))),
     )
 
-record_parts : (plan : PlanFields) → has_wrong_change plan ≡ false
-    → (records : List Record) (before : List (ℕ × List ℕ)) (service : ℕ) (datagram : List ℕ) (rest : List (ℕ × List ℕ)) (count : ℕ)
-    → told_pairs plan records ≡ before ++ (service, datagram) ∷ rest → count < length (capture_record datagram)
-    → AreParts 0 (capture_of plan records) plan.services (files_from false 0 (capture_and service (take count (capture_record datagram)) before) plan.services)
-record_parts plan right records before service datagram rest count all less =
-    numbered_parts 0 (capture_of plan records) (capture_and service (take count (capture_record datagram)) before) plan.services
+record_parts : (services : List ServiceFields) (pairs before : List (ℕ × List ℕ)) (service : ℕ) (datagram : List ℕ) (rest : List (ℕ × List ℕ)) (count : ℕ) (text : ℕ → List ℕ)
+    → ((k : ℕ) → k < length services → capture_of_pairs pairs k ≡ text k) → pairs ≡ before ++ (service, datagram) ∷ rest → count < length (capture_record datagram)
+    → AreParts 0 text services (files_from false 0 (capture_and service (take count (capture_record datagram)) before) services)
+record_parts services pairs before service datagram rest count text are all less =
+    numbered_parts 0 text (capture_and service (take count (capture_record datagram)) before) services
     (λ k low.
     let cut = pairs_cut service count datagram before rest (0 + k) (omega (arith, less)) in
     let here : k ≡ 0 + k = omega arith in (
       cut.0,
       cut.1
-          ∙ ap (λ (ps : List (ℕ × List ℕ)). take cut.0 (capture_head ++ records_at 0 ps (0 + k))) (sym all)
-          ∙ ap (λ (t : List ℕ). take cut.0 (capture_head ++ t)) (part_of_service plan right 0 k records low)
-          ∙ ap (λ (n : ℕ). take cut.0 (capture_of plan records n)) here,
+          ∙ ap (λ (ps : List (ℕ × List ℕ)). take cut.0 (capture_of_pairs ps (0 + k))) (sym all)
+          ∙ ap (take cut.0) (ap (capture_of_pairs pairs) (sym here) ∙ are k low ∙ ap text here),
     ))
 
 part_in_record : (plan : PlanFields) → has_wrong_change plan ≡ false → (left now : Option (List ℕ)) (a b : Option (List File)) → StopsInRecord plan left now a b
     → EndsPart plan left now a b
 part_in_record plan right left now a b stop =
-    let before : List (ℕ × List ℕ) = told_pairs plan (records_in plan stop.pieces) ++ stop.front in
-    record {
+    let records : List Record = records_in plan (stop.pieces ++ stop.piece ∷ []) in
+    let before : List (ℕ × List ℕ) = told_pairs plan (records_in plan stop.pieces) ++ stop.front in tells_part (record {
       pieces = stop.pieces ++ stop.piece ∷ [];
       behind = [];
       read = stop.read;
       files = record {
         files = files_from false 0 (capture_and stop.service (take stop.count (capture_record stop.datagram)) before) plan.services;
-        parts = record_parts plan right (records_in plan (stop.pieces ++ stop.piece ∷ [])) before stop.service stop.datagram stop.rest stop.count
+        parts = record_parts plan.services (told_pairs plan records) before stop.service stop.datagram stop.rest stop.count (told_capture plan records)
+            (capture_of_told plan right records)
             (last_pairs plan stop.pieces stop.piece (stop.front ++ (stop.service, stop.datagram) ∷ stop.rest) stop.pairs
             ∙ sym (append_assoc (told_pairs plan (records_in plan stop.pieces)) stop.front ((stop.service, stop.datagram) ∷ stop.rest)))
             stop.less;
         added = stop.files;
       };
-    }
+    })
+
+-- Stopped at the end.
+
+part_at_end : (plan : PlanFields) → has_wrong_change plan ≡ false → (left now : Option (List ℕ)) (a b : Option (List File)) → StopsAtEnd plan left now a b
+    → EndsPart plan left now a b
+part_at_end plan right left now a b stop =
+    let records : List Record = records_in plan stop.pieces in
+    let before : List (ℕ × List ℕ) = told_pairs plan records ++ stop.front in delivers_part (record {
+      pieces = stop.pieces;
+      behind = stop.behind;
+      read = stop.read;
+      at_end = stop.at_end;
+      files = record {
+        files = files_from false 0 (capture_and stop.service (take stop.count (capture_record stop.datagram)) before) plan.services;
+        parts = record_parts plan.services (delivered_pairs plan records) before stop.service stop.datagram stop.rest stop.count (capture_of plan records)
+            (capture_of_delivered plan right records)
+            (ap (λ (ps : List (ℕ × List ℕ)). told_pairs plan records ++ ps) stop.pairs
+            ∙ sym (append_assoc (told_pairs plan records) stop.front ((stop.service, stop.datagram) ∷ stop.rest)))
+            stop.less;
+        added = stop.files;
+      };
+    })
 
 -- Stopped anywhere.
 
 pub part_of_files : (plan : PlanFields) → has_wrong_change plan ≡ false → (left now : Option (List ℕ)) (a b : Option (List File)) → EndsInFiles plan left now a b
     → EndsPart plan left now a b
-part_of_files plan right left now a b (in_heads stop) = record {
+part_of_files plan right left now a b (in_heads stop) = tells_part (record {
   pieces = [];
   behind = [];
   read = none_read plan.recording left now stop.unread;
-  files = parts_of_heads plan (records_in plan []) plan.services a b (parts_of_heads_part plan.services stop.count a b stop.files);
-}
+  files = heads_are_parts (λ k. told_of plan k (records_in plan [])) plan.services a b (parts_of_heads_part plan.services stop.count a b stop.files);
+})
 part_of_files plan right left now a b (in_record stop) = part_in_record plan right left now a b stop
-part_of_files plan right left now a b (in_flush stop) = record {
+part_of_files plan right left now a b (at_end stop) = part_at_end plan right left now a b stop
+part_of_files plan right left now a b (in_flush stop) = delivers_part (record {
   pieces = stop.pieces;
   behind = stop.behind;
   read = stop.read;
+  at_end = stop.at_end;
   files = record {
     files = take stop.count (files_from true 0 (capture_of plan (records_in plan stop.pieces)) plan.services)
         ++ drop stop.count (files_from false 0 (capture_of plan (records_in plan stop.pieces)) plan.services);
     parts = flushed_parts 0 (capture_of plan (records_in plan stop.pieces)) plan.services stop.count;
     added = stop.files;
   };
-}
+})

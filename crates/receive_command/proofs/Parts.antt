@@ -7,7 +7,7 @@ use Rattle.wire_spec.specs.Content.{File}
 use Rattle.ts_spec.specs.Recording.{Record}
 use Rattle.plan_spec.specs.Plan.{ServiceFields, PlanFields}
 use Rattle.reception_spec.specs.Delivered.{delivered_of}
-use Rattle.pcap_file.specs.Capture.{capture_record}
+use Rattle.pcap_file.specs.Capture.{capture_record, capture_text}
 use Rattle.receive_command.specs.Files.{file_with, files_from, head_of, capture_of, AddsCaptures, AddsHeads, AddsParts, IsPart, AreParts}
 
 -- the whole is a part
@@ -80,14 +80,18 @@ parts_of_longer from text whole (service ∷ services) (file ∷ files) longer p
   parts_of_longer (from + 1) text whole services files (go_on_next from text whole (length services) longer) parts.1,
 )
 
--- heads are parts of captures
-pub parts_of_heads : (plan : PlanFields) (records : List Record) (services : List ServiceFields) (old new : Option (List File)) → AddsParts head_of services old new
-    → AddsParts (capture_of plan records) services old new
-parts_of_heads plan records services old new parts = record {
+-- heads are parts of captures, whatever these have
+pub heads_are_parts : (datagrams : ℕ → List (List ℕ)) (services : List ServiceFields) (old new : Option (List File)) → AddsParts head_of services old new
+    → AddsParts (λ k. capture_text (datagrams k)) services old new
+heads_are_parts datagrams services old new parts = record {
   files = parts.files;
-  parts = parts_of_longer 0 head_of (capture_of plan records) services parts.files (λ i low. (flat_map capture_record (delivered_of plan (0 + i) records), refl)) parts.parts;
+  parts = parts_of_longer 0 head_of (λ k. capture_text (datagrams k)) services parts.files (λ i low. (flat_map capture_record (datagrams (0 + i)), refl)) parts.parts;
   added = parts.added;
 }
+
+pub parts_of_heads : (plan : PlanFields) (records : List Record) (services : List ServiceFields) (old new : Option (List File)) → AddsParts head_of services old new
+    → AddsParts (capture_of plan records) services old new
+parts_of_heads plan records services old new parts = heads_are_parts (λ k. delivered_of plan k records) services old new parts
 
 pub parts_of_some : (services : List ServiceFields) (old new : Option (List File)) → AddsHeads services old new → AddsParts head_of services old new
 parts_of_some services old new heads = record {

@@ -4,7 +4,7 @@ use Rattle.std.specs.Io.KnownBytes.{Appends, IsAtEnd}
 use Rattle.wire_spec.specs.Content.{File}
 use Rattle.ts_spec.specs.Recording.{Record}
 use Rattle.plan_spec.specs.Plan.{PlanFields}
-use Rattle.reception_spec.specs.Delivered.{told_pairs, pairs_of_record}
+use Rattle.reception_spec.specs.Delivered.{told_pairs, pairs_of_record, pairs_of_end}
 use Rattle.pcap_file.specs.Capture.{capture_record}
 use Rattle.demux_core.specs.Receiving.{ReceiverState, HasReceived}
 use Rattle.receive_command.specs.Files.{AddsCaptures, AddsHeadsPart, AddsFlushed, capture_of, capture_of_pairs, capture_and}
@@ -20,11 +20,11 @@ pub record EndsWhole (plan : PlanFields) (left now : Option (List ℕ)) (old new
   pub at_end : IsAtEnd now
   pub files : AddsCaptures true (capture_of plan (records_in plan pieces)) plan.services old new
 
--- the same of a receiver that was given all records, and the number of bytes after the last
+-- the same of a receiver that was given all records and has ended, and the number of bytes after the last
 pub record WritesWhole (plan : PlanFields) (receiver : ReceiverState) (left now : Option (List ℕ)) (old new : Option (List File)) (tail : ℕ) : Type 0 where
   pub ends : EndsWhole plan left now old new
   pub tail_is : tail ≡ length ends.tail
-  pub received : HasReceived plan (records_in plan ends.pieces) receiver
+  pub received : HasReceived true plan (records_in plan ends.pieces) receiver
 
 -- the input could not be read on: fewer records than the most were read, and less than one after them; each file has what these
 -- records tell, and nothing is flushed
@@ -64,6 +64,23 @@ pub record StopsInRecord (plan : PlanFields) (left now : Option (List ℕ)) (old
   pub less : count < length (capture_record datagram)
   pub files : AddsCaptures false (capture_and service (take count (capture_record datagram)) (told_pairs plan (records_in plan pieces) ++ front)) plan.services old new
 
+-- the files stopped at a pair that the recording's end gives: the input was read to its end; each file has its datagrams among what the
+-- records tell and the pairs before this one, that of its service also less than all of the pair's capture record, and nothing is flushed
+pub record StopsAtEnd (plan : PlanFields) (left now : Option (List ℕ)) (old new : Option (List File)) : Type 0 where
+  pub pieces : List (List ℕ)
+  pub behind : List ℕ
+  pub read : HasRead plan.recording left now pieces behind
+  pub fewer : length pieces < most_records
+  pub at_end : IsAtEnd now
+  pub front : List (ℕ × List ℕ)
+  pub service : ℕ
+  pub datagram : List ℕ
+  pub rest : List (ℕ × List ℕ)
+  pub pairs : pairs_of_end plan (records_in plan pieces) ≡ front ++ (service, datagram) ∷ rest
+  pub count : ℕ
+  pub less : count < length (capture_record datagram)
+  pub files : AddsCaptures false (capture_and service (take count (capture_record datagram)) (told_pairs plan (records_in plan pieces) ++ front)) plan.services old new
+
 -- the files stopped at the flush of one of them: the input was read to its end, all files are whole, and those before this one are flushed
 pub record StopsInFlush (plan : PlanFields) (left now : Option (List ℕ)) (old new : Option (List File)) : Type 0 where
   pub pieces : List (List ℕ)
@@ -79,6 +96,7 @@ pub record StopsInFlush (plan : PlanFields) (left now : Option (List ℕ)) (old 
 pub data EndsInFiles (plan : PlanFields) (left now : Option (List ℕ)) (old new : Option (List File)) : Type 0 where
   in_heads : StopsInHeads plan left now old new → EndsInFiles plan left now old new
   in_record : StopsInRecord plan left now old new → EndsInFiles plan left now old new
+  at_end : StopsAtEnd plan left now old new → EndsInFiles plan left now old new
   in_flush : StopsInFlush plan left now old new → EndsInFiles plan left now old new
 
 -- an output grew by the report of the records, with so many bytes after them

@@ -39,7 +39,7 @@ pub record ReadsWhole (plan : PlanFields) (receiver : ReceiverState) (left now :
   pub fewer : length pieces < most_records
   pub at_end : IsAtEnd now
   pub files : Grow old new (text_at plan first pieces)
-  pub received : HasReceived plan (records_in plan pieces) receiver
+  pub received : HasReceived false plan (records_in plan pieces) receiver
 
 -- the reading stopped: fewer records than the most were read, and the files grew by what these tell
 pub record ReadsFront (plan : PlanFields) (left now : Option (List ℕ)) (old new : Option (List File)) (first : ℕ) : Type 0 where
@@ -86,7 +86,7 @@ pub record HasGiven (plan : PlanFields) (first : ℕ) (input now : InputTold) (r
   pub files : Grow rack.files now_rack.files (text_at plan first pieces)
   pub count : now_rack.count ≡ rack.count
   pub rack_faults : now_rack.faults ≡ rack.faults
-  pub received : HasReceived plan (records_in plan pieces) receiver
+  pub received : HasReceived false plan (records_in plan pieces) receiver
   pub is_open : receiver.is_open ≡ true
 
 -- the input has ended, and all was given

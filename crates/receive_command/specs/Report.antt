@@ -1,5 +1,5 @@
 -- The report of a reception: the counts of the recording and of each service, and what the IP/MAC notification table says.
-use Rattle.std.specs.Prelude.{◌≡◌, ℕ, ◌+◌, List, [], ◌∷◌, ◌++◌, map, flat_map, Option, None, Some, ⊤}
+use Rattle.std.specs.Prelude.{◌≡◌, ℕ, ◌+◌, true, List, [], ◌∷◌, ◌++◌, map, flat_map, Option, None, Some, ⊤}
 use Rattle.ts_spec.specs.Recording.{Record}
 use Rattle.int_spec.specs.Table.{EntryFields}
 use Rattle.int_spec.specs.Reading.{Reading, no_section, no_table, no_loops, no_descriptors, wrong_hash, more_sections, carried, IsReading}
@@ -26,9 +26,9 @@ stream_with numbers tail = record {
   other = numbers.other;
 }
 
--- the lines of service k, under its name
+-- the lines of service k, under its name: with all its frames
 abbrev pub lines_of_service : PlanFields → List Record → ℕ → ServiceFields → List Line
-lines_of_service plan records k service = service_lines service.name (counts_of_service plan k records)
+lines_of_service plan records k service = service_lines service.name (counts_of_service true plan k records)
 
 -- of services in order, the first of them with this number
 abbrev pub lines_from : PlanFields → List Record → ℕ → List ServiceFields → List Line

@@ -1,11 +1,13 @@
-//! A recording -> a capture for each service: files added, written record by record, flushed.
+//! A recording -> a capture for each service: files added, written record by record and with what the end gives, flushed.
 ghost use Rattle.std.specs.Prelude.{◌≡◌, ℕ, ◌+◌, ◌*◌, ◌^◌, ◌<◌, ◌≤◌, true, false, List, [], length, IfOk, OnOk, OnErr, IsErrOf};
 ghost use Rattle.wire_spec.specs.Causes.{Rose, HasCause, raised};
 ghost use Rattle.ts_spec.specs.Recording.{record_size, Record as ReadRecord};
 ghost use Rattle.plan.specs.PlanView.{plan_fields};
+ghost use Rattle.reception_spec.specs.Delivered.{pairs_of_end};
 ghost use Rattle.demux_core.specs.Receiving.{HasReceived};
 ghost use Rattle.receive_command.specs.Files.{AddsHeads};
-ghost use Rattle.receive_command.specs.Flushes.{Flush};
+ghost use Rattle.receive_command.specs.Growth.{records_at};
+ghost use Rattle.receive_command.specs.Flushes.{GrowAndFlush, StopsGrowing};
 ghost use Rattle.receive_command.specs.Reading.{most_records};
 ghost use Rattle.receive_command.specs.Ends.{WritesWhole, EndsFront, EndsAtLimit, EndsInFiles};
 
@@ -18,7 +20,7 @@ use ipe_io::{Failed, Rack, Source};
 use plan::Plan;
 use std::alloc::Global;
 
-/// Adds the files of all services, writes what the recording delivers, and flushes them.
+/// Adds the files of all services, writes what the recording delivers, its end included, and flushes them.
 ///
 /// Answers how many bytes stood after the last record. The receiver was given nothing before.
 pub(crate) fn write_captures<I: Source, R: Rack>(
@@ -29,7 +31,7 @@ pub(crate) fn write_captures<I: Source, R: Rack>(
     rack: &mut R,
 ) -> Result<u32, ReceiveFault>
     requires is_open { receiver.old.is_open ≡ true }
-    requires fresh { HasReceived (plan_fields plan.now) [] receiver.old }
+    requires fresh { HasReceived false (plan_fields plan.now) [] receiver.old }
     requires some { 0 < length plan.now.services }
     requires few { length plan.now.services ≤ 64 }
     ensures whole { IfOk result (λ tail. WritesWhole (plan_fields plan.now) receiver.new (I.told input.old).left (I.told input.new).left (R.told rack.old).files (R.told rack.new).files tail) }
@@ -58,7 +60,7 @@ pub(crate) fn write_captures<I: Source, R: Rack>(
     }
 }
 
-/// Ends the reception and flushes the files.
+/// Ends the reception, writes what the end gives, and flushes the files.
 fn end_captures<R: Rack>(
     plan: &Plan,
     receiver: &mut Receiver<'_>,
@@ -66,13 +68,15 @@ fn end_captures<R: Rack>(
     first: u32,
 ) -> Result<(), Failed>
     requires is_open { receiver.old.is_open ≡ true }
-    requires same { receiver.old.plan ≡ plan_fields plan.now }
+    requires given { (records : List ReadRecord) × HasReceived false (plan_fields plan.now) records receiver.old }
     requires there { first + length plan.now.services ≤ (R.told rack.old).count }
     requires places { first + length plan.now.services ≤ 2 ^ 32 }
     requires few { length plan.now.services ≤ 64 }
-    ensures received { (records : List ReadRecord) → HasReceived (plan_fields plan.now) records receiver.old → HasReceived (plan_fields plan.now) records receiver.new }
-    ensures flushed { OnOk result (Flush (R.told rack.old).files (R.told rack.new).files first (first + length plan.now.services)) }
-    ensures stopped { OnErr result ((count : ℕ) × (count < length plan.now.services) × Flush (R.told rack.old).files (R.told rack.new).files first (first + count)) }
+    ensures received { (records : List ReadRecord) → HasReceived false (plan_fields plan.now) records receiver.old → HasReceived true (plan_fields plan.now) records receiver.new }
+    ensures flushed { (records : List ReadRecord) → HasReceived false (plan_fields plan.now) records receiver.old
+        → OnOk result (GrowAndFlush (R.told rack.old).files (R.told rack.new).files (records_at first (pairs_of_end (plan_fields plan.now) records)) first (first + length plan.now.services)) }
+    ensures stopped { (records : List ReadRecord) → HasReceived false (plan_fields plan.now) records receiver.old
+        → OnErr result (StopsGrowing first (length plan.now.services) (R.told rack.old).files (R.told rack.new).files (pairs_of_end (plan_fields plan.now) records)) }
     ensures cause { HasCause (R.told rack.old).faults (R.told rack.new).faults result }
 {
     let services = plan.services.len() as u32;

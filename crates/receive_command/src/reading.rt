@@ -26,7 +26,7 @@ pub(crate) fn read_records<I: Source, R: Rack>(
     first: u32,
 ) -> Result<u32, ReceiveFault>
     requires is_open { receiver.old.is_open ≡ true }
-    requires fresh { HasReceived (plan_fields plan.now) [] receiver.old }
+    requires fresh { HasReceived false (plan_fields plan.now) [] receiver.old }
     requires there { first + length plan.now.services ≤ (R.told rack.old).count }
     requires places { first + length plan.now.services ≤ 2 ^ 32 }
     requires few { length plan.now.services ≤ 64 }

@@ -24,8 +24,8 @@ use std::alloc::Global;
 
 /// Receives a recording under a plan: a capture for each service, `NAME.pcap` in the order of the plan, and the report.
 ///
-/// The input is read to its end. In front of the files nothing is read; after the last record the files are flushed, and then
-/// the report is written.
+/// The input is read to its end. In front of the files nothing is read; after the last record the files get what the end gives and are
+/// flushed, and then the report is written.
 pub fn receive<I: Source, O: Sink, R: Rack>(
     alloc: Global,
     plan: &Plan,
@@ -74,9 +74,9 @@ fn put_report<O: Sink>(
     requires same { receiver.now.plan ≡ plan_fields plan.now }
     requires few { length plan.now.services ≤ 64 }
     requires named { (k : ℕ) (service : ServiceFields) → slice_get (plan_fields plan.now).services k ≡ Some service → is_service_name service.name ≡ true }
-    ensures done { (records : List ReadRecord) → HasReceived (plan_fields plan.now) records receiver.now
+    ensures done { (records : List ReadRecord) → HasReceived true (plan_fields plan.now) records receiver.now
         → OnOk result (Reports (plan_fields plan.now) records tail (O.told output.old).held (O.told output.new).held) }
-    ensures report { (records : List ReadRecord) → HasReceived (plan_fields plan.now) records receiver.now → IsErrOf result ReceiveFault.Sink
+    ensures report { (records : List ReadRecord) → HasReceived true (plan_fields plan.now) records receiver.now → IsErrOf result ReceiveFault.Sink
         → ReportsPart (plan_fields plan.now) records tail (O.told output.old).held (O.told output.new).held }
     ensures flushed { OnOk result (IsFlushed (O.told output.new).held (O.told output.new).flushed) }
     ensures report_unflushed { IsErrOf result ReceiveFault.Sink → Stays (O.told output.old).flushed (O.told output.new).flushed }

@@ -17,7 +17,7 @@ use loss_report::Report;
 use plan::Plan;
 use std::alloc::Global;
 
-/// The text of the report of what a receiver was given, with this many bytes after the last record.
+/// The text of the report of what a receiver was given that has ended, with this many bytes after the last record.
 pub(crate) fn report_of(
     alloc: Global,
     plan: &Plan,
@@ -27,7 +27,7 @@ pub(crate) fn report_of(
     requires same { receiver.now.plan ≡ plan_fields plan.now }
     requires few { length plan.now.services ≤ 64 }
     requires named { (k : ℕ) (service : ServiceFields) → slice_get (plan_fields plan.now).services k ≡ Some service → is_service_name service.name ≡ true }
-    ensures written { (records : List ReadRecord) → HasReceived (plan_fields plan.now) records receiver.now
+    ensures written { (records : List ReadRecord) → HasReceived true (plan_fields plan.now) records receiver.now
         → IfOk result (λ text. IsReport (plan_fields plan.now) records tail text.items) }
 {
     let mut stream = receiver.stream_counts();
@@ -47,7 +47,7 @@ fn add_services(
     requires same { receiver.now.plan ≡ plan_fields plan.now }
     requires few { length plan.now.services ≤ 64 }
     requires named { (k : ℕ) (service : ServiceFields) → slice_get (plan_fields plan.now).services k ≡ Some service → is_service_name service.name ≡ true }
-    ensures written { (records : List ReadRecord) → HasReceived (plan_fields plan.now) records receiver.now
+    ensures written { (records : List ReadRecord) → HasReceived true (plan_fields plan.now) records receiver.now
         → OnOk result (report.new ≡ report.old ++ lines_from (plan_fields plan.now) records 0 (plan_fields plan.now).services) }
 {
     for k in 0..plan.services.len() {
@@ -64,7 +64,7 @@ fn add_table(
     plan: &Plan,
     receiver: &Receiver<'_>,
 ) -> Result<(), OutOfMemory>
-    ensures written { (records : List ReadRecord) → HasReceived (plan_fields plan.now) records receiver.now
+    ensures written { (records : List ReadRecord) → HasReceived true (plan_fields plan.now) records receiver.now
         → OnOk result (AddsTable (plan_fields plan.now) records report.old report.new) }
 {
     match plan.table {
@@ -81,7 +81,7 @@ fn add_table(
 
 /// The version of the plan that is in force, where the plan has changes.
 fn version_shown(plan: &Plan, receiver: &Receiver<'_>) -> Option<u8>
-    ensures read { (records : List ReadRecord) → HasReceived (plan_fields plan.now) records receiver.now
+    ensures read { (records : List ReadRecord) → HasReceived true (plan_fields plan.now) records receiver.now
         → result ≡ version_of (plan_fields plan.now) records }
 {
     if plan.changes.len() == 0 {

@@ -3,13 +3,14 @@ ghost use Rattle.std.specs.Prelude.{◌≡◌, true, IfOk};
 ghost use Rattle.plan.specs.PlanView.{plan_fields};
 ghost use Rattle.plan_spec.specs.Built.{are_received};
 
+use crate::receiver_cases::packet_of_frame;
 use demux_core::can_receive;
 use ipe_io::StdSource;
 use receive_command::{ReceiveFault, receive, ule};
 use service_plan::{Plan, read_plan, ule_plan};
 use std::alloc::Global;
 use std::test::Fail;
-use test_recordings::settings::{INT, ONE_AND_TWO, settings_of};
+use test_recordings::settings::{FRAMES, INT, ONE_AND_TWO, settings_of};
 use test_recordings::units::{INT_OF_TWO, WRONG_HASH};
 use test_recordings::{
     Failing, FileLeft, Given, Left, Numbers, Outside, Report, ServiceReport, TableReport,
@@ -258,11 +259,11 @@ static CASES: [Case; 20] = [
     },
 ];
 
-/// The plan of both services and an INT.
-fn plan_of(alloc: Global) -> Result<Plan, Fail>
+/// The plan of these settings.
+fn plan_of(alloc: Global, settings: &[&str]) -> Result<Plan, Fail>
     ensures { IfOk result (λ plan. are_received (plan_fields plan) ≡ true) }
 {
-    match read_plan(alloc, settings_of(alloc, &[INT, ONE_AND_TWO])?.as_bytes()) {
+    match read_plan(alloc, settings_of(alloc, settings)?.as_bytes()) {
         Ok(plan) => {
             if can_receive(&plan) {
                 Ok(plan)
@@ -364,7 +365,7 @@ fn two_received(alloc: Global, plan: &Plan, case: &Case<'_>) -> Result<Ended, Fa
 
 #[test]
 fn recordings_are_received_and_each_failing_call_ends_it(rt: HostRuntime) -> Result<(), Fail> {
-    let plan = plan_of(rt.alloc())?;
+    let plan = plan_of(rt.alloc(), &[INT, ONE_AND_TWO])?;
     for case in &CASES {
         let ended = two_received(rt.alloc(), &plan, case)?;
         assert_eq!(rt;
@@ -410,31 +411,31 @@ fn an_empty_recording_has_a_report(rt: HostRuntime) -> Result<(), Fail> {
     Ok(())
 }
 
-/// A call that fails, and what is left of the reception of PID 256.
+/// A call that fails, and what is left of the reception of one service.
 #[derive(Clone, Copy)]
-struct UleCase {
+struct OneCase {
     fails: Failing,
     end: Result<(), ReceiveFault>,
     file: Held,
 }
 
-static ULE_CASES: [UleCase; 4] = [
-    UleCase {
+static ULE_CASES: [OneCase; 4] = [
+    OneCase {
         fails: Failing::Rack(9),
         end: Ok(()),
         file: FLUSHED,
     },
-    UleCase {
+    OneCase {
         fails: Failing::Rack(2),
         end: Err(ReceiveFault::Rack),
         file: HEAD,
     },
-    UleCase {
+    OneCase {
         fails: Failing::Rack(4),
         end: Err(ReceiveFault::Rack),
         file: WHOLE,
     },
-    UleCase {
+    OneCase {
         fails: Failing::Input(0),
         end: Err(ReceiveFault::Source),
         file: HEAD,
@@ -448,20 +449,32 @@ fn ule_received(alloc: Global, given: &Given<'_>) -> Result<Ended, Fail> {
     Ok(Ended { end, outside })
 }
 
-/// What differs from what must be left of it.
+/// What differs from what must be left of one service: its file, the front of a capture, and the report.
 fn difference_of_one(
+    ended: &Ended,
+    end: Result<(), ReceiveFault>,
+    report: &str,
+    name: &str,
+    capture: &[u8],
+    file: Held,
+) -> Result<&'static str, Fail> {
+    let files = [FileLeft {
+        name,
+        bytes: capture.get(..file.bytes).ok_or("no such front")?,
+        flushed: file.flushed,
+    }];
+    Ok(difference(ended, end, report, &files))
+}
+
+/// What differs from what must be left of PID 256.
+fn difference_of_ule(
     alloc: Global,
     ended: &Ended,
     end: Result<(), ReceiveFault>,
     file: Held,
 ) -> Result<&'static str, Fail> {
     let capture = small_capture(alloc, 1)?;
-    let files = [FileLeft {
-        name: "ule.pcap",
-        bytes: capture.get(..file.bytes).ok_or("no such front")?,
-        flushed: file.flushed,
-    }];
-    Ok(difference(ended, end, "", &files))
+    difference_of_one(ended, end, "", "ule.pcap", &capture, file)
 }
 
 #[test]
@@ -475,7 +488,7 @@ fn one_pid_is_received_alone(rt: HostRuntime) -> Result<(), Fail> {
         };
         let ended = ule_received(rt.alloc(), &given)?;
         assert_eq!(rt;
-            difference_of_one(rt.alloc(), &ended, case.end, case.file)?,
+            difference_of_ule(rt.alloc(), &ended, case.end, case.file)?,
             ""
         );
     }
@@ -495,6 +508,119 @@ fn received_from_lent(alloc: Global) -> Result<Ended, Fail> {
 #[test]
 fn a_recording_is_received_from_a_source_that_lends(rt: HostRuntime) -> Result<(), Fail> {
     let ended = received_from_lent(rt.alloc())?;
-    assert_eq!(rt; difference_of_one(rt.alloc(), &ended, Ok(()), FLUSHED)?, "");
+    assert_eq!(rt; difference_of_ule(rt.alloc(), &ended, Ok(()), FLUSHED)?, "");
+    Ok(())
+}
+
+/// The file's head, two records, and the head of the third.
+const FRAME_CUT: Held = Held {
+    bytes: 112,
+    flushed: 0,
+};
+
+/// The whole capture of three datagrams.
+const FRAME_WHOLE: Held = Held {
+    bytes: 132,
+    flushed: 0,
+};
+
+const FRAME_FLUSHED: Held = Held {
+    bytes: 132,
+    flushed: 132,
+};
+
+/// A frame of three datagrams is under way at the end. They are written after the input has ended: the head of a record and the
+/// datagram, three times.
+static FRAME_CASES: [OneCase; 8] = [
+    OneCase {
+        fails: Failing::Rack(9),
+        end: Ok(()),
+        file: FRAME_FLUSHED,
+    },
+    OneCase {
+        fails: Failing::Input(2),
+        end: Err(ReceiveFault::Source),
+        file: HEAD,
+    },
+    OneCase {
+        fails: Failing::Rack(2),
+        end: Err(ReceiveFault::Rack),
+        file: HEAD,
+    },
+    OneCase {
+        fails: Failing::Rack(3),
+        end: Err(ReceiveFault::Rack),
+        file: CUT,
+    },
+    OneCase {
+        fails: Failing::Rack(4),
+        end: Err(ReceiveFault::Rack),
+        file: WHOLE,
+    },
+    OneCase {
+        fails: Failing::Rack(7),
+        end: Err(ReceiveFault::Rack),
+        file: FRAME_CUT,
+    },
+    OneCase {
+        fails: Failing::Rack(8),
+        end: Err(ReceiveFault::Rack),
+        file: FRAME_WHOLE,
+    },
+    OneCase {
+        fails: Failing::Output(0),
+        end: Err(ReceiveFault::Sink),
+        file: FRAME_FLUSHED,
+    },
+];
+
+/// What is reported of it.
+const FRAME_REPORT: Report = Report {
+    records: 1,
+    services: &[ServiceReport {
+        name: "lecture",
+        numbers: Numbers {
+            heard: 1,
+            units: 3,
+            frames: 1,
+            datagrams: 3,
+            ..Numbers::NONE
+        },
+    }],
+    ..NO_RECORD
+};
+
+/// What differs from what must be left of the frame.
+fn difference_of_frame(
+    alloc: Global,
+    ended: &Ended,
+    end: Result<(), ReceiveFault>,
+    file: Held,
+) -> Result<&'static str, Fail> {
+    let capture = small_capture(alloc, 3)?;
+    let report = match end {
+        Ok(()) => Some(FRAME_REPORT),
+        Err(_) => None,
+    };
+    let report = text_of(alloc, &report)?;
+    difference_of_one(ended, end, &report, "lecture.pcap", &capture, file)
+}
+
+#[test]
+fn a_frame_under_way_at_the_end_is_written(rt: HostRuntime) -> Result<(), Fail> {
+    let plan = plan_of(rt.alloc(), &[FRAMES])?;
+    let input = packet_of_frame();
+    for case in &FRAME_CASES {
+        let fails = [case.fails];
+        let given = Given {
+            fails: &fails,
+            ..faultless(&[], &[], &input)
+        };
+        let ended = received(rt.alloc(), &plan, &given)?;
+        assert_eq!(rt;
+            difference_of_frame(rt.alloc(), &ended, case.end, case.file)?,
+            ""
+        );
+    }
     Ok(())
 }

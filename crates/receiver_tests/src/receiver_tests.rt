@@ -10,7 +10,7 @@ use service_plan::{Plan, read_plan, ule_plan};
 use std::alloc::Global;
 use std::test::Fail;
 use test_recordings::NotedOutlet;
-use test_recordings::settings::{FRAMES, INT, ONE_AND_TWO, THREE, settings_of};
+use test_recordings::settings::{BURSTS, FRAMES, INT, ONE_AND_TWO, THREE, settings_of};
 use test_recordings::units::{INT as FIRST_INT, NEXT_INT};
 use ts_record::Record;
 
@@ -26,6 +26,8 @@ enum Lent {
 #[derive(Drop)]
 struct Ended {
     noted: NotedOutlet,
+    /// Whether nothing was refused at the end.
+    is_finished: bool,
     is_open: bool,
     stream: StreamCounts,
     /// The numbers of the first three services.
@@ -112,7 +114,7 @@ fn lent_by(receiver: &Receiver<'_>) -> Lent {
     }
 }
 
-/// Gives a receiver records, and the end; whether it took the end.
+/// Gives a receiver records, and where it is open then the end; whether nothing was refused at the end.
 fn give(receiver: &mut Receiver<'_>, parts: &[Part], noted: &mut NotedOutlet) -> bool
     requires { length receiver.old.plan.services ≤ 8 }
     ensures { receiver.new.plan ≡ receiver.old.plan }
@@ -132,10 +134,9 @@ fn ran(alloc: Global, plan: &Plan, parts: &[Part], refuses_from: usize) -> Resul
     let arena = Bump::new(alloc);
     let mut noted = NotedOutlet::new(refuses_from);
     let mut receiver = Receiver::open(&arena, plan)?;
-    if !give(&mut receiver, parts, &mut noted) {
-        return Err("finish".into());
-    }
+    let is_finished = give(&mut receiver, parts, &mut noted);
     Ok(Ended {
+        is_finished,
         is_open: receiver.is_open(),
         stream: receiver.stream_counts(),
         services: [
@@ -158,6 +159,8 @@ struct Case<'a> {
     refuses_from: usize,
     /// The services of the datagrams in order.
     order: &'a [u32],
+    /// Whether nothing is refused at the end.
+    is_finished: bool,
     stream: StreamCounts,
     services: [ServiceCounts; 3],
     sections: u64,
@@ -169,6 +172,7 @@ const NO_RECORD: Case = Case {
     parts: &[],
     refuses_from: 100,
     order: &[],
+    is_finished: true,
     stream: EMPTY,
     services: [NONE; 3],
     sections: 0,
@@ -451,6 +455,9 @@ fn difference(ended: &Ended, case: &Case<'_>) -> &'static str {
     if ended.is_open {
         return "the receiver is open";
     }
+    if ended.is_finished != case.is_finished {
+        return "the end";
+    }
     if ended.noted.order() != case.order {
         return "the datagrams";
     }
@@ -478,7 +485,8 @@ fn services_do_not_disturb_each_other(rt: HostRuntime) -> Result<(), Fail> {
     Ok(())
 }
 
-/// The plan of one PID: no INT, and the packets of all other PIDs are other. Frames and GSE packets are not known yet.
+/// The plan of one PID: no INT, and the packets of all other PIDs are other. Frames with time slicing and GSE packets are not
+/// known yet.
 #[test]
 fn one_pid_is_received_by_itself(rt: HostRuntime) -> Result<(), Fail> {
     let plan = ule_plan(rt.alloc(), 256)?;
@@ -509,7 +517,65 @@ fn one_pid_is_received_by_itself(rt: HostRuntime) -> Result<(), Fail> {
     };
     let ended = ran(rt.alloc(), &plan, &parts, 100)?;
     assert_eq!(rt; difference(&ended, &case), "");
-    let frames = read_plan(rt.alloc(), FRAMES.as_bytes()).map_err(|_| "settings")?;
-    assert_eq!(rt; can_receive(&frames), false);
+    let bursts = read_plan(rt.alloc(), BURSTS.as_bytes()).map_err(|_| "settings")?;
+    assert_eq!(rt; can_receive(&bursts), false);
+    Ok(())
+}
+
+/// A frame of three datagrams that goes on where the records end.
+const UNDER_WAY: Case = Case {
+    name: "a frame under way at the end",
+    parts: &[Part::Frame],
+    order: &[0, 0, 0],
+    stream: StreamCounts {
+        records: 1,
+        ..EMPTY
+    },
+    services: [
+        ServiceCounts {
+            heard: 1,
+            units: 3,
+            frames: 1,
+            datagrams: 3,
+            ..NONE
+        },
+        NONE,
+        NONE,
+    ],
+    ..NO_RECORD
+};
+
+static FRAMES_UNDER_WAY: [Case; 3] = [
+    UNDER_WAY,
+    Case {
+        name: "its first datagram is refused",
+        refuses_from: 1,
+        order: &[],
+        is_finished: false,
+        ..UNDER_WAY
+    },
+    Case {
+        name: "its second datagram is refused",
+        refuses_from: 2,
+        order: &[0],
+        is_finished: false,
+        ..UNDER_WAY
+    },
+];
+
+/// A frame under way is closed at the end. Where one of its datagrams is refused, the next is not offered, and all is counted.
+#[test]
+fn a_frame_under_way_is_delivered_at_the_end(rt: HostRuntime) -> Result<(), Fail> {
+    let plan = read_plan(rt.alloc(), FRAMES.as_bytes()).map_err(|_| "settings")?;
+    for case in &FRAMES_UNDER_WAY {
+        let ended = ran(rt.alloc(), &plan, case.parts, case.refuses_from)?;
+        assert_eq!(rt; difference(&ended, case), "", "{}", case.name);
+        assert_eq!(rt;
+            ended.noted.calls(),
+            case.refuses_from.min(3),
+            "{}",
+            case.name
+        );
+    }
     Ok(())
 }

@@ -6,7 +6,7 @@ use Rattle.receive_command.specs.declared.faults.ReceiveFault.TheVariants as fau
 use Rattle.plan.specs.Parts.{service_seen}
 use Rattle.plan.specs.PlanView.{plan_fields}
 use Rattle.receive_command.specs.Reading.{records_in}
-use Rattle.receive_command.proofs.Ends.{sized, ends_in_heads, ends_front, ends_at_limit, ends_in_record, ends_whole, ends_in_flush}
+use Rattle.receive_command.proofs.Ends.{sized, ends_in_heads, ends_front, ends_at_limit, ends_in_record, ends_whole, ends_after_records}
 use Rattle.ipe_io.proofs.Told.{raised-zero}
 use Rattle.receive_command.proofs.Plans.{changes_right}
 use Rattle.receive_command.proofs.CameUp.{came_up, comes_up, adding_failed, adding_not_failed, adding_no_memory}
@@ -23,8 +23,10 @@ returns-in_err-first-clause-files_taken g c = λ e. (0, omega arith, sym (raised
 pub returns-in_err-first-clause-memory : goal.returns-in_err-first-clause-memory
 returns-in_err-first-clause-memory g c = λ e. (refl, c.in_err-first.ensures.memory (ap (λ f. Err f) (adding_no_memory c.from_residual.result c.in_err-first.field-0.0 c.from_residual.ensures.1 e)))
 
-pub end_captures-requires-clause-same : goal.end_captures-requires-clause-same
-end_captures-requires-clause-same g c = c.in_ok-tail.ensures.whole.received.plan_is
+pub end_captures-requires-clause-given : goal.end_captures-requires-clause-given
+end_captures-requires-clause-given g c =
+    let whole = c.in_ok-tail.ensures.whole in
+    (records_in (plan_fields c.args.plan.now) whole.pieces, whole.received)
 
 pub returns-in_err-tail-clause-front : goal.returns-in_err-tail-clause-front
 returns-in_err-tail-clause-front g c = λ e.
@@ -50,15 +52,17 @@ returns-in-Ok-clause-whole g c =
     c.in_ok-first.first (c.in_ok-first.first + length c.args.plan.now.services) c.in_ok-tail.tail
     (sized (g.R.Rack.told c.args.rack.now).files (g.R.Rack.told c.args.rack.now).count c.in_ok-first.first c.in_ok-first.ensures.place (g.met.R.Rack.as_many c.args.rack.now)) c.in_ok-first.ensures.written
     whole (ap (λ n. c.in_ok-first.first + n) (sym (length-map c.args.plan.now.services service_seen)))
-    c.in-Ok.ensures.flushed (c.end_captures.ensures.received (records_in plan whole.pieces) whole.received)
+    (c.in-Ok.ensures.flushed (records_in plan whole.pieces) whole.received) (c.end_captures.ensures.received (records_in plan whole.pieces) whole.received)
 
 pub returns-in-Err-clause-files : goal.returns-in-Err-clause-files
 returns-in-Err-clause-files g c = λ e.
-    let stopped = c.in-Err.ensures.stopped in
-    ends_in_flush (plan_fields c.args.plan.now) (changes_right (plan_fields c.args.plan.now) c.args.plan.now.whole) c.read_records.new.receiver (g.I.Source.told c.args.input.now).left (g.I.Source.told c.read_records.new.input).left
+    let plan : PlanFields = plan_fields c.args.plan.now in
+    let whole = c.in_ok-tail.ensures.whole in
+    ends_after_records plan (changes_right plan c.args.plan.now.whole) c.read_records.new.receiver (g.I.Source.told c.args.input.now).left (g.I.Source.told c.read_records.new.input).left
     (g.R.Rack.told c.args.rack.now).files (g.R.Rack.told c.add_files.new.rack).files (g.R.Rack.told c.read_records.new.rack).files (g.R.Rack.told c.end_captures.new.rack).files
-    c.in_ok-first.first c.in_ok-tail.tail stopped.0 (sized (g.R.Rack.told c.args.rack.now).files (g.R.Rack.told c.args.rack.now).count c.in_ok-first.first c.in_ok-first.ensures.place (g.met.R.Rack.as_many c.args.rack.now)) c.in_ok-first.ensures.written
-    c.in_ok-tail.ensures.whole (omega (arith, stopped.1, length-map c.args.plan.now.services service_seen)) stopped.2
+    c.in_ok-first.first c.in_ok-tail.tail (length c.args.plan.now.services)
+    (sized (g.R.Rack.told c.args.rack.now).files (g.R.Rack.told c.args.rack.now).count c.in_ok-first.first c.in_ok-first.ensures.place (g.met.R.Rack.as_many c.args.rack.now)) c.in_ok-first.ensures.written
+    whole (sym (length-map c.args.plan.now.services service_seen)) (c.in-Err.ensures.stopped (records_in plan whole.pieces) whole.received)
 
 pub returns-in-Err-clause-files_taken : goal.returns-in-Err-clause-files_taken
 returns-in-Err-clause-files_taken g c = λ e.

@@ -62,6 +62,9 @@ returns-in_err-receiver-clause-memory g c = λ e. inl (
 pub returns-in_err-tail-clause-limit : goal.returns-in_err-tail-clause-limit
 returns-in_err-tail-clause-limit g c = λ e. c.in_err-tail.ensures.limit (ap (λ x. Err x) (came_up c.from_residual-in_err-tail.result c.in_err-tail.field-0.0 fault.TooLong c.from_residual-in_err-tail.ensures.1 e))
 
+pub returns-in_err-tail-clause-files : goal.returns-in_err-tail-clause-files
+returns-in_err-tail-clause-files g c = λ e. c.in_err-tail.ensures.files (ap (λ x. Err x) (came_up c.from_residual-in_err-tail.result c.in_err-tail.field-0.0 fault.Rack c.from_residual-in_err-tail.ensures.1 e))
+
 pub returns-in_err-tail-clause-memory : goal.returns-in_err-tail-clause-memory
 returns-in_err-tail-clause-memory g c = λ e.
     let begun = c.in_err-tail.ensures.memory (ap (λ x. Err x) (came_up c.from_residual-in_err-tail.result c.in_err-tail.field-0.0 fault.OutOfMemory c.from_residual-in_err-tail.ensures.1 e)) in inl (begun.0, begun.1.0)

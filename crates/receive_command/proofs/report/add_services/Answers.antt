@@ -23,4 +23,4 @@ loop-k-preserved c = λ records received.
     (c.in_ok-add_service.ensures.written
     ∙ ap (λ (n : List ℕ). c.loop-k.report ++ service_lines n c.counts-counts.result) c.text.ensures.read
     ∙ ap (λ (counts : ServiceCounts). c.loop-k.report ++ service_lines c.at.result.now.name counts)
-    (c.counts-counts.ensures.read (plan_fields c.args.plan.now) records received))
+    (c.counts-counts.ensures.read true (plan_fields c.args.plan.now) records received))
