@@ -1,24 +1,20 @@
 -- Runs of `check` that have a plan.
-use Rattle.std.proofs.Common.{◌≡◌, ◌≢◌, ℕ, true, false, List, [], refl, ap, sym, subst, take, Option, None, Some, IfSome}
-use Rattle.std.proofs.lemmas.List.{append-nil}
+use Rattle.std.proofs.Common.{◌≡◌, ℕ, false, List, refl, subst, take, Option, Some, IfSome}
 use Rattle.std.specs.Io.KnownBytes.{Appends}
 use Rattle.wire_spec.specs.Causes.{Rose}
-use Rattle.wire_spec.specs.Content.{File, Stays}
+use Rattle.wire_spec.specs.Content.{Stays}
 use Rattle.ipe_io.specs.Counts.{IsFlushed}
 use Rattle.ipe_io.specs.Told.{InputTold, OutputTold, ShelfTold, RackTold}
 use Rattle.plan_spec.specs.Plan.{PlanFields}
 use Rattle.settings_load.specs.Settings.{Refusal, IsAcceptedFile, IsRefusedFile}
 use Rattle.settings_load.specs.Lines.{check_text}
-use Rattle.receive_command.specs.Files.{AddsFiles}
 use Rattle.receive_command.proofs.Adding.{adds_none}
 use Rattle.ipencap_engine.specs.Statuses.{status_line}
-use Rattle.ipencap_engine.specs.World.{World, world, Object, the_shelf, the_input, the_output, the_rack}
-use Rattle.ipencap_engine.specs.Jobs.{to_check, may_use, TellsSettings, IsGiven, IsPlanOf}
+use Rattle.ipencap_engine.specs.World.{world, Object, the_shelf, the_input, the_output, the_rack}
+use Rattle.ipencap_engine.specs.Jobs.{to_check, may_use, IsGiven}
 use Rattle.ipencap_engine.specs.Made.{puts_out}
-use Rattle.ipencap_engine.specs.Stands.{Stands}
 use Rattle.ipencap_engine.specs.Runs.{Runs, KeepsShelf}
-use Rattle.ipencap_engine.specs.declared.status.Status.{Status}
-use Rattle.ipencap_engine.specs.declared.status.Status.TheVariants.{Done, Usage, Settings, Capture, ShelfFault, SourceFault, SinkFault, RackFault, OutOfMemory, TooLong}
+use Rattle.ipencap_engine.specs.declared.status.Status.TheVariants.{Done, SinkFault}
 use Rattle.ipencap_engine.proofs.Plans.{told_of, told_name, one_given}
 use Rattle.ipencap_engine.proofs.Settings.{done_line, judged}
 

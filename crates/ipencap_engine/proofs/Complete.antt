@@ -1,12 +1,12 @@
 -- Without a fault a run is complete.
-use Rattle.std.proofs.Common.{◌≡◌, ℕ, ◌*◌, ◌≤◌, true, List, refl, subst, sym, ap, arith, is_some, Option, None, Some}
+use Rattle.std.proofs.Common.{◌≡◌, ℕ, ◌*◌, true, List, refl, arith, is_some, Option, None, Some}
 use Rattle.std.specs.Bool.{⊤}
-use Rattle.wire_spec.specs.Causes.{Rose, RoseBy, raised}
+use Rattle.wire_spec.specs.Causes.{RoseBy, raised}
 use Rattle.ts_spec.specs.Recording.{RecordingForm, plain, stamped, m2ts, record_size}
 use Rattle.receive_command.specs.Reading.{most_records}
-use Rattle.ipencap_engine.specs.World.{World, the_shelf}
+use Rattle.ipencap_engine.specs.World.{World}
 use Rattle.ipencap_engine.specs.Jobs.{Job, Intake, no_input, a_capture, a_recording, row, is_recording}
-use Rattle.ipencap_engine.specs.Runs.{Runs, KeepsShelf, Reads, TakesRecords}
+use Rattle.ipencap_engine.specs.Runs.{Runs, KeepsShelf, Reads}
 use Rattle.ipencap_engine.specs.Complete.{NoneRose, IsComplete}
 use Rattle.ipencap_engine.specs.declared.status.Status.{Status}
 use Rattle.ipencap_engine.specs.declared.status.Status.TheVariants.{Done, Usage, Settings, Capture, ShelfFault, SourceFault, SinkFault, RackFault, OutOfMemory, TooLong}

@@ -9,7 +9,6 @@ use Rattle.settings_load.specs.Settings.{Refusal, refused, IsAcceptedFile, IsRef
 use Rattle.settings_law.proofs.Spellings.{one_plan}
 use Rattle.plan_spec.specs.Built.{is_sent, is_received}
 use Rattle.ipencap_engine.specs.Built.{unbuilt_fault, IsRefusedForUse, gives_none, gives_unbuilt}
-use Rattle.ipencap_engine.specs.Jobs.{Job, row, TellsSettings}
 
 -- what holds of told bytes
 pub told_of : (P : List ℕ → Type 0) (told : Option (List ℕ)) (bytes : List ℕ) → told ≡ Some bytes → IfSome told P → P bytes
@@ -48,7 +47,8 @@ pub built_both : (kinds : List KindFields) → list_all is_sent kinds ≡ true �
 built_both [] all = refl
 built_both (ule pid address packing ∷ kinds) all = built_both kinds all
 built_both (mpe pid ∷ kinds) all = built_both kinds all
-built_both (fec pid rows parity window ∷ kinds) all = absurd (cc)
+built_both (fec pid rows parity None ∷ kinds) all = built_both kinds all
+built_both (fec pid rows parity (Some window) ∷ kinds) all = absurd (cc)
 built_both (gse isi address ∷ kinds) all = absurd (cc)
 
 -- what is told of the settings file of a job is what is told of that name

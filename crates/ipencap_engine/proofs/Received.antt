@@ -1,7 +1,7 @@
 -- Runs of `ule` and `receive` that have a plan.
-use Rattle.std.proofs.Common.{◌≡◌, ◌≢◌, ◌⊎◌, inl, inr, ℕ, ◌+◌, ◌*◌, ◌<◌, ◌≤◌, true, false, List, [], ◌++◌, length, take, refl, ap, sym, subst, ◌∙◌, arith, Option, None, Some, IfSome}
+use Rattle.std.proofs.Common.{◌≡◌, ◌≢◌, ◌⊎◌, inl, inr, ℕ, ◌+◌, ◌*◌, ◌<◌, ◌≤◌, true, false, List, [], ◌++◌, refl, ap, sym, subst, ◌∙◌, arith, Option, None, Some}
 use Rattle.std.proofs.lemmas.List.{append-nil}
-use Rattle.std.specs.Io.KnownBytes.{Appends}
+use Rattle.std.specs.Io.KnownBytes.{Appends, IsAtEnd}
 use Rattle.wire_spec.specs.Causes.{Rose, raised}
 use Rattle.wire_spec.specs.Lists.{joined, IsCut}
 use Rattle.wire_spec.specs.Content.{File, Stays}
@@ -9,27 +9,28 @@ use Rattle.ts_spec.specs.Recording.{RecordingForm, plain, stamped, m2ts, record_
 use Rattle.ts_record.proofs.Cuts.{one_cut}
 use Rattle.ipe_io.specs.Counts.{IsFlushed}
 use Rattle.ipe_io.specs.Told.{InputTold, OutputTold, ShelfTold, RackTold}
-use Rattle.plan_spec.specs.Plan.{ServiceFields, PlanFields}
+use Rattle.plan_spec.specs.Plan.{PlanFields}
 use Rattle.plan_spec.specs.Changes.{has_wrong_change, pid_in, pids_in}
 use Rattle.plan_spec.specs.Given.{plan_of_pid}
 use Rattle.settings_load.specs.Settings.{Refusal, IsAcceptedFile}
-use Rattle.receive_command.specs.Files.{AddsFiles, AddsCaptures, AddsHeads, AddsParts, capture_of}
-use Rattle.receive_command.specs.Reading.{records_in, most_records}
+use Rattle.receive_command.specs.Files.{AddsCaptures, AddsHeads, AddsParts, capture_of}
+use Rattle.receive_command.specs.Reading.{HasRead, records_in, most_records}
 use Rattle.receive_command.specs.Ends.{EndsWhole, EndsFront, EndsAtLimit, EndsInFiles, EndsReported, EndsInReport}
 use Rattle.receive_command.specs.declared.faults.ReceiveFault.{ReceiveFault}
 use Rattle.receive_command.specs.declared.faults.ReceiveFault.TheVariants as fault
-use Rattle.receive_command.proofs.Parted.{EndsPart, part_of_front, part_of_limit, part_of_files}
+use Rattle.receive_command.proofs.Parted.{TellsPart, DeliversPart, EndsPart, tells_part, delivers_part, part_of_front, part_of_limit, part_of_files}
 use Rattle.receive_command.proofs.Parts.{parts_whole, parts_of_heads, parts_of_some, parts_of_longer}
 use Rattle.ipencap_engine.specs.Statuses.{status_line, status_of_fault}
 use Rattle.ipencap_engine.specs.Built.{IsPlanInUse, IsRefusedForUse}
 use Rattle.ipencap_engine.specs.World.{World, world, Object, the_shelf, the_input, the_output, the_rack}
-use Rattle.ipencap_engine.specs.Jobs.{Job, to_ule, to_receive, row, may_end, may_use, is_recording, TellsSettings, GivesPlan, IsGiven, IsPlanOf, IsInputOf}
+use Rattle.ipencap_engine.specs.Jobs.{Job, to_ule, to_receive, row, may_end, may_use, TellsSettings, GivesPlan, IsPlanOf, IsInputOf}
 use Rattle.ipencap_engine.specs.Made.{IsRead, adds_captures}
-use Rattle.ipencap_engine.specs.Stands.{Stands, StandsWhole, StandsInOutput, LacksMemory, in_memory, in_heads, in_report}
-use Rattle.ipencap_engine.specs.Runs.{Runs, KeepsShelf, JudgesSettings, CountsFaults, Reads, IsLine, IsAnswer}
+use Rattle.ipencap_engine.specs.Stands.{Stands, LacksMemory, in_memory, in_heads, in_report}
+use Rattle.ipencap_engine.specs.Runs.{Runs, KeepsShelf, JudgesSettings, CountsFaults, Reads, IsLine}
 use Rattle.ipencap_engine.specs.declared.status.Status.{Status}
-use Rattle.ipencap_engine.specs.declared.status.Status.TheVariants.{Done, Usage, Settings, Capture, ShelfFault, SourceFault, SinkFault, RackFault, OutOfMemory, TooLong}
+use Rattle.ipencap_engine.specs.declared.status.Status.TheVariants.{Done, Settings, SourceFault, SinkFault, RackFault, OutOfMemory, TooLong}
 use Rattle.ipencap_engine.proofs.Pieces.{consumed, at_end_is, CutBehind, cut_behind}
+use Rattle.receive_command.proofs.Pairs.{told_capture}
 use Rattle.receive_command.proofs.Longer.{capture_more}
 use Rattle.ipencap_engine.proofs.Plans.{told_of, told_name, one_given}
 use Rattle.ipencap_engine.proofs.Arriving.{arrives, alike_files, parts_stay}
@@ -38,17 +39,21 @@ use Rattle.ipencap_engine.proofs.Settings.{done_line, judged, keeps_same}
 -- What was read, and the cut of the whole input.
 
 -- an input that was read to its end is cut into what was read
-whole_cut : (plan : PlanFields) (left now : Option (List ℕ)) (old new : Option (List File)) (bytes : List ℕ) → left ≡ Some bytes
-    → (ends : EndsWhole plan left now old new) → IsCut (record_size plan.recording) bytes ends.pieces ends.tail
-whole_cut plan left now old new bytes told ends =
-    let front : List ℕ = joined ends.pieces ++ ends.tail in
-    let found : (rest : List ℕ) × (bytes ≡ front ++ rest) × (now ≡ Some rest) = consumed bytes left now front told ends.read.consumed in
-    let none : found.0 ≡ [] = at_end_is now found.0 found.2 ends.at_end in
+read_cut : (form : RecordingForm) (left now : Option (List ℕ)) (bytes : List ℕ) (pieces : List (List ℕ)) (behind : List ℕ) → left ≡ Some bytes
+    → HasRead form left now pieces behind → IsAtEnd now → IsCut (record_size form) bytes pieces behind
+read_cut form left now bytes pieces behind told read at_end =
+    let front : List ℕ = joined pieces ++ behind in
+    let found : (rest : List ℕ) × (bytes ≡ front ++ rest) × (now ≡ Some rest) = consumed bytes left now front told read.consumed in
+    let none : found.0 ≡ [] = at_end_is now found.0 found.2 at_end in
     record {
       whole = found.1 ∙ ap (λ (r : List ℕ). front ++ r) none ∙ append-nil front;
-      each = ends.read.each;
-      short = ends.read.short;
+      each = read.each;
+      short = read.short;
     }
+
+whole_cut : (plan : PlanFields) (left now : Option (List ℕ)) (old new : Option (List File)) (bytes : List ℕ) → left ≡ Some bytes
+    → (ends : EndsWhole plan left now old new) → IsCut (record_size plan.recording) bytes ends.pieces ends.tail
+whole_cut plan left now old new bytes told ends = read_cut plan.recording left now bytes ends.pieces ends.tail told ends.read ends.at_end
 
 whole_read : (plan : PlanFields) (left now : Option (List ℕ)) (old new : Option (List File)) (bytes : List ℕ) → left ≡ Some bytes
     → (ends : EndsWhole plan left now old new) → IsRead plan bytes now ends.pieces ends.tail
@@ -70,21 +75,36 @@ size_some plain = omega arith
 size_some stamped = omega arith
 size_some m2ts = omega arith
 
--- parts of what was read are parts of what the whole input gives
-parts : (plan : PlanFields) → has_wrong_change plan ≡ false → (left now : Option (List ℕ)) (old new : Option (List File)) (bytes : List ℕ) (pieces : List (List ℕ)) (tail : List ℕ)
+-- parts of what the records that were read tell are parts of what the whole input gives
+told_parts : (plan : PlanFields) → has_wrong_change plan ≡ false → (left now : Option (List ℕ)) (old new : Option (List File)) (bytes : List ℕ) (pieces : List (List ℕ)) (tail : List ℕ)
     → left ≡ Some bytes
-    → IsCut (record_size plan.recording) bytes pieces tail → EndsPart plan left now old new → AddsParts (capture_of plan (records_in plan pieces)) plan.services old new
-parts plan right left now old new bytes pieces tail told cut part =
+    → IsCut (record_size plan.recording) bytes pieces tail → TellsPart plan left now old new → AddsParts (capture_of plan (records_in plan pieces)) plan.services old new
+told_parts plan right left now old new bytes pieces tail told cut part =
     let behind : CutBehind (record_size plan.recording) bytes part.pieces =
     cut_behind (record_size plan.recording) bytes left now part.pieces part.behind (size_some plan.recording) told part.read.each part.read.consumed in
     subst (λ (ps : List (List ℕ)). AddsParts (capture_of plan (records_in plan ps)) plan.services old new)
     ((one_cut (record_size plan.recording) bytes (part.pieces ++ behind.others) pieces behind.tail tail behind.cut cut).0)
     (record {
       files = part.files.files;
-      parts = parts_of_longer 0 (capture_of plan (records_in plan part.pieces)) (capture_of plan (records_in plan (part.pieces ++ behind.others)))
-          plan.services part.files.files (λ k there. capture_more plan right part.pieces behind.others (0 + k) (omega (arith, there))) part.files.parts;
+      parts = parts_of_longer 0 (told_capture plan (records_in plan part.pieces)) (capture_of plan (records_in plan (part.pieces ++ behind.others)))
+          plan.services part.files.files (λ k there. capture_more plan right part.pieces behind.others (0 + k)) part.files.parts;
       added = part.files.added;
     })
+
+-- and so are parts of what all records deliver, where they were read to the end
+delivered_parts : (plan : PlanFields) (left now : Option (List ℕ)) (old new : Option (List File)) (bytes : List ℕ) (pieces : List (List ℕ)) (tail : List ℕ) → left ≡ Some bytes
+    → IsCut (record_size plan.recording) bytes pieces tail → DeliversPart plan left now old new → AddsParts (capture_of plan (records_in plan pieces)) plan.services old new
+delivered_parts plan left now old new bytes pieces tail told cut part =
+    subst (λ (ps : List (List ℕ)). AddsParts (capture_of plan (records_in plan ps)) plan.services old new)
+    ((one_cut (record_size plan.recording) bytes part.pieces pieces part.behind tail
+    (read_cut plan.recording left now bytes part.pieces part.behind told part.read part.at_end) cut).0)
+    part.files
+
+parts : (plan : PlanFields) → has_wrong_change plan ≡ false → (left now : Option (List ℕ)) (old new : Option (List File)) (bytes : List ℕ) (pieces : List (List ℕ)) (tail : List ℕ)
+    → left ≡ Some bytes
+    → IsCut (record_size plan.recording) bytes pieces tail → EndsPart plan left now old new → AddsParts (capture_of plan (records_in plan pieces)) plan.services old new
+parts plan right left now old new bytes pieces tail told cut (tells_part part) = told_parts plan right left now old new bytes pieces tail told cut part
+parts plan right left now old new bytes pieces tail told cut (delivers_part part) = delivered_parts plan left now old new bytes pieces tail told cut part
 
 -- A run of a job that reads a recording, under the plan that it has.
 reception : (job : Job) (p : PlanFields) (end : Status) (line : List ℕ) (before after : World) (same : Object → Type 0)

@@ -1,10 +1,8 @@
 -- Runs of `send` that have a plan.
-use Rattle.std.proofs.Common.{◌≡◌, ◌≢◌, ◌⊎◌, inl, inr, ℕ, true, false, List, [], refl, ap, sym, subst, ◌∙◌, take, Option, None, Some, IfSome}
-use Rattle.std.specs.Bool.{⊤}
-use Rattle.std.specs.Io.KnownBytes.{Appends}
+use Rattle.std.proofs.Common.{◌≡◌, ◌⊎◌, inl, inr, ℕ, true, false, List, [], refl, ap, subst, ◌∙◌, None, Some}
 use Rattle.wire_spec.specs.Causes.{Rose}
 use Rattle.wire_spec.specs.Lists.{joined}
-use Rattle.wire_spec.specs.Content.{File, Stays}
+use Rattle.wire_spec.specs.Content.{Stays}
 use Rattle.ipe_io.specs.Counts.{IsFlushed}
 use Rattle.ipe_io.specs.Told.{InputTold, OutputTold, ShelfTold, RackTold}
 use Rattle.pcap_file.specs.Reader.{is_cut}
@@ -26,9 +24,8 @@ use Rattle.ipencap_engine.specs.World.{World, world, Object, the_shelf, the_inpu
 use Rattle.ipencap_engine.specs.Jobs.{to_send, may_use, TellsSettings, GivesPlan, IsGiven}
 use Rattle.ipencap_engine.specs.Made.{send_line, status_of_capture}
 use Rattle.ipencap_engine.specs.Stands.{StandsWhole, StandsInOutput, in_memory}
-use Rattle.ipencap_engine.specs.Runs.{Runs, KeepsShelf, JudgesSettings, IsAnswer}
-use Rattle.ipencap_engine.specs.declared.status.Status.{Status}
-use Rattle.ipencap_engine.specs.declared.status.Status.TheVariants.{Done, Usage, Settings, Capture, ShelfFault, SourceFault, SinkFault, RackFault, OutOfMemory, TooLong}
+use Rattle.ipencap_engine.specs.Runs.{Runs, KeepsShelf}
+use Rattle.ipencap_engine.specs.declared.status.Status.TheVariants.{Done, Capture, SourceFault, SinkFault, OutOfMemory}
 use Rattle.ipencap_engine.proofs.Plans.{told_of, told_name, one_given}
 use Rattle.ipencap_engine.proofs.Settings.{judged}
 

@@ -1,5 +1,5 @@
 -- Runs that end before a plan is used: with the words, with the settings, and without memory for them.
-use Rattle.std.proofs.Common.{◌≡◌, ◌≢◌, inl, inr, ℕ, ◌≤◌, true, false, List, [], refl, ap, sym, subst, is_some, Option, None, Some, IfSome, arith}
+use Rattle.std.proofs.Common.{◌≡◌, ◌≢◌, inl, inr, ℕ, ◌≤◌, true, false, List, [], refl, ap, sym, subst, is_some, None, Some, IfSome, arith}
 use Rattle.std.proofs.lemmas.Option.{none-some}
 use Rattle.wire_spec.specs.Causes.{Rose}
 use Rattle.ipe_io.specs.Told.{InputTold, OutputTold, ShelfTold, RackTold}
@@ -15,12 +15,12 @@ use Rattle.receive_command.specs.Reading.{records_in}
 use Rattle.receive_command.proofs.Parts.{parts_none}
 use Rattle.ipencap_engine.specs.Statuses.{status_line, status_of, outcome_line, outcome_after}
 use Rattle.ipencap_engine.specs.World.{World, world, Object, the_shelf, the_input, the_output, the_rack}
-use Rattle.ipencap_engine.specs.Jobs.{Job, no_job, to_ule, to_check, to_send, to_receive, to_sample, Intake, no_input, a_capture, a_recording, row, is_command, may_use, TellsSettings, GivesPlan, IsRefusedFor, IsPlanOf}
+use Rattle.ipencap_engine.specs.Jobs.{Job, no_job, to_ule, to_check, to_send, to_receive, to_sample, Intake, no_input, a_capture, a_recording, row, is_command, may_use, TellsSettings, IsRefusedFor, IsPlanOf}
 use Rattle.ipencap_engine.specs.Stands.{in_memory}
 use Rattle.ipencap_engine.specs.Runs.{Runs, KeepsShelf, JudgesSettings, IsAnswer, Reads}
 use Rattle.ipencap_engine.specs.declared.status.Outcome.{Outcome}
 use Rattle.ipencap_engine.specs.declared.status.Status.{Status}
-use Rattle.ipencap_engine.specs.declared.status.Status.TheVariants.{Done, Usage, Settings, Capture, ShelfFault, SourceFault, SinkFault, RackFault, OutOfMemory, TooLong}
+use Rattle.ipencap_engine.specs.declared.status.Status.TheVariants.{Done, Usage, Settings, ShelfFault, OutOfMemory}
 use Rattle.ipencap_engine.proofs.Arriving.{arrives}
 use Rattle.ipencap_engine.proofs.Asked.{IsUnbuilt}
 use Rattle.ipencap_engine.proofs.Plans.{told_of, told_name}

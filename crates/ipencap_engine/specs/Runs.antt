@@ -157,8 +157,8 @@ IsLine job end line before after = line ≡ status_line end
 
 -- The laws of receptions.
 
--- what each service delivers is what arrived intact of all that can have been sent under the plan; at Done that is in the files,
--- and whatever the end is, the files are those of the first services, each with a prefix of it
+-- what each service delivers is what arrived intact of all that can have been sent under the plan, and of MPE-FEC frames also what is
+-- corrected of it; at Done that is in the files, and whatever the end is, the files are those of the first services, each with a prefix of it
 pub record Arrives (plan : PlanFields) (sent : List Record) (datagrams : ℕ → ℕ → List (List ℕ)) (carries : Carries plan sent datagrams) (records : List Record)
     (recorded : IsRecordedInSpans plan sent datagrams carries records) (end : Status) (before after : World) : Type 0 where
   pub delivered : ℕ → List (List ℕ)
@@ -190,7 +190,7 @@ pub record Runs (job : Job) (end : Status) (line : List ℕ) (before after : Wor
   pub memory : (plan : PlanFields) → IsPlanOf job before.shelf plan → end ≡ status.OutOfMemory → LacksMemory job plan before after
   -- the line that is reported
   pub line_is : IsLine job end line before after
-  -- the loss law: the files have what arrived intact, whatever became of the records that were sent
+  -- the loss law: the files have what arrived intact, and of MPE-FEC frames what is corrected, whatever became of the records that were sent
   pub loss : (plan : PlanFields) (bytes : List ℕ) (pieces : List (List ℕ)) (tail : List ℕ) (sent : List Record) (datagrams : ℕ → ℕ → List (List ℕ))
       (carries : Carries plan sent datagrams) (recorded : IsRecordedInSpans plan sent datagrams carries (records_in plan pieces))
       → is_recording (row job).intake ≡ true → IsPlanOf job before.shelf plan → before.input.left ≡ Some bytes → IsCut (record_size plan.recording) bytes pieces tail

@@ -38,7 +38,9 @@ use std::alloc::Global;
 /// - line_is: the line that is reported;
 /// - loss: the loss law; whatever records of the recording were dropped, repeated or damaged on their way, if no damaged
 ///   unit passes its CRC-32, each file has wanted datagrams that were sent, unchanged, in order, each once, among them each
-///   whose unit arrived intact; at every status but Done a prefix of such a file;
+///   whose unit arrived intact, and of MPE-FEC frames each datagram of a frame in which no row lacks more than 64 of its 255
+///   bytes, if no 4,095 frames in a row go unheard between two that are heard; at every status but Done a prefix of such a
+///   file;
 /// - isolation: no service's file depends on packets of others.
 pub fn run<S: Shelf, I: Source, O: Sink, R: Rack, E: Sink>(
     alloc: Global,

@@ -1,4 +1,4 @@
-use Rattle.std.proofs.Common.{◌≡◌, refl, ap, sym, ◌∙◌, Err, true, false}
+use Rattle.std.proofs.Common.{◌≡◌, refl, ap, Err}
 use Rattle.plan.specs.PlanView.{plan_fields}
 use Rattle.settings_load.specs.declared.fault.SettingsError.TheVariants.{ShelfFault}
 use Rattle.ipencap_engine.specs.Jobs.{to_send}

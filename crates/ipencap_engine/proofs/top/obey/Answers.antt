@@ -1,5 +1,4 @@
-use Rattle.std.proofs.Common.{◌≡◌, refl, ap}
-use Rattle.ipencap_engine.specs.World.{the_shelf, the_input, the_output, the_rack}
+use Rattle.std.proofs.Common.{refl, ap}
 use Rattle.ipencap_engine.specs.Words.{job_of}
 use Rattle.ipencap_engine.specs.Jobs.{to_ule, to_check, to_send, to_receive}
 use Rattle.ipencap_engine.proofs.Asked.{runs_as, runs_same, all_objects}

@@ -1,7 +1,6 @@
 use Rattle.std.proofs.Common.{refl, ap, Err}
 use Rattle.ipencap_engine.specs.Statuses.{status_of, outcome_line, status_line}
 use Rattle.ipencap_engine.specs.Words.{job_of}
-use Rattle.ipencap_engine.specs.World.{the_shelf, the_input, the_output, the_rack, world}
 use Rattle.ipencap_engine.specs.declared.status.Status.TheVariants.{Usage, OutOfMemory}
 use Rattle.ipencap_engine.proofs.Asked.{one_job, task_of, command_asked, unbuilt_asked, runs_as, each_object}
 use Rattle.ipencap_engine.proofs.Settings.{runs_usage, runs_no_memory, keeps_same}

@@ -1,4 +1,4 @@
-use Rattle.std.proofs.Common.{refl, ap, Err}
+use Rattle.std.proofs.Common.{ap, Err}
 use Rattle.ipencap_engine.specs.Jobs.{to_ule}
 use Rattle.ipencap_engine.specs.Statuses.{status_of_fault}
 use Rattle.ipencap_engine.specs.declared.status.Outcome.TheVariants.{Ended}

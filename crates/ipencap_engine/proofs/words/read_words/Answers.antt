@@ -1,4 +1,4 @@
-use Rattle.std.proofs.Common.{◌≡◌, ap, inl, Err}
+use Rattle.std.proofs.Common.{ap, inl, Err}
 use Rattle.command_words.specs.declared.parse.WordsFault.TheVariants.{Usage, OutOfMemory}
 use Rattle.receive_command.proofs.CameUp.{came_up}
 use Rattle.ipencap_engine.proofs.words.read_words.Goals as goal
