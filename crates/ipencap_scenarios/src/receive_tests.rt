@@ -2,7 +2,7 @@
 use ipencap_engine::Status;
 use scenario_runs::expect;
 use std::test::Fail;
-use test_recordings::settings::FRAMES;
+use test_recordings::settings::BURSTS;
 use test_recordings::{
     Failing, FileLeft, Given, Left, Numbers, Report, ServiceReport, faultless, mixed_recording,
     report_of, small_capture,
@@ -156,7 +156,7 @@ static CASES: [Case; 11] = [
         ..REFUSED
     },
     Case {
-        settings: FRAMES,
+        settings: BURSTS,
         line: "ipencap: settings 4 kind\n",
         ..REFUSED
     },

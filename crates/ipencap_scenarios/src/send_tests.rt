@@ -3,7 +3,7 @@
 use ipencap_engine::Status;
 use scenario_runs::expect;
 use std::test::Fail;
-use test_recordings::settings::{FILES, FRAMES};
+use test_recordings::settings::{BURSTS, FILES};
 use test_recordings::{Failing, Given, Left, capture_of_files, faultless, packet_of_files};
 
 /// A service in baseband frames, which are not sent so far.
@@ -137,7 +137,7 @@ static CASES: [Case; 14] = [
     },
     Case {
         name: "a kind that is not built",
-        settings: FRAMES,
+        settings: BURSTS,
         status: Status::Settings,
         line: "ipencap: settings 4 kind\n",
         ..NOTHING

@@ -21,6 +21,7 @@ fn numbers_of(delivered: &Delivered<'_>) -> Numbers {
         delimited: delivered.delimited,
         filtered: delivered.filtered,
         datagrams: delivered.datagrams.len() as u64,
+        ..Numbers::NONE
     }
 }
 

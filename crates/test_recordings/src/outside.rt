@@ -69,7 +69,7 @@ pub fn words_of(alloc: Global, words: &[&str]) -> Result<Vec<String>, OutOfMemor
     Ok(all)
 }
 
-/// The objects of a run. The rack takes two files of 10,000 bytes.
+/// The objects of a run. The rack takes two files with the output's room, of 10,000 bytes at least.
 #[derive(Drop)]
 pub struct Outside {
     pub shelf: MemShelf,
@@ -147,7 +147,7 @@ impl Outside {
             shelf: MemShelf::new(alloc, given.name, given.settings, &calls.shelf)?,
             input: MemSource::new(alloc, given.input, 100, &calls.input)?,
             output: MemSink::new(alloc, given.room, &calls.output)?,
-            rack: MemRack::new(alloc, 2, 10_000, &calls.rack)?,
+            rack: MemRack::new(alloc, 2, given.room.max(10_000), &calls.rack)?,
             complaints: MemSink::new(alloc, 200, &[])?,
         })
     }

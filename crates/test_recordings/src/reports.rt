@@ -10,7 +10,11 @@ pub struct Numbers {
     pub units: u64,
     pub bad_check: u64,
     pub delimited: u64,
+    pub unread: u64,
     pub filtered: u64,
+    pub frames: u64,
+    pub rows_mended: u64,
+    pub rows_left: u64,
     pub datagrams: u64,
 }
 
@@ -23,12 +27,16 @@ impl Numbers {
         units: 0,
         bad_check: 0,
         delimited: 0,
+        unread: 0,
         filtered: 0,
+        frames: 0,
+        rows_mended: 0,
+        rows_left: 0,
         datagrams: 0,
     };
 }
 
-/// A service, and what is said of it. Its units are read, and it has no MPE-FEC frames.
+/// A service, and what is said of it.
 #[derive(Clone, Copy)]
 pub struct ServiceReport {
     pub name: &'static str,
@@ -68,11 +76,11 @@ fn put_service(into: &mut String, service: &ServiceReport) -> Result<(), OutOfMe
         ("bad_check", numbers.bad_check),
         ("delimited", numbers.delimited),
         ("bad_length", 0),
-        ("unread", 0),
+        ("unread", numbers.unread),
         ("filtered", numbers.filtered),
-        ("frames", 0),
-        ("rows_mended", 0),
-        ("rows_left", 0),
+        ("frames", numbers.frames),
+        ("rows_mended", numbers.rows_mended),
+        ("rows_left", numbers.rows_left),
         ("datagrams", numbers.datagrams),
     ];
     for (line, number) in lines {

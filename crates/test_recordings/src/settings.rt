@@ -47,13 +47,26 @@ pid = 258
 rules = [\"239.3.0.0/16\"]
 ";
 
-/// A service of MPE-FEC frames.
+/// Settings of a service of MPE-FEC frames of 256 rows without time slicing.
 pub const FRAMES: &str = "[[service]]
 name = \"lecture\"
 kind = \"fec\"
 pid = 512
 mode = \"indexed\"
 rows = 256
+rules = [\"239.1.0.0/16\"]
+";
+
+/// Settings of a service of MPE-FEC frames with time slicing, which is neither sent nor received so far.
+pub const BURSTS: &str = "recording = \"stamped\"
+[[service]]
+name = \"lecture\"
+kind = \"fec\"
+pid = 512
+mode = \"sliced\"
+rows = 1024
+window_start = 100
+window_length = 1500
 rules = [\"239.1.0.0/16\"]
 ";
 
