@@ -1,7 +1,7 @@
 -- Runs of known bytes of a table.
-use Rattle.std.proofs.Common.{◌≡◌, ◌⊎◌, inl, inr, ℕ, zero, suc, ◌+◌, ◌-◌, ◌<◌, ◌≤◌, Bool, true, false, cond, List, [], ◌∷◌, length, get_or, drop, take, Option, Some, None, refl, ap, sym, ◌∙◌, arith}
-use Rattle.std.proofs.lemmas.Bool.{cond-true, cond-false}
-use Rattle.std.proofs.lemmas.List.{drop_more, length-drop}
+use Rattle.std.proofs.Common.{◌≡◌, ◌⊎◌, inl, inr, ℕ, zero, suc, ◌+◌, ◌-◌, ◌<◌, ◌≤◌, true, false, List, ◌∷◌, length, get_or, drop, take, Option, Some, None, refl, ap, sym, ◌∙◌, arith}
+use Rattle.std.proofs.lemmas.Bool.{cond-true, cond-false, cases_lt}
+use Rattle.std.proofs.lemmas.List.{drop_more}
 use Rattle.frame_spec.specs.Starts.{run_on, run_within}
 use Rattle.fec_frame.specs.Marks.{is_known_mark, marked_byte, marked_run, IsRun}
 
@@ -51,3 +51,27 @@ marked_run_is bytes marks limit place end long below run =
     run_is bytes marks limit (end - place) (limit - place) place long (omega (arith, run.within)) (omega arith)
     (λ i from low. run.known i from (omega (arith, low, e)))
     (λ low. ap (λ (p : ℕ). is_known_mark (get_or marks p 0)) e ∙ run.over (omega (arith, low, e)))
+
+clash : true ≡ false → ⊥
+clash e = cc
+
+-- a run whose first byte is known is not empty
+pub run_some : (marks : List ℕ) (limit start end : ℕ) → IsRun marks limit start end → start < limit → is_known_mark (get_or marks start 0) ≡ true → start < end
+run_some marks limit start end run below known = by_end (cases_lt start end)
+  where
+    by_end : (start < end) ⊎ (end ≤ start) → start < end
+    by_end (inl some) = some
+    by_end (inr none) =
+        let e : start ≡ end = omega (arith, none, run.order) in
+        absurd (clash (sym known ∙ ap (λ (p : ℕ). is_known_mark (get_or marks p 0)) e ∙ run.over (omega (arith, e, below))))
+
+-- nor are unknown bytes, up to a known one, whose first is unknown
+pub gap_some : (marks : List ℕ) (limit start end : ℕ) → start ≤ end → (end < limit → is_known_mark (get_or marks end 0) ≡ true) → start < limit
+    → is_known_mark (get_or marks start 0) ≡ false → start < end
+gap_some marks limit start end order over below unknown = by_end (cases_lt start end)
+  where
+    by_end : (start < end) ⊎ (end ≤ start) → start < end
+    by_end (inl some) = some
+    by_end (inr none) =
+        let e : start ≡ end = omega (arith, none, order) in
+        absurd (clash (sym (over (omega (arith, e, below))) ∙ ap (λ (p : ℕ). is_known_mark (get_or marks p 0)) (sym e) ∙ unknown))

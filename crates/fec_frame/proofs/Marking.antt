@@ -1,6 +1,6 @@
 -- Marking the starts, place by place.
 use Rattle.std.proofs.Common.{◌≡◌, ◌⊎◌, inl, inr, ℕ, zero, suc, ◌+◌, ◌-◌, ◌*◌, ◌<◌, ◌≤◌, Bool, true, false, ◌||◌, cond, eqb, ltb, List, [], ◌∷◌, ◌++◌, length, get_or, set, take, drop, bit_or, Option, Some, None, refl, ap, ap₂, sym, ◌∙◌, subst, arith, length-set}
-use Rattle.std.proofs.lemmas.Bool.{cases_lt, cases_eq, agree_below_at, lt-ltb}
+use Rattle.std.proofs.lemmas.Bool.{cases_lt, cases_eq, agree_below_at}
 use Rattle.std.proofs.lemmas.List.{get_or-set_same, get_or-set_other}
 use Rattle.wire_spec.specs.Bytes.{u16_at}
 use Rattle.wire_spec.specs.Datagram.{version, header_length, total_length, ipv6_length}
@@ -8,7 +8,7 @@ use Rattle.ip_datagram.specs.Hint.{hint_of, ipv4_hint, ipv6_hint}
 use Rattle.ip_datagram.specs.declared.hint.Hint.{Hint}
 use Rattle.ip_datagram.specs.declared.hint.Hint.TheVariants.{More, Padding, Length, Bad}
 use Rattle.section_spec.specs.Mpe.{MpeFields}
-use Rattle.frame_spec.specs.Starts.{run_on, run_within, known_run, IsTold, AreTold, IsSectionEdge, IsDatagramStart}
+use Rattle.frame_spec.specs.Starts.{run_on, run_within, known_run, IsTold, AreTold, IsDatagramStart}
 use Rattle.fec_frame.specs.Marks.{is_known_mark, is_start_mark, marked_byte, marked_run, IsRun, AreEdgesMarked, AreStartsMarked}
 use Rattle.fec_frame.proofs.KnownRuns.{marked_run_is}
 use Rattle.fec_frame.specs.Marking.{IsEndTold, AreMarkedUpTo}

@@ -1,5 +1,5 @@
 -- What placing a section does.
-use Rattle.std.proofs.Common.{◌≡◌, ◌⊎◌, inl, inr, ℕ, zero, suc, ◌+◌, ◌-◌, ◌*◌, ◌<◌, ◌≤◌, Bool, true, false, ◌&&◌, ◌||◌, cond, eqb, ltb, List, [], ◌∷◌, ◌++◌, length, get_or, set, Option, Some, None, refl, ap, ap₂, sym, ◌∙◌, subst, arith, length-set, append-nil, length-append}
+use Rattle.std.proofs.Common.{◌≡◌, ◌⊎◌, inl, inr, ℕ, ◌+◌, ◌-◌, ◌*◌, ◌<◌, ◌≤◌, Bool, true, false, ◌&&◌, cond, ltb, List, [], ◌∷◌, ◌++◌, length, get_or, set, Option, Some, None, refl, ap, ap₂, sym, ◌∙◌, subst, arith, length-set, append-nil, length-append}
 use Rattle.std.specs.Prelude.{Contains, is_some}
 use Rattle.std.proofs.lemmas.Bool.{cases_eq, cases_lt, ne_eqb}
 use Rattle.std.proofs.lemmas.List.{get_or-set_same, get_or-set_other, get_or_past}
@@ -7,8 +7,7 @@ use Rattle.std.proofs.lemmas.List.Elements.{Contains-append_left, Contains-push,
 use Rattle.std.proofs.lemmas.List.Concat.{flat_map-append}
 use Rattle.section_spec.specs.Mpe.{MpeFields, FecFields}
 use Rattle.frame_spec.specs.Sections.{FrameSection, data_section, parity_section, data_end, data_part, data_of}
-use Rattle.frame_spec.specs.Groups.{is_cut_by_table}
-use Rattle.frame_spec.specs.Known.{is_in, told_byte, first_told, known_byte}
+use Rattle.frame_spec.specs.Known.{is_in, told_byte, first_told}
 use Rattle.frame_spec.specs.Starts.{IsSectionEdge}
 use Rattle.frame_law.specs.Summary.{Summary, summary_more, is_apart, is_cut_by_summary, IsSummaryOf}
 use Rattle.frame_law.proofs.Known.{known_more}
@@ -17,7 +16,7 @@ use Rattle.fec_frame.specs.Marks.{is_known_mark, is_start_mark, marked_byte, Are
 use Rattle.fec_frame.proofs.Marking.{known_set}
 use Rattle.fec_frame.specs.declared.place.State.{State}
 use Rattle.fec_frame.specs.Filled.{IsFilled}
-use Rattle.fec_frame.specs.Stands.{IsOf, TakesIn, IsSameSummary, data_fields, summary_of}
+use Rattle.fec_frame.specs.Stands.{IsOf, TakesIn, IsSameSummary, summary_of}
 
 pub start_set : (marks : List ℕ) (at mark : ℕ) → at < length marks → is_start_mark mark ≡ true → is_known_mark mark ≡ is_known_mark (get_or marks at 0) → IsStartSet marks (set marks at mark) at
 start_set marks at mark below start known = record {

@@ -1,11 +1,11 @@
 -- Runs of rows, corrected and marked.
-use Rattle.std.proofs.Common.{◌≡◌, ◌≢◌, ◌⊎◌, inl, inr, ℕ, zero, suc, ◌+◌, ◌-◌, ◌*◌, ◌<◌, ◌≤◌, Bool, true, false, not, ◌&&◌, ◌||◌, cond, eqb, List, [], ◌∷◌, length, get_or, set, Option, Some, None, refl, ap, ap₂, sym, ◌∙◌, subst, arith, length-set}
+use Rattle.std.proofs.Common.{◌≡◌, ◌⊎◌, inl, inr, ℕ, ◌+◌, ◌-◌, ◌*◌, ◌<◌, ◌≤◌, Bool, true, false, not, ◌&&◌, ◌||◌, cond, List, length, get_or, set, Option, Some, None, refl, ap, ap₂, sym, ◌∙◌, subst, arith, length-set}
 use Rattle.std.specs.Prelude.{◌↔◌, is_none, is_some, count_by}
-use Rattle.std.specs.List.{range_with_len, list_any}
+use Rattle.std.specs.List.{range_with_len}
 use Rattle.std.proofs.lemmas.Bool.{cases_eq, cases_lt, eqb-true, eq-eqb}
-use Rattle.std.proofs.lemmas.Nat.{same_from_place}
+use Rattle.std.proofs.lemmas.Nat.{mul-add-lt, same_from_place}
+use Rattle.std.proofs.Math.Nat.{mul_comm}
 use Rattle.std.proofs.lemmas.List.{get_or-set_same, get_or-set_other}
-use Rattle.fec_spec.specs.Codeword.{IsCodeword}
 use Rattle.fec_spec.specs.Row.{Agrees, IsCorrectable, IsCorrected}
 use Rattle.fec_spec.specs.Table.{table_row}
 use Rattle.erasure_law.proofs.Tables.{get_or-table_row}
@@ -118,6 +118,33 @@ known_holds bytes marks place byte is = by_known (is_known_mark (get_or marks pl
     by_known : (known : Bool) → cond known (Some (get_or bytes place 0)) None ≡ Some byte → get_or bytes place 0 ≡ byte
     by_known true told = cc
     by_known false told = absurd (cc)
+
+-- No byte of the application data table is lacked.
+
+module _ (rows : ℕ) (bytes marks : List ℕ) (all : (place : ℕ) → place < 191 * rows → is_known_mark (get_or marks place 0) ≡ true) where
+  abbrev all_bytes : ℕ → Option ℕ
+  all_bytes = marked_byte bytes marks
+
+  none_lacks : (r : ℕ) → r < rows → lacks_data rows all_bytes r ≡ false
+  unfolding lacks_data
+  none_lacks r low_r =
+      none_range (λ (j : ℕ). is_none (all_bytes (j * rows + r))) 191 0
+      (λ i low.
+      let e : 0 + i ≡ i = omega arith in
+      ap (λ (j : ℕ). is_none (all_bytes (j * rows + r))) e ∙ unknown_by bytes marks (i * rows + r) ∙ ap not (all (i * rows + r) (subst (λ (n : ℕ). i * rows + r < n) (mul_comm rows 191) (mul-add-lt i rows r 191 low low_r))))
+
+  pub all_known : AreRowsSolved rows 0 rows bytes marks bytes marks 0 0
+  all_known = record {
+    long = refl;
+    marks_long = refl;
+    start = λ place. refl;
+    row = λ j r low from_r low_r. sym (row_has_data rows all_bytes r j low_r low (none_lacks r low_r));
+    other = λ j r low low_r out. refl;
+    mended_are = λ k is. sym (count_none (is_mended rows all_bytes) k 0
+        (λ i low. ap (λ (b : Bool). b && is_some (corrected_row rows all_bytes (0 + i))) (none_lacks (0 + i) (omega (arith, is, low)))));
+    left_are = λ k is. sym (count_none (is_left rows all_bytes) k 0
+        (λ i low. ap (λ (b : Bool). b && is_none (corrected_row rows all_bytes (0 + i))) (none_lacks (0 + i) (omega (arith, is, low)))));
+  }
 
 -- A run of rows that lack the same columns.
 

@@ -1,5 +1,5 @@
 -- What a section does to the bytes and marks of a table.
-use Rattle.std.specs.Prelude.{◌≡◌, ℕ, Bool, List, length, slice_index, if◌then◌else◌, Option, Some}
+use Rattle.std.specs.Prelude.{◌≡◌, ℕ, List, length, slice_index, if◌then◌else◌, Some}
 use Rattle.frame_spec.specs.Known.{is_in}
 use Rattle.fec_frame.specs.Marks.{is_start_mark, marked_byte}
 

@@ -1,5 +1,5 @@
 -- Marks of the places of a table: whether the byte at a place is known (1), and whether a datagram can start there (2).
-use Rattle.std.specs.Prelude.{◌≡◌, ◌≢◌, ◌⊎◌, ℕ, ◌+◌, ◌-◌, ◌*◌, ◌<◌, ◌≤◌, Bool, true, false, not, List, length, slice_index, bit_and, ◌==◌, if◌then◌else◌, Option, Some, None}
+use Rattle.std.specs.Prelude.{◌≡◌, ◌≢◌, ◌⊎◌, ℕ, ◌-◌, ◌*◌, ◌<◌, ◌≤◌, Bool, true, false, not, List, length, slice_index, bit_and, ◌==◌, if◌then◌else◌, Option, Some, None}
 use Rattle.section_spec.specs.Mpe.{MpeFields}
 use Rattle.frame_spec.specs.Starts.{run_within, IsSectionEdge, IsDatagramStart}
 

@@ -1,5 +1,5 @@
 -- A table stands for the sections that were placed in it.
-use Rattle.std.specs.Prelude.{◌≡◌, ℕ, ◌+◌, ◌*◌, ◌<◌, Bool, false, List, [], ◌++◌, length, ◌==◌, Option, option_map, is_some}
+use Rattle.std.specs.Prelude.{◌≡◌, ℕ, ◌*◌, ◌<◌, Bool, false, List, [], ◌++◌, length, ◌==◌, Option, option_map, is_some}
 use Rattle.section_spec.specs.Mpe.{MpeFields, FecFields}
 use Rattle.frame_spec.specs.Sections.{FrameSection, data_of, data_part}
 use Rattle.frame_spec.specs.Known.{first_told, told_byte, known_byte}

@@ -9,6 +9,7 @@ use crate::run::{gap_end, run_end};
 use arrayvec::ArrayVec;
 
 /// Answers where the rows end that are known in a column exactly where row `from` is: `end` at most.
+#[tactic(auto, using(crate::proofs::KnownRuns::run_some, crate::proofs::KnownRuns::gap_some))]
 fn column_end(marks: &[u8], rows: usize, j: usize, from: usize, end: usize) -> usize
     requires column { j < 255 }
     requires rows_most { rows ≤ 1024 }
@@ -21,9 +22,9 @@ fn column_end(marks: &[u8], rows: usize, j: usize, from: usize, end: usize) -> u
 {
     let first = j * rows;
     let to = if is_known(marks[first + from]) {
-        run_end(marks, first + from + 1, first + end)
+        run_end(marks, first + from, first + end)
     } else {
-        gap_end(marks, first + from + 1, first + end)
+        gap_end(marks, first + from, first + end)
     };
     to - first
 }

@@ -7,7 +7,10 @@ use crate::fill::is_known;
 /// The bit of a mark that tells that a datagram can start.
 const START: u8 = 2;
 
-/// So many marks are looked at together.
+/// So many marks are looked at together first.
+const WIDE: usize = 256;
+
+/// So many of the others are.
 const BLOCK: usize = 64;
 
 /// Answers whether a datagram can start at the place of a mark.
@@ -18,25 +21,25 @@ pub fn is_start(mark: u8) -> bool
 }
 
 /// The bits that all marks of a block have.
-fn common_bits(marks: &[u8], from: usize) -> u8
-    requires within { from + 64 ≤ length marks.now }
-    ensures known { is_known_mark result ≡ true → (place : ℕ) → from ≤ place → place < from + 64 → is_known_mark (slice_index marks.now place) ≡ true }
+fn common_bits(marks: &[u8], from: usize, size: usize) -> u8
+    requires within { from + size ≤ length marks.now }
+    ensures known { is_known_mark result ≡ true → (place : ℕ) → from ≤ place → place < from + size → is_known_mark (slice_index marks.now place) ≡ true }
 {
     let mut bits = 255;
-    for i in 0..BLOCK {
+    for i in 0..size {
         bits &= marks[from + i];
     }
     bits
 }
 
 /// The bits that any mark of a block has.
-fn any_bits(marks: &[u8], from: usize) -> u8
-    requires within { from + 64 ≤ length marks.now }
-    ensures unknown { is_known_mark result ≡ false → (place : ℕ) → from ≤ place → place < from + 64 → is_known_mark (slice_index marks.now place) ≡ false }
-    ensures no_start { is_start_mark result ≡ false → (place : ℕ) → from ≤ place → place < from + 64 → is_start_mark (slice_index marks.now place) ≡ false }
+fn any_bits(marks: &[u8], from: usize, size: usize) -> u8
+    requires within { from + size ≤ length marks.now }
+    ensures unknown { is_known_mark result ≡ false → (place : ℕ) → from ≤ place → place < from + size → is_known_mark (slice_index marks.now place) ≡ false }
+    ensures no_start { is_start_mark result ≡ false → (place : ℕ) → from ≤ place → place < from + size → is_start_mark (slice_index marks.now place) ≡ false }
 {
     let mut bits = 0;
-    for i in 0..BLOCK {
+    for i in 0..size {
         bits |= marks[from + i];
     }
     bits
@@ -49,7 +52,10 @@ pub fn run_end(marks: &[u8], start: usize, limit: usize) -> usize
     ensures run { IsRun marks.now limit start result }
 {
     let mut end = start;
-    while limit - end >= BLOCK && is_known(common_bits(marks, end)) {
+    while limit - end >= WIDE && is_known(common_bits(marks, end, WIDE)) {
+        end += WIDE;
+    }
+    while limit - end >= BLOCK && is_known(common_bits(marks, end, BLOCK)) {
         end += BLOCK;
     }
     while end < limit && is_known(marks[end]) {
@@ -68,7 +74,10 @@ pub fn gap_end(marks: &[u8], start: usize, limit: usize) -> usize
     ensures over { result < limit → is_known_mark (slice_index marks.now result) ≡ true }
 {
     let mut end = start;
-    while limit - end >= BLOCK && !is_known(any_bits(marks, end)) {
+    while limit - end >= WIDE && !is_known(any_bits(marks, end, WIDE)) {
+        end += WIDE;
+    }
+    while limit - end >= BLOCK && !is_known(any_bits(marks, end, BLOCK)) {
         end += BLOCK;
     }
     while end < limit && !is_known(marks[end]) {
@@ -87,7 +96,10 @@ pub fn next_start(marks: &[u8], from: usize, limit: usize) -> usize
     ensures start { result < limit → is_start_mark (slice_index marks.now result) ≡ true }
 {
     let mut place = from;
-    while limit - place >= BLOCK && !is_start(any_bits(marks, place)) {
+    while limit - place >= WIDE && !is_start(any_bits(marks, place, WIDE)) {
+        place += WIDE;
+    }
+    while limit - place >= BLOCK && !is_start(any_bits(marks, place, BLOCK)) {
         place += BLOCK;
     }
     while place < limit && !is_start(marks[place]) {

@@ -4,10 +4,12 @@ ghost use Rattle.std.specs.List.{range_with_len};
 ghost use Rattle.frame_spec.specs.Sections.{FrameSection};
 ghost use Rattle.fec_frame.specs.Marks.{is_known_mark, is_start_mark};
 ghost use Rattle.fec_frame.specs.Runs.{AreRowsSolved, IsColumnMarked, IsMarked, IsPattern, is_good};
+ghost use Rattle.rs_erasure.specs.Values.{HasValues};
 
 use crate::fill::{is_known, with_known};
 use crate::pattern::{pattern_end, unknown_in};
-use rs_erasure::decode_run;
+use crate::run::run_end;
+use rs_erasure::{decode_run_with_values, find_run_values};
 
 /// Rows that lacked a byte of the application data table.
 #[derive(Clone, Copy, PartialEq, Eq)]
@@ -93,7 +95,54 @@ fn lacks_data(marks: &[u8], rows: usize, r: usize) -> bool
     false
 }
 
-/// Corrects the rows of a run that lack the same columns. `work` and `bad` have 64 bytes and one for each row.
+/// Answers after which row none lacks a byte of the application data table, from `to` on.
+fn lacking_end(marks: &[u8], rows: usize, to: usize) -> usize
+    requires rows_most { rows ≤ 1024 }
+    requires long { length marks.now ≡ 255 * rows }
+    requires within { to ≤ rows }
+    ensures least { to ≤ result }
+    ensures most { result ≤ rows }
+{
+    let mut end = rows;
+    while end > to && !lacks_data(marks, rows, end - 1) {
+        end -= 1;
+    }
+    end
+}
+
+/// Finds the values of the rows of a run, where they do not stand in `work` yet, and with them those of all rows after it that lack
+/// application data. Answers where the rows end, from `from` on, whose values stand there.
+fn with_values(
+    bytes: &[u8],
+    marks: &[u8],
+    work: &mut [u8],
+    rows: usize,
+    from: usize,
+    to: usize,
+    valued: usize,
+) -> usize
+    requires rows_most { rows ≤ 1024 }
+    requires bytes_long { length bytes.now ≡ 255 * rows }
+    requires marks_long { length marks.now ≡ 255 * rows }
+    requires work_long { length work.old ≡ 64 * rows }
+    requires order { from < to }
+    requires within { to ≤ rows }
+    requires valued_most { valued ≤ rows }
+    requires values { (r : ℕ) → from ≤ r → r < valued → HasValues rows bytes.now work.old r }
+    ensures least { to ≤ result }
+    ensures most { result ≤ rows }
+    ensures values { (r : ℕ) → from ≤ r → r < result → HasValues rows bytes.now work.new r }
+{
+    if to <= valued {
+        return valued;
+    }
+    let end = lacking_end(marks, rows, to);
+    find_run_values(bytes, rows, from, end, work);
+    end
+}
+
+/// Corrects the rows of a run that lack the same columns. `work` and `bad` have 64 bytes and one for each row; the values of the rows
+/// before `valued` stand in `work`, from those of the run on.
 fn solve_run(
     bytes: &mut [u8],
     marks: &mut [u8],
@@ -102,6 +151,7 @@ fn solve_run(
     rows: usize,
     from: usize,
     to: usize,
+    valued: &mut usize,
 ) -> RowCounts
     requires rows_most { rows ≤ 1024 }
     requires bytes_long { length bytes.old ≡ 255 * rows }
@@ -111,8 +161,12 @@ fn solve_run(
     requires order { from < to }
     requires within { to ≤ rows }
     requires pattern { IsPattern rows marks.old 255 from to }
+    requires valued_most { valued.old ≤ rows }
+    requires values { (r : ℕ) → from ≤ r → r < valued.old → HasValues rows bytes.old work.old r }
     ensures solved { AreRowsSolved rows from to bytes.old marks.old bytes.new marks.new result.mended result.left }
     ensures few { result.mended + result.left ≤ to - from }
+    ensures valued_most { valued.new ≤ rows }
+    ensures values { (r : ℕ) → to ≤ r → r < valued.new → HasValues rows bytes.new work.new r }
 {
     if !lacks_data(marks, rows, from) {
         return RowCounts { mended: 0, left: 0 };
@@ -125,7 +179,8 @@ fn solve_run(
             left: count,
         };
     }
-    decode_run(bytes, rows, from, to, &unknown, work, bad);
+    *valued = with_values(bytes, marks, work, rows, from, to, *valued);
+    decode_run_with_values(bytes, rows, from, to, &unknown, work, bad);
     mark_rows(marks, rows, from, to, bad);
     let mended = count_good(bad, from, to);
     RowCounts {
@@ -134,8 +189,8 @@ fn solve_run(
     }
 }
 
-/// Corrects all rows.
-pub fn solve_rows(
+/// Corrects all rows, run after run.
+fn solve_lacking(
     bytes: &mut [u8],
     marks: &mut [u8],
     work: &mut [u8],
@@ -152,12 +207,44 @@ pub fn solve_rows(
     let mut mended = 0u32;
     let mut left = 0u32;
     let mut from = 0;
+    let mut valued = 0;
     while from < rows {
         let to = pattern_end(marks, rows, from);
-        let counts = solve_run(bytes, marks, work, bad, rows, from, to);
+        let counts = solve_run(bytes, marks, work, bad, rows, from, to, &mut valued);
         mended += counts.mended;
         left += counts.left;
         from = to;
     }
     RowCounts { mended, left }
+}
+
+/// Answers whether every byte of the application data table is known.
+fn has_all_data(marks: &[u8], rows: usize) -> bool
+    requires rows_most { rows ≤ 1024 }
+    requires long { length marks.now ≡ 255 * rows }
+    ensures yes { result ≡ true → (place : ℕ) → place < 191 * rows → is_known_mark (slice_index marks.now place) ≡ true }
+{
+    run_end(marks, 0, 191 * rows) == 191 * rows
+}
+
+/// Corrects all rows. Where none lacks application data the columns are not looked at one by one.
+pub fn solve_rows(
+    bytes: &mut [u8],
+    marks: &mut [u8],
+    work: &mut [u8],
+    bad: &mut [u8],
+    rows: usize,
+) -> RowCounts
+    requires rows_most { rows ≤ 1024 }
+    requires bytes_long { length bytes.old ≡ 255 * rows }
+    requires marks_long { length marks.old ≡ 255 * rows }
+    requires work_long { length work.old ≡ 64 * rows }
+    requires bad_long { length bad.old ≡ rows }
+    ensures solved { AreRowsSolved rows 0 rows bytes.old marks.old bytes.new marks.new result.mended result.left }
+{
+    if has_all_data(marks, rows) {
+        RowCounts { mended: 0, left: 0 }
+    } else {
+        solve_lacking(bytes, marks, work, bad, rows)
+    }
 }

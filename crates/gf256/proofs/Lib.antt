@@ -1,2 +1,3 @@
 pub mod Places
 pub mod Lookup
+pub mod ByHalves

@@ -1,32 +1,12 @@
 //! Elements of the field: bytes as polynomials over bits, modulo x^8+x^4+x^3+x^2+1 (EN 301 192 clause 9).
-ghost use Rattle.std.specs.Prelude.{◌==◌, ◌≡◌, ◌≢◌, if◌then◌else◌};
-ghost use Rattle.division_law.specs.Registers.{register_step};
+ghost use Rattle.std.specs.Prelude.{◌≡◌, ◌≢◌, if◌then◌else◌};
 ghost use Rattle.fec_spec.specs.Field.{field_power, field_product, field_sum};
 
-/// What x^8 is: x^4+x^3+x^2+1 (EN 301 192 clause 9).
-const POLYNOMIAL: u8 = 0x1D;
+use crate::halves::{HIGH_HIGH, HIGH_LOW, LOW_HIGH, LOW_LOW};
 
 /// An element of the field; bit 7 is the coefficient of x^7.
 #[derive(Clone, Copy, Debug, PartialEq, Eq)]
 pub struct Gf(pub u8);
-
-/// x times the element.
-fn doubled(value: u8) -> u8
-    ensures { result ≡ register_step 7 0x1D value }
-{
-    if value < 0x80 {
-        value * 2
-    } else {
-        (value << 1) ^ POLYNOMIAL
-    }
-}
-
-/// The value where the bit is 1, else 0.
-fn chosen(bit: u8, value: u8) -> u8
-    ensures { result ≡ (if bit == 1 then value else 0) }
-{
-    if bit == 1 { value } else { 0 }
-}
 
 /// The product where it is wanted, else the first element.
 fn multiplied(done: Gf, base: Gf, is_wanted: bool) -> Gf
@@ -43,17 +23,17 @@ impl Gf {
         Gf(self.0 ^ other.0)
     }
 
-    /// The product of the polynomials, modulo x^8+x^4+x^3+x^2+1.
+    /// The product of the polynomials, modulo x^8+x^4+x^3+x^2+1, as the sum of the products of the halves.
     pub fn mul(self, other: Gf) -> Gf
         ensures { result.0 ≡ field_product self.0 other.0 }
     {
-        let mut sum = 0u8;
-        let mut shifted = other.0;
-        for place in 0..8u32 {
-            sum ^= chosen((self.0 >> place) & 1, shifted);
-            shifted = doubled(shifted);
-        }
-        Gf(sum)
+        let low = usize::from(self.0 % 16);
+        let high = usize::from(self.0 / 16);
+        let by_low = usize::from(other.0 % 16);
+        let by_high = usize::from(other.0 / 16);
+        let first = HIGH_HIGH[high][by_high] ^ LOW_HIGH[low][by_high];
+        let second = HIGH_LOW[high][by_low] ^ LOW_LOW[low][by_low];
+        Gf(first ^ second)
     }
 
     /// The product of `exponent` times the element; 1 for no time.

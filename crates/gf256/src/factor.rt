@@ -2,9 +2,10 @@
 //!
 //! The product with a byte is the sum of those with its two halves, four bits each: two tables of 16 products are enough.
 ghost use Rattle.std.specs.Prelude.{◌*◌, ◌≡◌, ◌<◌, ◌≤◌, ℕ, map, slice_index};
-ghost use Rattle.fec_spec.specs.Field.{field_product};
+ghost use Rattle.fec_spec.specs.Field.{field_product, field_sum};
 
 use crate::element::Gf;
+use crate::halves::{HIGH_HIGH, HIGH_LOW, LOW_HIGH, LOW_LOW};
 use std::simd::prelude::*;
 
 /// How far the higher half of a byte is shifted.
@@ -22,15 +23,14 @@ pub(crate) struct Factor {
     ghost high_products: { (i : ℕ) → i < 16 → slice_index high i ≡ field_product value.0 (i * 16) },
 }
 
-/// The products of a factor with 0 to 15 times a byte.
+/// The sums of the bytes at each place.
 #[inline(always)]
-fn products(value: Gf, unit: u8) -> [u8; 16]
-    requires { unit ≤ 16 }
-    ensures { (i : ℕ) → i < 16 → slice_index result i ≡ field_product value.0 (i * unit) }
+fn sums(one: &[u8; 16], other: &[u8; 16]) -> [u8; 16]
+    ensures { (i : ℕ) → i < 16 → slice_index result i ≡ field_sum (slice_index one.now i) (slice_index other.now i) }
 {
     let mut table = [0u8; 16];
     for i in 0..16usize {
-        table[i] = Gf(i as u8 * unit).mul(value).0;
+        table[i] = one[i] ^ other[i];
     }
     table
 }
@@ -40,8 +40,10 @@ impl Factor {
     pub(crate) fn of(value: Gf) -> Factor
         ensures { result.value.0 ≡ value.0 }
     {
-        let low = u8x16::from_array(products(value, 1));
-        let high = u8x16::from_array(products(value, 16));
+        let low_half = usize::from(value.0 % 16);
+        let high_half = usize::from(value.0 / 16);
+        let low = u8x16::from_array(sums(&HIGH_LOW[high_half], &LOW_LOW[low_half]));
+        let high = u8x16::from_array(sums(&HIGH_HIGH[high_half], &LOW_HIGH[low_half]));
         Factor { value, low, high }
     }
 

@@ -7,6 +7,7 @@
 
 mod element;
 mod factor;
+mod halves;
 mod kernels;
 mod plain;
 #[cfg(test)]

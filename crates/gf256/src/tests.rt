@@ -26,6 +26,16 @@ fn elements_are_those_by_hand(rt: HostRuntime) {
     }
 }
 
+/// By halves and bit by bit: all pairs of elements.
+#[test]
+fn products_are_those_of_the_plain_body(rt: HostRuntime) {
+    for one in 0..=255u8 {
+        for other in 0..=255u8 {
+            assert_eq!(rt; Gf(one).mul(Gf(other)), plain::mul(Gf(one), Gf(other)));
+        }
+    }
+}
+
 /// Place i has i times `factor` modulo 256.
 fn column(alloc: Global, length: usize, factor: usize) -> Result<Vec<u8>, AllocError>
     ensures { IfOk result (λ v. vec_len v ≡ length) }

@@ -1,5 +1,5 @@
 -- One column of a buffer, changed through a part of the buffer.
-use Rattle.std.proofs.Common.{ℕ, List, ◌≡◌, ◌++◌, ◌+◌, ◌-◌, ◌*◌, ◌<◌, ◌≤◌, inl, inr, length, get_or, take, drop, refl, ap, sym, ◌∙◌, arith, length-take, get_or-take, get_or-drop, length-append, length-drop, slice_set}
+use Rattle.std.proofs.Common.{ℕ, List, ◌≡◌, ◌⊎◌, ◌++◌, ◌+◌, ◌-◌, ◌*◌, ◌<◌, ◌≤◌, inl, inr, length, get_or, take, drop, refl, ap, sym, ◌∙◌, arith, length-take, get_or-take, get_or-drop, length-append, length-drop, slice_set}
 use Rattle.std.proofs.Math.Nat.{mul-le-mul_right}
 use Rattle.std.proofs.Math.Seq.{get_or-append_right}
 use Rattle.std.proofs.lemmas.Bool.{cases_lt}
@@ -13,6 +13,12 @@ use Rattle.rs_erasure.specs.Columns.{IsColumnChanged, cell}
 pub cell_is : (rows : ℕ) (buffer : List ℕ) (column row : ℕ) → cell rows buffer column row ≡ get_or buffer (column * rows + row) 0
 unfolding cell
 cell_is rows buffer column row = refl
+
+-- a changed column stayed in the rows outside the run
+pub column_outside : (rows from to column : ℕ) (f : ℕ → ℕ) (old new : List ℕ) → IsColumnChanged rows from to column f old new
+    → (j r : ℕ) → r < rows → (r < from) ⊎ (to ≤ r) → cell rows new j r ≡ cell rows old j r
+column_outside rows from to column f old new is j r low (inl before) = is.elsewhere j r low (λ e ge lt. omega (arith, before, ge))
+column_outside rows from to column f old new is j r low (inr behind) = is.elsewhere j r low (λ e ge lt. omega (arith, behind, lt))
 
 -- a column ends where a later one begins, or before
 pub column_below : (j k rows r : ℕ) → j < k → r ≤ rows → j * rows + r ≤ k * rows

@@ -25,6 +25,12 @@ pub changed_to : (rows from to column : ℕ) (f g : ℕ → ℕ) (old new : List
     → IsColumnChanged rows from to column f old new → IsColumnChanged rows from to column g old new
 changed_to rows from to column f g old new same is = record { here = λ r ge lt. is.here r ge lt ∙ same r ge lt; elsewhere = is.elsewhere }
 
+-- the same rows, told otherwise
+pub changed_run : (rows rows2 from from2 to to2 column : ℕ) (f : ℕ → ℕ) (old new : List ℕ) → rows ≡ rows2 → from ≡ from2 → to ≡ to2
+    → IsColumnChanged rows from to column f old new → IsColumnChanged rows2 from2 to2 column f old new
+changed_run rows rows2 from from2 to to2 column f old new e g h is =
+    subst (λ a. IsColumnChanged a from2 to2 column f old new) e (subst (λ a. IsColumnChanged rows a to2 column f old new) g (subst (λ a. IsColumnChanged rows from a column f old new) h is))
+
 -- the byte of a row in a column
 pub get_or-row : (rows : ℕ) (table : List ℕ) (r j : ℕ) → j < 255 → get_or (table_row 255 rows table r) j 0 ≡ cell rows table j r
 get_or-row rows table r j lt = get_or-table_row 255 rows table r j lt ∙ sym (cell_is rows table j r)

@@ -2,7 +2,7 @@
 
 ghost use Rattle.fec_spec.specs.Field.{field_product, field_sum};
 ghost use Rattle.rs_erasure.specs.Columns.{IsColumnChanged, cell};
-ghost use Rattle.std.specs.Prelude.{◌+◌, ◌*◌, ◌<◌, ◌≡◌, ◌≤◌, ℕ, length, slice_index};
+ghost use Rattle.std.specs.Prelude.{◌+◌, ◌-◌, ◌*◌, ◌<◌, ◌≡◌, ◌≤◌, ℕ, length, slice_index};
 
 use gf256::{Gf, horner_step, mul_add};
 
@@ -25,19 +25,29 @@ pub fn clear_column(run: Run, buffer: &mut [u8], column: usize)
     buffer[start + run.from..start + run.to].fill(0);
 }
 
-/// One step of Horner's rule: a column of `work` becomes itself times `root` plus a column of the table.
-pub fn step_column(root: Gf, run: Run, table: &[u8], column: usize, work: &mut [u8], into: usize)
+/// One step of Horner's rule: a column of `work` becomes itself times `root` plus a column of a source, from the rows of its own run.
+pub fn step_column(
+    root: Gf,
+    there: Run,
+    source: &[u8],
+    column: usize,
+    run: Run,
+    work: &mut [u8],
+    into: usize,
+)
     requires order { run.from ≤ run.to }
     requires within { run.to ≤ run.rows }
-    requires table_room { (column + 1) * run.rows ≤ length table.now }
+    requires there_within { there.to ≤ there.rows }
+    requires same { there.to ≡ there.from + (run.to - run.from) }
+    requires source_room { (column + 1) * there.rows ≤ length source.now }
     requires room { (into + 1) * run.rows ≤ length work.old }
-    ensures { IsColumnChanged run.rows run.from run.to into (λ r. field_sum (field_product (cell run.rows work.old into r) root.0) (cell run.rows table.now column r)) work.old work.new }
+    ensures { IsColumnChanged run.rows run.from run.to into (λ r. field_sum (field_product (cell run.rows work.old into r) root.0) (cell there.rows source.now column (there.from + (r - run.from)))) work.old work.new }
 {
-    let there = column * run.rows;
+    let from = column * there.rows;
     let here = into * run.rows;
     horner_step(
         root,
-        &table[there + run.from..there + run.to],
+        &source[from + there.from..from + there.to],
         &mut work[here + run.from..here + run.to],
     );
 }

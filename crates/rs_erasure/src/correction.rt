@@ -36,6 +36,7 @@ fn spread(scale: Gf, power: Gf, roots: &[u8], column: usize, run: Run, work: &mu
     requires low { column < length roots.now }
     ensures before { (r : ℕ) → run.from ≤ r → r < run.to → (j : ℕ) → j < column → cell run.rows work.new j r ≡ field_sum (cell run.rows work.old j r) (field_product (field_product (differences (drop (length roots.now - j) roots.now) power.0) scale.0) (cell run.rows work.old column r)) }
     ensures kept { (r : ℕ) → run.from ≤ r → r < run.to → (j : ℕ) → column ≤ j → cell run.rows work.new j r ≡ cell run.rows work.old j r }
+    ensures outside { (j r : ℕ) → r < run.rows → (r < run.from) ⊎ (run.to ≤ r) → cell run.rows work.new j r ≡ cell run.rows work.old j r }
 {
     let mut factor = scale;
     for into in 0..column {
@@ -66,6 +67,7 @@ fn correct_column(
     ensures zero { (r : ℕ) → run.from ≤ r → r < run.to → ((j : ℕ) → j < length unknown.now → cell run.rows work.old j r ≡ 0) → ((j : ℕ) → j < length unknown.now → cell run.rows work.new j r ≡ 0) × (table_row 255 run.rows table.new r ≡ table_row 255 run.rows table.old r) }
     ensures known { (j r : ℕ) → r < run.rows → is_among j unknown.now ≡ false → cell run.rows table.new j r ≡ cell run.rows table.old j r }
     ensures outside { (j r : ℕ) → r < run.rows → (r < run.from) ⊎ (run.to ≤ r) → cell run.rows table.new j r ≡ cell run.rows table.old j r }
+    ensures work_outside { (j r : ℕ) → r < run.rows → (r < run.from) ⊎ (run.to ≤ r) → cell run.rows work.new j r ≡ cell run.rows work.old j r }
 {
     let power = Gf(roots[at]);
     let column = unknown.len() - 1 - at;
@@ -88,6 +90,7 @@ pub fn correct(unknown: &[u8], roots: &[u8], run: Run, work: &mut [u8], table: &
     ensures zero { (r : ℕ) → run.from ≤ r → r < run.to → ((j : ℕ) → j < length unknown.now → cell run.rows work.old j r ≡ 0) → table_row 255 run.rows table.new r ≡ table_row 255 run.rows table.old r }
     ensures known { (j r : ℕ) → r < run.rows → is_among j unknown.now ≡ false → cell run.rows table.new j r ≡ cell run.rows table.old j r }
     ensures outside { (j r : ℕ) → r < run.rows → (r < run.from) ⊎ (run.to ≤ r) → cell run.rows table.new j r ≡ cell run.rows table.old j r }
+    ensures work_outside { (j r : ℕ) → r < run.rows → (r < run.from) ⊎ (run.to ≤ r) → cell run.rows work.new j r ≡ cell run.rows work.old j r }
 {
     for at in 0..unknown.len() {
         correct_column(unknown, roots, at, run, work, table);

@@ -1,14 +1,15 @@
-//! Column by column, in the rows of a run: the values of the rows, and the elimination of the unknown places from them.
+//! Column by column, in the rows of a run: the elimination of the unknown places from the values of the rows.
 
-ghost use Rattle.erasure_law.specs.Roots.{combined, place_power, root_polynomial, values_of};
+ghost use Rattle.erasure_law.specs.Roots.{combined, place_power, root_polynomial};
 ghost use Rattle.fec_spec.specs.Codeword.{row_value};
 ghost use Rattle.fec_spec.specs.Field.{field_power, field_product, field_sum};
 ghost use Rattle.fec_spec.specs.Table.{table_row};
 ghost use Rattle.rs_erasure.specs.Columns.{IsColumnChanged, cell};
+ghost use Rattle.rs_erasure.specs.Values.{HasValues};
 ghost use Rattle.std.specs.List.{All};
-ghost use Rattle.std.specs.Prelude.{◌*◌, ◌-◌, ◌<◌, ◌≡◌, ◌≤◌, ℕ, drop, length, map};
+ghost use Rattle.std.specs.Prelude.{◌*◌, ◌-◌, ◌<◌, ◌≡◌, ◌≤◌, ◌⊎◌, ℕ, drop, length, map};
 
-use crate::columns::{Run, add_to_later, clear_column, step_column};
+use crate::columns::{Run, add_to_later};
 use crate::values::power_of;
 use arrayvec::ArrayVec;
 use gf256::Gf;
@@ -26,36 +27,6 @@ pub fn powers_of(places: &[u8]) -> ArrayVec<u8, 64>
     powers
 }
 
-/// The values of the rows at the power m of 2, by Horner's rule, in column m of `work`.
-fn find_value(m: u8, run: Run, table: &[u8], work: &mut [u8])
-    requires order { run.from ≤ run.to }
-    requires within { run.to ≤ run.rows }
-    requires table_room { length table.now ≡ 255 * run.rows }
-    requires room { length work.old ≡ 64 * run.rows }
-    requires low { m < 64 }
-    ensures { IsColumnChanged run.rows run.from run.to m (λ r. row_value (field_power 2 m) (table_row 255 run.rows table.now r)) work.old work.new }
-{
-    let root = Gf(2).power(u32::from(m));
-    let into = usize::from(m);
-    clear_column(run, work, into);
-    for column in 0..255 {
-        step_column(root, run, table, column, work, into);
-    }
-}
-
-/// The values of the rows at the powers 0 to 63 of 2, in the 64 columns of `work`.
-pub fn find_values(run: Run, table: &[u8], work: &mut [u8])
-    requires order { run.from ≤ run.to }
-    requires within { run.to ≤ run.rows }
-    requires table_room { length table.now ≡ 255 * run.rows }
-    requires room { length work.old ≡ 64 * run.rows }
-    ensures { (r : ℕ) → run.from ≤ r → r < run.to → (m : ℕ) → m < 64 → cell run.rows work.new m r ≡ values_of (table_row 255 run.rows table.now r) m }
-{
-    for m in 0..64u8 {
-        find_value(m, run, table, work);
-    }
-}
-
 /// One root more: adds to each column from `first` on the root times the column before it.
 fn eliminate_root(root: Gf, first: usize, run: Run, work: &mut [u8])
     requires order { run.from ≤ run.to }
@@ -65,6 +36,7 @@ fn eliminate_root(root: Gf, first: usize, run: Run, work: &mut [u8])
     requires low { first ≤ 64 }
     ensures raised { (r : ℕ) → run.from ≤ r → r < run.to → (j : ℕ) → first ≤ j → j < 64 → cell run.rows work.new j r ≡ field_sum (cell run.rows work.old j r) (field_product root.0 (cell run.rows work.old (j - 1) r)) }
     ensures kept { (r : ℕ) → run.from ≤ r → r < run.to → (j : ℕ) → j < first → cell run.rows work.new j r ≡ cell run.rows work.old j r }
+    ensures outside { (j r : ℕ) → r < run.rows → (r < run.from) ⊎ (run.to ≤ r) → cell run.rows work.new j r ≡ cell run.rows work.old j r }
 {
     let mut column = 64;
     while column > first {
@@ -79,7 +51,8 @@ pub fn eliminate(roots: &[u8], run: Run, work: &mut [u8])
     requires within { run.to ≤ run.rows }
     requires room { length work.old ≡ 64 * run.rows }
     requires few { length roots.now ≤ 64 }
-    ensures { (r : ℕ) → run.from ≤ r → r < run.to → (j : ℕ) → j < 64 → cell run.rows work.new j r ≡ combined (root_polynomial (drop (length roots.now - j) roots.now)) (λ m. cell run.rows work.old m r) (j - length roots.now) }
+    ensures eliminated { (r : ℕ) → run.from ≤ r → r < run.to → (j : ℕ) → j < 64 → cell run.rows work.new j r ≡ combined (root_polynomial (drop (length roots.now - j) roots.now)) (λ m. cell run.rows work.old m r) (j - length roots.now) }
+    ensures outside { (j r : ℕ) → r < run.rows → (r < run.from) ⊎ (run.to ≤ r) → cell run.rows work.new j r ≡ cell run.rows work.old j r }
 {
     let mut left = roots.len();
     while left > 0 {

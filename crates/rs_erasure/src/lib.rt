@@ -1,7 +1,8 @@
 //! Rows of an MPE-FEC frame with unknown places, corrected (EN 301 192 clause 9).
 //!
 //! Receiving: sections -> fec_frame -> [rs_erasure] -> frame_walk -> datagrams.
-//! Begin with `decode_row`; `decode_run` does many rows with the same unknown columns at once.
+//! Begin with `decode_row`; `decode_run` does many rows with the same unknown columns at once. For many short runs of a table find
+//! the values of all their rows once (`find_run_values`), and then decode run by run (`decode_run_with_values`).
 #![tactic(auto)]
 
 mod columns;
@@ -10,11 +11,12 @@ mod elimination;
 mod marks;
 mod row;
 mod run;
+mod table_values;
 mod values;
 mod weights;
 
 pub use row::{RowAnswer, decode_row};
-pub use run::decode_run;
+pub use run::{decode_run, decode_run_with_values, find_run_values};
 
 #[cfg(test)]
 mod tests;

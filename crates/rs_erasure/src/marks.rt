@@ -59,6 +59,7 @@ pub fn mark(first: usize, run: Run, work: &mut [u8], bad: &mut [u8])
     requires marks { length bad.old ≡ run.rows }
     requires low { first ≤ 64 }
     ensures run { (r : ℕ) → run.from ≤ r → r < run.to → IsMarked run.rows first work.old work.new r (slice_index bad.new r) }
+    ensures outside { (j r : ℕ) → r < run.rows → (r < run.from) ⊎ (run.to ≤ r) → cell run.rows work.new j r ≡ cell run.rows work.old j r }
     ensures kept { (r : ℕ) → (r < run.from) ⊎ (run.to ≤ r) → slice_index bad.new r ≡ slice_index bad.old r }
 {
     for row in run.from..run.to {

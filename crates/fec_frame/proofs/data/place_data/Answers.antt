@@ -1,4 +1,4 @@
-use Rattle.std.proofs.Common.{◌≡◌, ◌+◌, ℕ, List, Bool, true, false, length, refl, sym, ◌∙◌}
+use Rattle.std.proofs.Common.{◌≡◌, true, false, refl, sym, ◌∙◌}
 use Rattle.frame_spec.specs.Sections.{data_section}
 use Rattle.frame_law.proofs.Summary.{cut_by_summary}
 use Rattle.fec_frame.specs.Stands.{data_fields, summary_of}

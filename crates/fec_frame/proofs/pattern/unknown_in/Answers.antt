@@ -1,4 +1,4 @@
-use Rattle.std.proofs.Common.{rules, ◌≡◌, ◌+◌, ◌*◌, ◌≤◌, ◌++◌, ◌∙◌, [], ◌∷◌, List, ℕ, cond, get_or, ap, ap₂, sym, length, arith}
+use Rattle.std.proofs.Common.{◌+◌, ◌*◌, ◌++◌, ◌∙◌, [], ◌∷◌, List, ℕ, cond, get_or, ap, ap₂, sym, length, arith}
 use Rattle.fec_frame.specs.Marks.{is_known_mark}
 use Rattle.fec_frame.proofs.Patterns.{unmarked_more, unmarked_none}
 use Rattle.fec_frame.proofs.pattern.unknown_in.Goals as goal

@@ -22,3 +22,13 @@ invariant-loop-end-2 l = record {
 
 abbrev pub decreases-loop-end-2 : goal.decreases-loop-end-2
 decreases-loop-end-2 l = l.limit - l.end
+
+abbrev pub invariant-loop-end-3 : goal.invariant-loop-end-3
+invariant-loop-end-3 l = record {
+  order : l.start ≤ l.end;
+  within : l.end ≤ l.limit;
+  known : (place : ℕ) → l.start ≤ place → place < l.end → is_known_mark (slice_index l.marks place) ≡ true;
+}
+
+abbrev pub decreases-loop-end-3 : goal.decreases-loop-end-3
+decreases-loop-end-3 l = l.limit - l.end

@@ -1,4 +1,3 @@
-use Rattle.std.proofs.Common.{◌≤◌}
 use Rattle.fec_frame.proofs.RunsSolved.{marked_more}
 use Rattle.fec_frame.proofs.solving.mark_rows.Goals as goal
 

@@ -1,8 +1,7 @@
-use Rattle.std.proofs.Common.{◌≡◌, ◌+◌, ◌<◌, ◌≤◌, ℕ, List, length, take, drop, ap, sym, ◌∙◌, refl, arith}
+use Rattle.std.proofs.Common.{◌≡◌, ◌+◌, ℕ, ap, sym, ◌∙◌, refl, arith}
 use Rattle.ip_datagram.specs.Hint.{hint_of}
 use Rattle.ip_datagram.specs.declared.hint.Hint.TheVariants.{Length}
-use Rattle.fec_frame.specs.Marks.{IsRun}
-use Rattle.fec_frame.specs.Marking.{AreMarkedUpTo, IsEndTold}
+use Rattle.fec_frame.specs.Marking.{IsEndTold}
 use Rattle.fec_frame.proofs.KnownRuns.{marked_run_is}
 use Rattle.fec_frame.proofs.Marking.{run_same, IsRun-same, marked_more, nothing_told, known_set}
 use Rattle.fec_frame.proofs.starts.mark_next.Goals as goal

@@ -1,7 +1,7 @@
-use Rattle.std.proofs.Common.{◌≡◌, ◌+◌, ◌*◌, ◌<◌, ◌≤◌, ℕ, List, subst, sym, ◌∙◌, arith}
+use Rattle.std.proofs.Common.{◌≡◌, ◌+◌, ◌≤◌, ℕ, List, subst, arith}
 use Rattle.fec_frame.specs.Marking.{AreMarkedUpTo}
 use Rattle.fec_frame.proofs.KnownRuns.{run_later}
-use Rattle.fec_frame.proofs.Marking.{all_marked, marked_none, marked_on}
+use Rattle.fec_frame.proofs.Marking.{all_marked, marked_on}
 use Rattle.fec_frame.proofs.starts.mark_starts.Goals as goal
 
 pub loop-place-preserved : goal.loop-place-preserved

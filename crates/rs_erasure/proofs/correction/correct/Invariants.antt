@@ -14,4 +14,5 @@ invariant-loop-at l = record {
       → ((j : ℕ) → j < length l.unknown → cell l.fn.run.rows l.work j r ≡ 0) × (table_row 255 l.fn.run.rows l.table r ≡ table_row 255 l.fn.run.rows l.fn.table r);
   known : (j r : ℕ) → r < l.fn.run.rows → is_among j l.unknown ≡ false → cell l.fn.run.rows l.table j r ≡ cell l.fn.run.rows l.fn.table j r;
   outside : (j r : ℕ) → r < l.fn.run.rows → (r < l.fn.run.from) ⊎ (l.fn.run.to ≤ r) → cell l.fn.run.rows l.table j r ≡ cell l.fn.run.rows l.fn.table j r;
+  work_outside : (j r : ℕ) → r < l.fn.run.rows → (r < l.fn.run.from) ⊎ (l.fn.run.to ≤ r) → cell l.fn.run.rows l.work j r ≡ cell l.fn.run.rows l.fn.work j r;
 }

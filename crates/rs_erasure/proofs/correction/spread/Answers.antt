@@ -6,6 +6,7 @@ use Rattle.fec_spec.specs.Field.{field_product}
 use Rattle.field_law.proofs.Field.{product_assoc, product_one_left}
 use Rattle.erasure_law.specs.Roots.{differences}
 use Rattle.rs_erasure.specs.Columns.{cell}
+use Rattle.rs_erasure.proofs.Changes.{column_outside}
 use Rattle.rs_erasure.proofs.correction.spread.Goals as goal
 
 pub loop-into-init : goal.loop-into-init
@@ -16,6 +17,7 @@ loop-into-init c =
       factor = sym (ap (λ (l : List ℕ). field_product (differences l c.args.power.0) c.args.scale.0) (drop_all (length roots - 0) roots (omega arith)) ∙ product_one_left c.args.scale.0 fits);
       before = λ r ge lt j low. absurd (omega arith);
       kept = λ r ge lt j high. refl;
+      outside = λ j r low out. refl;
     }
 
 pub loop-into-preserved : goal.loop-into-preserved
@@ -50,4 +52,5 @@ loop-into-preserved c =
             ∙ ap (λ m. bit_xor (cell run.rows c.args.work.now m r) (field_product (field_product (differences (drop (length roots - m) roots) power) scale) (cell run.rows c.args.work.now c.args.column r))) (sym e)
       ];
       kept = λ r ge lo j high. c.add_to_earlier.ensures.elsewhere j r (omega arith) (λ e g l. absurd (omega arith)) ∙ is.kept r ge lo j (omega arith);
+      outside = λ j r low out. column_outside run.rows run.from run.to n _ mid c.add_to_earlier.new.work c.add_to_earlier.ensures j r low out ∙ is.outside j r low out;
     }

@@ -1,4 +1,4 @@
-use Rattle.std.proofs.Common.{arith, ℕ, List, inl, inr, ◌≡◌, ◌<◌, ◌+◌, ◌-◌, ◌∙◌, ap, drop, length}
+use Rattle.std.proofs.Common.{arith, ℕ, List, inl, inr, ◌≡◌, ◌<◌, ◌+◌, ◌-◌, ◌∙◌, ap, drop, length, refl}
 use Rattle.std.proofs.lemmas.Bool.{cases_lt}
 use Rattle.erasure_law.specs.Roots.{combined, root_polynomial}
 use Rattle.rs_erasure.specs.Columns.{cell}
@@ -11,6 +11,7 @@ loop-left-init c =
     let work : List ℕ = c.args.work.now in
     record {
       is = λ i ge lt j low. no_root c.args.roots.now (λ m. cell r.rows work m i) j (cell_fits r.rows work j i (λ k. omega (arith, c.type_inv.work k)));
+      outside = λ j i low out. refl;
       within = omega arith;
     }
 
@@ -33,5 +34,6 @@ loop-left-preserved c =
                 c.eliminate_root.ensures.raised i ge lo j behind low
                 ∙ root_high roots values left j (cell r.rows c.loop-left.work j i) (cell r.rows c.loop-left.work (j - 1) i) lt behind (was j low) (was (j - 1) (omega arith))
           ];
+      outside = λ j i low out. c.eliminate_root.ensures.outside j i low out ∙ c.loop-left.invariant.outside j i low out;
       within = omega arith;
     }

@@ -1,4 +1,4 @@
-use Rattle.std.proofs.Common.{ℕ, ◌≡◌, ◌+◌, ◌-◌, ◌<◌, ◌≤◌, drop, length}
+use Rattle.std.proofs.Common.{ℕ, ◌≡◌, ◌+◌, ◌-◌, ◌<◌, ◌≤◌, ◌⊎◌, drop, length}
 use Rattle.erasure_law.specs.Roots.{combined, root_polynomial}
 use Rattle.rs_erasure.specs.Columns.{cell}
 use Rattle.rs_erasure.proofs.elimination.eliminate.Given as goal
@@ -7,6 +7,7 @@ abbrev pub invariant-loop-left : goal.invariant-loop-left
 invariant-loop-left l = record {
   is : (r : ℕ) → l.fn.run.from ≤ r → r < l.fn.run.to → (j : ℕ) → j < 64
       → cell l.fn.run.rows l.work j r ≡ combined (root_polynomial (drop (l.left + (length l.roots - l.left - j)) l.roots)) (λ m. cell l.fn.run.rows l.fn.work m r) (j - (length l.roots - l.left));
+  outside : (j r : ℕ) → r < l.fn.run.rows → (r < l.fn.run.from) ⊎ (l.fn.run.to ≤ r) → cell l.fn.run.rows l.work j r ≡ cell l.fn.run.rows l.fn.work j r;
   within : l.left ≤ length l.roots;
 }
 

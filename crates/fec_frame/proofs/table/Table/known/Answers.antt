@@ -1,4 +1,4 @@
-use Rattle.std.proofs.Common.{◌≡◌, List, ℕ, get_or, ap, sym, ◌∙◌}
+use Rattle.std.proofs.Common.{List, ℕ, get_or, ap, sym, ◌∙◌}
 use Rattle.std.specs.Prelude.{is_some}
 use Rattle.fec_frame.specs.Marks.{is_known_mark}
 use Rattle.fec_frame.specs.Stands.{TableState, table_byte}

@@ -1,11 +1,11 @@
-use Rattle.std.proofs.Common.{arith, ℕ, List, ◌≡◌, ◌<◌, ◌≤◌, ◌∙◌, sym, subst, length, get_or, map}
+use Rattle.std.proofs.Common.{arith, ℕ, List, ◌≡◌, ◌<◌, ◌≤◌, ◌∙◌, ap, sym, subst, length, get_or, map}
 use Rattle.fec_spec.specs.Table.{table_row}
-use Rattle.erasure_law.specs.Roots.{place_power}
+use Rattle.erasure_law.specs.Roots.{place_power, values_of}
 use Rattle.erasure_law.proofs.Tables.{length-table_row}
 use Rattle.rs_erasure.specs.Columns.{cell}
 use Rattle.rs_erasure.proofs.Runs.{get_or-row}
 use Rattle.rs_erasure.proofs.Decoding.{Decoded, decoded, left_in_column, row_bytes, same_row}
-use Rattle.rs_erasure.proofs.run.decode_run.Goals as goal
+use Rattle.rs_erasure.proofs.run.decode_run_with_values.Goals as goal
 
 pub returns : goal.returns
 returns c =
@@ -27,8 +27,8 @@ returns c =
       row_long = length-table_row 255 rows table r;
       new_long = length-table_row 255 rows new r;
       new_bytes = row_bytes rows new r (λ i. omega (arith, c.type_inv.table i));
-      is_left = λ j jl. left_in_column places powers (table_row 255 rows table r) (λ m. cell rows c.find_values.new.work m r) (λ k. cell rows c.eliminate.new.work k r) j few is_powers jl
-          (λ m ml. c.find_values.ensures r ge lt m ml) (c.eliminate.ensures r ge lt j jl);
+      is_left = λ j jl. left_in_column places powers (table_row 255 rows table r) (λ m. cell rows c.args.work.now m r) (λ k. cell rows c.eliminate.new.work k r) j few is_powers jl
+          (λ m ml. c.requires.values r ge lt m ml) (c.eliminate.ensures.eliminated r ge lt j jl);
       marked = c.mark.ensures.run r ge lt;
       corrected = λ h. ((λ j. cell rows c.correct.new.work j r), c.correct.ensures.corrected r ge lt h);
       zero = c.correct.ensures.zero r ge lt;
@@ -40,4 +40,7 @@ returns c =
       inconsistent = λ r ge lt. (each r ge lt).inconsistent;
       outside = λ r low out. same_row rows table new r (λ j. c.correct.ensures.outside j r low out);
       kept = c.mark.ensures.kept;
+      values = λ r low out had m ml.
+          c.correct.ensures.work_outside m r low out ∙ c.mark.ensures.outside m r low out ∙ c.eliminate.ensures.outside m r low out ∙ had m ml
+          ∙ ap (λ (l : List ℕ). values_of l m) (sym (same_row rows table new r (λ j. c.correct.ensures.outside j r low out)));
     }
