@@ -1,6 +1,6 @@
 -- A service on one of its PIDs takes, sends, wants and delivers as the service does.
-use Rattle.std.proofs.Common.{◌≡◌, ℕ, Bool, true, cond, List, [], ◌∷◌, ◌++◌, map, flat_map, refl, ap, ap₂, sym, ◌∙◌, subst, None, Some}
-use Rattle.std.specs.Prelude.{filter}
+use Rattle.std.proofs.Common.{◌≡◌, ℕ, Bool, true, cond, List, [], ◌∷◌, ◌++◌, map, flat_map, refl, ap, ap₂, sym, ◌∙◌, subst, Some}
+use Rattle.std.specs.Prelude.{filter, is_some}
 use Rattle.std.proofs.lemmas.List.Elements.{filter-append}
 use Rattle.std.proofs.lemmas.List.{append-nil}
 use Rattle.wire_spec.specs.Lists.{IsSubsequence}
@@ -8,7 +8,6 @@ use Rattle.ts_spec.specs.Recording.{Record}
 use Rattle.addr_rules.specs.Filter.{is_wanted}
 use Rattle.plan_spec.specs.Plan.{KindFields, ule, mpe, fec, gse, ServiceFields, PlanFields, pid_of}
 use Rattle.plan_spec.specs.Changes.{with_pid, pid_in, pids_in}
-use Rattle.plan_spec.specs.Built.{is_sent}
 use Rattle.stream_spec.specs.Units.{unit_of}
 use Rattle.stream_spec.specs.Services.{kind_at, IsPidOf, Carries}
 use Rattle.stream_law.specs.Words.{is_single}
@@ -27,13 +26,6 @@ use Rattle.end_to_end_law.specs.Spans.{DeliversOfSpans}
 use Rattle.end_to_end_law.proofs.Offered.{longest_stays, taken_kept}
 
 -- what another PID leaves of a kind
-pub sent_stays : (kind : KindFields) (pid : ℕ) → is_sent (with_pid kind pid) ≡ is_sent kind
-sent_stays (ule old address packing) pid = refl
-sent_stays (mpe old) pid = refl
-sent_stays (fec old rows parity None) pid = refl
-sent_stays (fec old rows parity (Some window)) pid = refl
-sent_stays (gse isi address) pid = refl
-
 pub single_stays : (kind : KindFields) (pid : ℕ) → is_single (with_pid kind pid) ≡ is_single kind
 single_stays (ule old address packing) pid = refl
 single_stays (mpe old) pid = refl
@@ -88,12 +80,12 @@ wanted_of_all plan k datagrams on all same each =
     (all_wanted plan k datagrams (pids_in plan k) ∙ ap (filter (wants_datagram (service_at plan k))) same)
     (subsequence_each on (λ pid. filter (wants_datagram (service_on plan k pid)) (datagrams pid)) (pids_in plan k) each)
 
--- a service of a kind that is sent has a PID
-pub has_pid_sent : (kind : KindFields) → is_sent kind ≡ true → (pid : ℕ) × (pid_of kind ≡ Some pid)
-has_pid_sent (ule pid address packing) built = (pid, refl)
-has_pid_sent (mpe pid) built = (pid, refl)
-has_pid_sent (fec pid rows parity window) built = (pid, refl)
-has_pid_sent (gse isi address) built = absurd (cc)
+-- the PID of a service that has one
+pub own_pid : (kind : KindFields) → is_some (pid_of kind) ≡ true → (pid : ℕ) × (pid_of kind ≡ Some pid)
+own_pid (ule pid address packing) has = (pid, refl)
+own_pid (mpe pid) has = (pid, refl)
+own_pid (fec pid rows parity window) has = (pid, refl)
+own_pid (gse isi address) has = absurd (cc)
 
 -- Without changes it has one span, the recording, in which it is itself.
 pub whole_delivers : (plan : PlanFields) (sent : List Record) (datagrams : ℕ → ℕ → List (List ℕ)) (carries : Carries plan sent datagrams) (recorded : List Record)

@@ -7,16 +7,14 @@ use Rattle.plan_spec.specs.Plan.{KindFields, ule, mpe, fec, gse, PlanFields, kin
 abbrev pub is_sent : KindFields → Bool
 is_sent (ule pid address packing) = true
 is_sent (mpe pid) = true
-is_sent (fec pid rows parity None) = true
-is_sent (fec pid rows parity (Some window)) = false
+is_sent (fec pid rows parity window) = true
 is_sent (gse isi address) = false
 
 -- services of this kind are received
 abbrev pub is_received : KindFields → Bool
 is_received (ule pid address packing) = true
 is_received (mpe pid) = true
-is_received (fec pid rows parity None) = true
-is_received (fec pid rows parity (Some window)) = false
+is_received (fec pid rows parity window) = true
 is_received (gse isi address) = false
 
 -- all services of the plan are

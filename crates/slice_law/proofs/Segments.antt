@@ -22,7 +22,7 @@ module _ (front rest : List (List SectionTime)) where
   in_rest : (i : ℕ) (x : SectionTime) → IsOf rest i x → IsOf (front ++ rest) (length front + i) x
   in_rest i x is = subst (λ (frame : List SectionTime). Contains frame x) (sym (get_or-append-add front rest i [])) is
 
-  timed_front : (ten : ℕ) → IsTimed ten (front ++ rest) → IsTimed ten front
+  pub timed_front : (ten : ℕ) → IsTimed ten (front ++ rest) → IsTimed ten front
   timed_front ten timed = record {
     within = λ i x y is is2. timed.within i x y (in_front i x is).1 (in_front i y is2).1;
     after = λ i j x y less is is2. timed.after i j x y less (in_front i x is).1 (in_front j y is2).1;

@@ -5,7 +5,7 @@ use Rattle.std.specs.Option.{unwrap_or}
 use Rattle.std.proofs.lemmas.Nat.{mod-mul-add}
 use Rattle.std.proofs.Math.Nat.{le-mul_of_pos_right}
 use Rattle.stream_spec.specs.Slots.{Slot, of_table, is_of_service, Turns, next_service, served, turns_at, slot_of_service, slot_at, kept_for_table, IsSlotCount}
-use Rattle.stream_spec.proofs.Over.{KeepsNone, turns_kept, turns_served, over_from}
+use Rattle.stream_spec.proofs.Over.{KeepsNone, KeepsNoneFrom, turns_kept, turns_served, over_later}
 use Rattle.stream_law.proofs.Next.{has_turn, none_has_turn, false_ltb}
 use Rattle.stream_law.proofs.Turns.{within_at, turns_pass}
 
@@ -131,10 +131,15 @@ module _ (kept : ℕ → Option Slot) (packets : List ℕ) (leaves : LeavesSlots
           let later : (later : ℕ) × (out later ≡ out s + 1) = next_out s k e in
           behind later.0 (omega (arith, enough, later.1))
 
-  pub ends : KeepsNone kept → (slots : ℕ) × IsSlotCount (slot_at kept packets) slots
-  ends keeps =
+  -- where from some slot on none is kept for a service
+  pub ends_from : (from : ℕ) → KeepsNoneFrom from kept → (slots : ℕ) × IsSlotCount (slot_at kept packets) slots
+  ends_from from keeps =
       let end : (end : ℕ) × (next_service packets (turns end) ≡ None) = none_left (total packets) 0 (omega arith) in
-      last_slot (slot_at kept packets) end.0 (over_from kept packets keeps end.0 end.1)
+      last_slot (slot_at kept packets) (end.0 + from)
+      (λ later le. over_later kept packets from keeps end.0 end.1 later (omega (arith, le)) (omega (arith, le)))
+
+  pub ends : KeepsNone kept → (slots : ℕ) × IsSlotCount (slot_at kept packets) slots
+  ends keeps = ends_from 0 (λ s slot from. keeps s slot)
 
   -- after the last slot all packets are out
   same_turns : (slots : ℕ) → IsSlotCount (slot_at kept packets) slots → (d later : ℕ) → later ≡ slots + d → turns later ≡ turns slots

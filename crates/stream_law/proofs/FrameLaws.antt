@@ -14,11 +14,11 @@ use Rattle.plan_spec.specs.Bytes.{IsMac}
 use Rattle.stream_spec.specs.Units.{units_of_frames}
 use Rattle.stream_law.proofs.Frames.{AreFramed, AreFrames, framed_both}
 
-sendable : (ds : List (List ℕ)) → AreFramed ds → All IsSendable ds
+pub sendable : (ds : List (List ℕ)) → AreFramed ds → All IsSendable ds
 sendable [] are = All-nil IsSendable
 sendable (d ∷ ds) are = All-cons IsSendable d ds (record { is = are.0.is; size = are.0.size }) (sendable ds are.1)
 
-of_bytes : (ds : List (List ℕ)) → AreFramed ds → All AreBytes ds
+pub of_bytes : (ds : List (List ℕ)) → AreFramed ds → All AreBytes ds
 of_bytes [] are = All-nil AreBytes
 of_bytes (d ∷ ds) are = All-cons AreBytes d ds are.0.bytes (of_bytes ds are.1)
 

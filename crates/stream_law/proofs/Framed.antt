@@ -29,13 +29,13 @@ AreShort (d ∷ ds) = (length d ≤ 4080) × AreShort ds
 
 -- The sections of a frame.
 
-data_size : (mac datagram : List ℕ) (t : RealTimeFields) → length (mpe_bytes (mpe_to_write mac (Some t) datagram)) ≡ length datagram + 16
+pub data_size : (mac datagram : List ℕ) (t : RealTimeFields) → length (mpe_bytes (mpe_to_write mac (Some t) datagram)) ≡ length datagram + 16
 data_size mac datagram t = omega (arith, length-section_bytes 0x3E 0xB0 (mpe_body (mpe_to_write mac (Some t) datagram)), nine (length datagram))
   where
     nine : (n : ℕ) → suc (suc (suc (suc (suc (suc (suc (suc (suc n)))))))) ≡ n + 9
     nine n = omega arith
 
-column_size : (f : FecFields) → length (fec_bytes f) ≡ length f.column + 16
+pub column_size : (f : FecFields) → length (fec_bytes f) ≡ length f.column + 16
 column_size f = omega (arith, length-section_bytes 0x78 0xB0 (fec_body f), five (length (to_be_bytes w32 (real_time_number f.real_time) ++ f.column)), four, length-append (to_be_bytes w32 (real_time_number f.real_time)) f.column)
   where
     five : (n : ℕ) → suc (suc (suc (suc (suc n)))) ≡ n + 5
@@ -45,7 +45,7 @@ column_size f = omega (arith, length-section_bytes 0x78 0xB0 (fec_body f), five 
     four = refl
 
 -- one of each of some datagrams, numbered from one on
-all_data : (section : ℕ → FrameSection) (ds : List (List ℕ)) (a : ℕ) → ((i : ℕ) → i < length ds → length (section_unit (section (a + i))) ≡ length (get_or ds i []) + 16)
+pub all_data : (section : ℕ → FrameSection) (ds : List (List ℕ)) (a : ℕ) → ((i : ℕ) → i < length ds → length (section_unit (section (a + i))) ≡ length (get_or ds i []) + 16)
     → byte_count (map section_unit (map section (range_with_len a (length ds)))) ≡ byte_count ds + 16 * length ds
 all_data section [] a each = refl
 all_data section (d ∷ ds) a each =
@@ -59,7 +59,7 @@ all_data section (d ∷ ds) a each =
     )
 
 -- some columns, numbered from one on
-all_columns : (section : ℕ → FrameSection) (most a n : ℕ) → ((k : ℕ) → length (section_unit (section k)) ≤ most) → byte_count (map section_unit (map section (range_with_len a n))) ≤ n * most
+pub all_columns : (section : ℕ → FrameSection) (most a n : ℕ) → ((k : ℕ) → length (section_unit (section k)) ≤ most) → byte_count (map section_unit (map section (range_with_len a n))) ≤ n * most
 all_columns section most a zero each = omega arith
 all_columns section most a (suc n) each =
     let more : suc n * most ≡ n * most + most = one_more n in omega (arith, more, each a, all_columns section most (a + 1) n each)

@@ -2,13 +2,14 @@
 use Rattle.std.proofs.Common.{◌≡◌, inl, inr, ℕ, ◌+◌, ◌*◌, ◌<◌, ◌≤◌, Bool, true, false, cond, leb, List, [], ◌∷◌, ◌++◌, length, refl, ap, sym, ◌∙◌, arith, append_assoc}
 use Rattle.std.specs.Prelude.{flat_map}
 use Rattle.std.specs.List.{fold}
+use Rattle.std.proofs.lemmas.Bool.{and_parts}
 use Rattle.std.proofs.lemmas.List.{append-nil, length-append}
 use Rattle.wire_spec.specs.Bytes.{AreBytes}
 use Rattle.wire_spec.specs.Datagram.{IsDatagram}
 use Rattle.wire_spec.specs.Lists.{joined}
 use Rattle.section_spec.specs.Mpe.{IsRows}
-use Rattle.frame_spec.specs.Sender.{fits_table, with_datagram}
-use Rattle.stream_spec.specs.Units.{datagrams_by_frame, units_of_frame, units_of_frames}
+use Rattle.frame_spec.specs.Sender.{fits_table, with_datagram, datagrams_in_frames}
+use Rattle.stream_spec.specs.Units.{burst_size, fits_window, datagrams_by_burst, datagrams_by_frame, units_of_frame, units_of_frames}
 
 -- a datagram that a section of a frame has room for
 pub record IsFramed (datagram : List ℕ) : Type 0 where
@@ -38,12 +39,13 @@ pub framed_both : (a b : List (List ℕ)) → AreFramed a → AreFramed b → Ar
 framed_both [] b are others = others
 framed_both (datagram ∷ a) b are others = (are.0, framed_both a b are.1 others)
 
-module _ (rows : ℕ) where
+-- where datagrams are parted by what may share a frame
+module _ (fits : List (List ℕ) → Bool) where
   -- all datagrams, in order
   all_with : (frames : List (List (List ℕ))) (d : List ℕ)
-      → flat_map (λ (frame : List (List ℕ)). frame) (with_datagram (fits_table rows) frames d) ≡ flat_map (λ (frame : List (List ℕ)). frame) frames ++ d ∷ []
+      → flat_map (λ (frame : List (List ℕ)). frame) (with_datagram fits frames d) ≡ flat_map (λ (frame : List (List ℕ)). frame) frames ++ d ∷ []
   all_with [] d = refl
-  all_with (last ∷ []) d = by_fit (fits_table rows (last ++ d ∷ []))
+  all_with (last ∷ []) d = by_fit (fits (last ++ d ∷ []))
     where
       by_fit : (is : Bool) → flat_map (λ (frame : List (List ℕ)). frame) (cond is ((last ++ d ∷ []) ∷ []) (last ∷ (d ∷ []) ∷ [])) ≡ (last ++ []) ++ d ∷ []
       by_fit true = append-nil (last ++ d ∷ []) ∙ ap (λ (l : List (List ℕ)). l ++ d ∷ []) (sym (append-nil last))
@@ -53,18 +55,18 @@ module _ (rows : ℕ) where
       ∙ sym (append_assoc frame (flat_map (λ (f : List (List ℕ)). f) (next ∷ others)) (d ∷ []))
 
   all_from : (ds : List (List ℕ)) (frames : List (List (List ℕ)))
-      → flat_map (λ (frame : List (List ℕ)). frame) (fold (with_datagram (fits_table rows)) frames ds) ≡ flat_map (λ (frame : List (List ℕ)). frame) frames ++ ds
+      → flat_map (λ (frame : List (List ℕ)). frame) (fold (with_datagram fits) frames ds) ≡ flat_map (λ (frame : List (List ℕ)). frame) frames ++ ds
   all_from [] frames = sym (append-nil (flat_map (λ (frame : List (List ℕ)). frame) frames))
   all_from (d ∷ ds) frames =
-      all_from ds (with_datagram (fits_table rows) frames d)
+      all_from ds (with_datagram fits frames d)
       ∙ ap (λ (l : List (List ℕ)). l ++ ds) (all_with frames d)
       ∙ append_assoc (flat_map (λ (frame : List (List ℕ)). frame) frames) (d ∷ []) ds
 
-  pub all_in_frames : (ds : List (List ℕ)) → flat_map (λ (frame : List (List ℕ)). frame) (datagrams_by_frame rows ds) ≡ ds
-  all_in_frames ds = all_from ds []
+  pub all_in : (ds : List (List ℕ)) → flat_map (λ (frame : List (List ℕ)). frame) (datagrams_in_frames fits ds) ≡ ds
+  all_in ds = all_from ds []
 
   -- the frames fit
-  module _ (is_rows : IsRows rows) where
+  module _ (rows : ℕ) (within : (frame : List (List ℕ)) → fits frame ≡ true → length (joined frame) ≤ 191 * rows) (is_rows : IsRows rows) where
     one_fits : (d : List ℕ) → length d ≤ 4080 → length (joined (d ∷ [])) ≤ 191 * rows
     one_fits d le = by_rows is_rows
       where
@@ -77,18 +79,15 @@ module _ (rows : ℕ) where
     alone : (d : List ℕ) → IsFramed d → IsFrameOf rows (d ∷ [])
     alone d is = record { some = omega arith; fits = one_fits d is.size; each = (is, tt) }
 
-    frames_with : (frames : List (List (List ℕ))) (d : List ℕ) → IsFramed d → AreFrames rows frames → AreFrames rows (with_datagram (fits_table rows) frames d)
+    frames_with : (frames : List (List (List ℕ))) (d : List ℕ) → IsFramed d → AreFrames rows frames → AreFrames rows (with_datagram fits frames d)
     frames_with [] d is are = (alone d is, tt)
-    frames_with (last ∷ []) d is are = by_fit (fits_table rows (last ++ d ∷ [])) refl
+    frames_with (last ∷ []) d is are = by_fit (fits (last ++ d ∷ [])) refl
       where
-        within : (n : ℕ) → leb n (191 * rows) ≡ true → n ≤ 191 * rows
-        within n e = grind (arith, e)
-
-        by_fit : (fits : Bool) → fits_table rows (last ++ d ∷ []) ≡ fits → AreFrames rows (cond fits ((last ++ d ∷ []) ∷ []) (last ∷ (d ∷ []) ∷ []))
+        by_fit : (is_one : Bool) → fits (last ++ d ∷ []) ≡ is_one → AreFrames rows (cond is_one ((last ++ d ∷ []) ∷ []) (last ∷ (d ∷ []) ∷ []))
         by_fit true e = (
           record {
             some = omega (arith, length-append last (d ∷ []));
-            fits = within (length (joined (last ++ d ∷ []))) e;
+            fits = within (last ++ d ∷ []) e;
             each = framed_both last (d ∷ []) are.0.each (is, tt);
           },
           tt,
@@ -96,12 +95,33 @@ module _ (rows : ℕ) where
         by_fit false e = (are.0, (alone d is, tt))
     frames_with (frame ∷ next ∷ others) d is are = (are.0, frames_with (next ∷ others) d is are.1)
 
-    frames_from : (ds : List (List ℕ)) (frames : List (List (List ℕ))) → AreFramed ds → AreFrames rows frames → AreFrames rows (fold (with_datagram (fits_table rows)) frames ds)
+    frames_from : (ds : List (List ℕ)) (frames : List (List (List ℕ))) → AreFramed ds → AreFrames rows frames → AreFrames rows (fold (with_datagram fits) frames ds)
     frames_from [] frames framed are = are
-    frames_from (d ∷ ds) frames framed are = frames_from ds (with_datagram (fits_table rows) frames d) framed.1 (frames_with frames d framed.0 are)
+    frames_from (d ∷ ds) frames framed are = frames_from ds (with_datagram fits frames d) framed.1 (frames_with frames d framed.0 are)
 
-    pub are_frames : (ds : List (List ℕ)) → AreFramed ds → AreFrames rows (datagrams_by_frame rows ds)
-    are_frames ds framed = frames_from ds [] framed tt
+    pub are_in : (ds : List (List ℕ)) → AreFramed ds → AreFrames rows (datagrams_in_frames fits ds)
+    are_in ds framed = frames_from ds [] framed tt
+
+-- frames without time slicing
+within_table : (rows : ℕ) (frame : List (List ℕ)) → fits_table rows frame ≡ true → length (joined frame) ≤ 191 * rows
+within_table rows frame e = no_more (length (joined frame)) e
+  where
+    no_more : (n : ℕ) → leb n (191 * rows) ≡ true → n ≤ 191 * rows
+    no_more n e2 = grind (arith, e2)
+
+pub all_in_frames : (rows : ℕ) (ds : List (List ℕ)) → flat_map (λ (frame : List (List ℕ)). frame) (datagrams_by_frame rows ds) ≡ ds
+all_in_frames rows ds = all_in (fits_table rows) ds
+
+pub are_frames : (rows : ℕ) → IsRows rows → (ds : List (List ℕ)) → AreFramed ds → AreFrames rows (datagrams_by_frame rows ds)
+are_frames rows is_rows ds framed = are_in (fits_table rows) rows (within_table rows) is_rows ds framed
+
+-- and bursts
+pub all_in_bursts : (rows columns slots : ℕ) (ds : List (List ℕ)) → flat_map (λ (frame : List (List ℕ)). frame) (datagrams_by_burst rows columns slots ds) ≡ ds
+all_in_bursts rows columns slots ds = all_in (fits_window rows columns slots) ds
+
+pub are_bursts : (rows columns slots : ℕ) → IsRows rows → (ds : List (List ℕ)) → AreFramed ds → AreFrames rows (datagrams_by_burst rows columns slots ds)
+are_bursts rows columns slots is_rows ds framed =
+    are_in (fits_window rows columns slots) rows (λ frame e. within_table rows frame (and_parts (fits_table rows frame) (leb (burst_size rows columns frame) slots) e).0) is_rows ds framed
 
 -- the units of frames after others go on with their numbers
 pub units_both : (rows columns : ℕ) (unicast : List ℕ) (number : ℕ) (a b : List (List (List ℕ)))

@@ -25,7 +25,7 @@ use Rattle.stream_spec.specs.Services.{IsPidOf}
 use Rattle.stream_spec.specs.Parts.{service_packets, int_packets}
 use Rattle.stream_spec.specs.Stream.{part_of, earlier, IsPartCount}
 use Rattle.stream_spec.specs.Standing.{AreParts, IsInPart, IsInOwnPart, Signals, StandInParts}
-use Rattle.stream_law.specs.Words.{records_before, HaveMoments, packets_of_int, sections_of_int}
+use Rattle.stream_law.specs.Words.{records_before, HaveMoments, FitsWindow, packets_of_int, sections_of_int}
 use Rattle.stream_law.proofs.Ranges.{sum_same, sum_next, sum_rises}
 use Rattle.stream_law.proofs.Records.{CarryPackets, read_of, pieces_have}
 use Rattle.stream_law.proofs.Parts.{pieces, packets, all_stamped, read_in_part, table_in_part, table_sent, has_its_pid}
@@ -33,7 +33,7 @@ use Rattle.stream_law.proofs.TableCycles.{versions_carry, IsOfVersion, held_in}
 use Rattle.stream_law.proofs.Located.{length_carried, IsLocated, located, length-packets_in, out_before as out_on}
 
 module _ (plan : PlanFields) (whole : is_whole_plan plan ≡ true) (datagrams : ℕ → ℕ → List (List ℕ)) (slots : ℕ → ℕ)
-    (each : (version : ℕ) → version ≤ length plan.changes → IsPartCount plan datagrams slots version) (timed : HaveMoments plan slots)
+    (each : (version : ℕ) → version ≤ length plan.changes → IsPartCount plan datagrams slots version) (timed : HaveMoments plan slots) (fit : (k : ℕ) → FitsWindow plan datagrams k)
     (readable : (pid : ℕ) (starts : Bool) (counter : ℕ) (payload : List ℕ) → counter ≤ 15 → pid ≤ 8191 → length payload ≡ 184 → is_packet (packet_bytes pid starts counter payload) ≡ true)
     (fields : (pid : ℕ) (starts : Bool) (counter : ℕ) (payload : List ℕ) → counter ≤ 15 → pid ≤ 8191 → fields_of (packet_bytes pid starts counter payload) ≡ written_fields pid starts counter payload)
     (null_fields : fields_of null_packet ≡ written_fields 0x1FFF false 0 (replicate 184 0xFF)) where
@@ -84,7 +84,7 @@ module _ (plan : PlanFields) (whole : is_whole_plan plan ≡ true) (datagrams : 
           by_pid true e = has_its_pid (pid_in plan version k) pid e
           by_pid false e =
               let none : read_of pid (packets plan datagrams slots version) ≡ []
-              = read_in_part plan datagrams slots readable fields null_fields whole each k pid own version within
+              = read_in_part plan datagrams slots readable fields null_fields whole each k pid own (fit k) version within
               ∙ ap (λ (b : Bool). cond b (get_or (service_packets (part_of plan datagrams slots version)) k []) []) e in
               absurd (omega (arith, some, ap (λ (l : List PacketFields). length l) none))
 

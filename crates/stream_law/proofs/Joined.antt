@@ -31,7 +31,7 @@ module _ (b c : ℕ) (ps qs : List PacketFields) (then : c ≡ b + length ps) (f
   abbrev both : List PacketFields
   both = ps ++ qs
 
-  both_go_on : GoOn b (ps ++ qs)
+  pub both_go_on : GoOn b (ps ++ qs)
   both_go_on = record { counter = λ i less. counter_of i less (cases_lt i (length ps)); broken = λ i less. broken_of i less (cases_lt i (length ps)) }
     where
       counter_of : (i : ℕ) → i < length (ps ++ qs) → (i < length ps) ⊎ (length ps ≤ i) → (packet_at (ps ++ qs) i).counter ≡ (b + i) % 16
@@ -49,7 +49,7 @@ module _ (b c : ℕ) (ps qs : List PacketFields) (then : c ≡ b + length ps) (f
           ap (λ (j : ℕ). (packet_at (ps ++ qs) j).broken) at ∙ ap (λ (p : PacketFields). p.broken) (packet_high ps qs (i - length ps))
           ∙ second.broken (i - length ps) (omega (arith, less, high, length-both ps qs))
 
-  continue : 1 ≤ length ps → 1 ≤ length qs → continues (packet_at ps (length ps - 1)) (packet_at qs 0) ≡ true
+  pub continue : 1 ≤ length ps → 1 ≤ length qs → continues (packet_at ps (length ps - 1)) (packet_at qs 0) ≡ true
   continue some some2 =
       ap₂ (λ (x y : Bool). x && not y) (so_eqb (packet_at qs 0).counter (((packet_at ps (length ps - 1)).counter + 1) % 16) next) (second.broken 0 some2)
     where

@@ -1,11 +1,11 @@
 -- What no version changes of a service.
-use Rattle.std.proofs.Common.{◌≡◌, ℕ, zero, suc, get_or, List, [], ◌∷◌, map, refl, sym, ap, ◌∙◌, Some, None}
+use Rattle.std.proofs.Common.{◌≡◌, ℕ, zero, suc, get_or, List, [], ◌∷◌, map, refl, sym, ap, ap₂, ◌∙◌, Option, Some, None}
 use Rattle.std.proofs.Math.ListN.{get_or-map}
-use Rattle.plan_spec.specs.Plan.{KindFields, ule, mpe, fec, gse, ServiceFields, MovedFields, PlanFields, pid_of}
+use Rattle.plan_spec.specs.Plan.{WindowFields, KindFields, ule, mpe, fec, gse, ServiceFields, MovedFields, PlanFields, pid_of, sliced_of}
 use Rattle.plan_spec.specs.Changes.{with_pid, no_service, services_in, plan_in, service_in, pid_in}
 use Rattle.plan_spec.specs.Built.{is_sent}
 use Rattle.plan_law.proofs.Kept.{kept}
-use Rattle.stream_spec.specs.Units.{frame_count, units_of_kind}
+use Rattle.stream_spec.specs.Units.{FrameSchedule, burst_sizes, frame_count, units_of_kind}
 use Rattle.stream_spec.specs.Services.{kind_at, form_of_kind, carried_by_unit}
 use Rattle.stream_law.specs.Words.{is_single}
 
@@ -73,11 +73,11 @@ single_kept plan version k = part_kept is_single stays plan version k
     stays (fec old rows parity window) pid = refl
     stays (gse isi address) pid = refl
 
-pub units_kept : (plan : PlanFields) (version k : ℕ) (mac : List ℕ) (number : ℕ) (datagrams : List (List ℕ))
-    → units_of_kind (kind_at (plan_in plan version) k) mac number datagrams ≡ units_of_kind (kind_at plan k) mac number datagrams
-units_kept plan version k mac number datagrams = part_kept (λ kind. units_of_kind kind mac number datagrams) stays plan version k
+pub units_kept : (plan : PlanFields) (version k : ℕ) (mac : List ℕ) (schedule : FrameSchedule) (datagrams : List (List ℕ))
+    → units_of_kind (kind_at (plan_in plan version) k) mac schedule datagrams ≡ units_of_kind (kind_at plan k) mac schedule datagrams
+units_kept plan version k mac schedule datagrams = part_kept (λ kind. units_of_kind kind mac schedule datagrams) stays plan version k
   where
-    stays : (kind : KindFields) (pid : ℕ) → units_of_kind (with_pid kind pid) mac number datagrams ≡ units_of_kind kind mac number datagrams
+    stays : (kind : KindFields) (pid : ℕ) → units_of_kind (with_pid kind pid) mac schedule datagrams ≡ units_of_kind kind mac schedule datagrams
     stays (ule old address packing) pid = refl
     stays (mpe old) pid = refl
     stays (fec old rows parity None) pid = refl
@@ -94,6 +94,64 @@ frame_count_kept plan version k datagrams = part_kept (λ kind. frame_count kind
     stays (fec old rows parity None) pid = refl
     stays (fec old rows parity (Some window)) pid = refl
     stays (gse isi address) pid = refl
+
+pub sizes_kept : (plan : PlanFields) (version k : ℕ) (datagrams : List (List ℕ))
+    → burst_sizes (kind_at (plan_in plan version) k) datagrams ≡ burst_sizes (kind_at plan k) datagrams
+sizes_kept plan version k datagrams = part_kept (λ kind. burst_sizes kind datagrams) stays plan version k
+  where
+    stays : (kind : KindFields) (pid : ℕ) → burst_sizes (with_pid kind pid) datagrams ≡ burst_sizes kind datagrams
+    stays (ule old address packing) pid = refl
+    stays (mpe old) pid = refl
+    stays (fec old rows parity None) pid = refl
+    stays (fec old rows parity (Some window)) pid = refl
+    stays (gse isi address) pid = refl
+
+pub sliced_kept : (plan : PlanFields) (version k : ℕ) → sliced_of (kind_at (plan_in plan version) k) ≡ sliced_of (kind_at plan k)
+sliced_kept plan version k = part_kept sliced_of stays plan version k
+  where
+    stays : (kind : KindFields) (pid : ℕ) → sliced_of (with_pid kind pid) ≡ sliced_of kind
+    stays (ule old address packing) pid = refl
+    stays (mpe old) pid = refl
+    stays (fec old rows parity None) pid = refl
+    stays (fec old rows parity (Some window)) pid = refl
+    stays (gse isi address) pid = refl
+
+-- a service in frames has the same frames on each PID
+pub frames_kept : (plan : PlanFields) (version k own rows parity : ℕ) (window : Option WindowFields) → kind_at plan k ≡ fec own rows parity window
+    → (pid : ℕ) × (kind_at (plan_in plan version) k ≡ fec pid rows parity window)
+frames_kept plan version k own rows parity window is =
+    by_kind (kind_at (plan_in plan version) k) (part_kept (λ kind. with_pid kind 0) stays plan version k ∙ ap (λ kind. with_pid kind 0) is)
+  where
+    stays : (kind : KindFields) (pid : ℕ) → with_pid (with_pid kind pid) 0 ≡ with_pid kind 0
+    stays (ule old address packing) pid = refl
+    stays (mpe old) pid = refl
+    stays (fec old rows2 parity2 window2) pid = refl
+    stays (gse isi address) pid = refl
+
+    rows_in : KindFields → ℕ
+    rows_in (ule old address packing) = 0
+    rows_in (mpe old) = 0
+    rows_in (fec old rows2 parity2 window2) = rows2
+    rows_in (gse isi address) = 0
+
+    parity_in : KindFields → ℕ
+    parity_in (ule old address packing) = 0
+    parity_in (mpe old) = 0
+    parity_in (fec old rows2 parity2 window2) = parity2
+    parity_in (gse isi address) = 0
+
+    window_in : KindFields → Option WindowFields
+    window_in (ule old address packing) = None
+    window_in (mpe old) = None
+    window_in (fec old rows2 parity2 window2) = window2
+    window_in (gse isi address) = None
+
+    by_kind : (kind : KindFields) → with_pid kind 0 ≡ fec 0 rows parity window → (pid : ℕ) × (kind ≡ fec pid rows parity window)
+    by_kind (ule old address packing) e = absurd (cc)
+    by_kind (mpe old) e = absurd (cc)
+    by_kind (fec old rows2 parity2 window2) e =
+        (old, ap₂ (λ (r q : ℕ). fec old r q window2) (ap rows_in e) (ap parity_in e) ∙ ap (λ (w : Option WindowFields). fec old rows parity w) (ap window_in e))
+    by_kind (gse isi address) e = absurd (cc)
 
 -- nor the address of its receivers
 pub unicast_kept : (plan : PlanFields) (version k : ℕ)

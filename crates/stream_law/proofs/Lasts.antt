@@ -1,36 +1,32 @@
 -- A part without datagrams has no slots, so that one with slots is followed by none after the last with datagrams.
 use Rattle.std.proofs.Common.{◌≡◌, ℕ, zero, suc, ◌+◌, ◌-◌, ◌*◌, ◌/◌, ◌%◌, ◌<◌, ◌≤◌, Bool, true, false, cond, not, ltb, get_or, List, [], length, map, refl, ap, ◌∙◌, arith, Some, None}
-use Rattle.std.specs.Prelude.{slice_index}
+use Rattle.std.specs.Prelude.{slice_index_or}
 use Rattle.std.specs.List.{list_any, range_with_len}
 use Rattle.std.proofs.lemmas.Bool.{or_left, or_right}
-use Rattle.std.proofs.lemmas.List.{length-map}
 use Rattle.std.proofs.lemmas.Nat.{div-mul-add}
 use Rattle.ts_spec.specs.Packet.{PacketFields}
 use Rattle.plan_spec.specs.Plan.{KindFields, ule, mpe, fec, gse, ServiceFields, PlanFields}
 use Rattle.plan_spec.specs.Changes.{plan_in}
-use Rattle.plan_spec.specs.Signalling.{table_packets}
 use Rattle.plan_law.proofs.Lists.{none_at}
 use Rattle.plan_law.proofs.Kept.{length-services_in}
-use Rattle.stream_spec.specs.Units.{packets_of_kind}
+use Rattle.stream_spec.specs.Units.{FrameSchedule, packets_of_kind}
 use Rattle.stream_spec.specs.Services.{kind_at}
-use Rattle.stream_spec.specs.Slots.{Slot, of_table, of_service, empty, is_of_service, kept_for_table}
-use Rattle.stream_spec.specs.Parts.{PartFields, service_packets, packet_counts, slot_in}
+use Rattle.stream_spec.specs.Slots.{Slot, of_table, of_service, empty, is_of_service}
+use Rattle.stream_spec.specs.Parts.{PartFields, service_packets, slot_in}
 use Rattle.stream_spec.specs.Stream.{part_of, has_datagrams, is_last, whole_cycles, IsPartCount}
 use Rattle.stream_law.proofs.Next.{false_ltb}
-use Rattle.stream_law.proofs.Turns.{carried_within}
-use Rattle.stream_law.proofs.Ends.{table_keeps_none}
 use Rattle.stream_law.proofs.Wholes.{no_item}
 use Rattle.stream_law.proofs.Sent.{packets_at}
-use Rattle.stream_law.proofs.OnPid.{length-packets_from, count_of}
+use Rattle.stream_law.proofs.Carrying.{carried}
 
-none_of_kind : (kind : KindFields) (unicast : List ℕ) (counter number : ℕ) → packets_of_kind kind unicast counter number [] ≡ []
-none_of_kind (ule pid address packing) unicast counter number = refl
-none_of_kind (mpe pid) unicast counter number = refl
-none_of_kind (fec pid rows parity None) unicast counter number = refl
-none_of_kind (fec pid rows parity (Some window)) unicast counter number = refl
-none_of_kind (gse isi address) unicast counter number = refl
+none_of_kind : (kind : KindFields) (unicast : List ℕ) (counter : ℕ) (schedule : FrameSchedule) → packets_of_kind kind unicast counter schedule [] ≡ []
+none_of_kind (ule pid address packing) unicast counter schedule = refl
+none_of_kind (mpe pid) unicast counter schedule = refl
+none_of_kind (fec pid rows parity None) unicast counter schedule = refl
+none_of_kind (fec pid rows parity (Some window)) unicast counter schedule = refl
+none_of_kind (gse isi address) unicast counter schedule = refl
 
-any_at : (p : ℕ → Bool) (start n i x : ℕ) → x ≡ start + i → i < n → p x ≡ true → list_any p (range_with_len start n) ≡ true
+pub any_at : (p : ℕ → Bool) (start n i x : ℕ) → x ≡ start + i → i < n → p x ≡ true → list_any p (range_with_len start n) ≡ true
 any_at p start zero i x e less is = absurd (omega (arith, less))
 any_at p start (suc n) zero x e less is =
     let here : start ≡ x = omega (arith, e) in
@@ -51,26 +47,18 @@ module _ (plan : PlanFields) (some_cycle : 1 ≤ plan.cycle) (datagrams : ℕ �
         at_zero : (n : ℕ) → n ≡ 0 + n
         at_zero n = omega arith
 
-    no_packets : (j : ℕ) → j < length (packet_counts (service_packets part)) → slice_index (packet_counts (service_packets part)) j ≡ 0
-    no_packets j less =
-        let known : j < length (plan_in plan version).services
-        = omega (
-          arith,
-          less,
-          length-map (service_packets part) (λ (list : List PacketFields). length list),
-          length-packets_from part.packets_before part.frames_before part.datagrams 0 (plan_in plan version).services,
-        ) in
-        count_of (service_packets part) j
-        ∙ ap (λ (l : List PacketFields). length l)
-        (packets_at part.packets_before part.frames_before part.datagrams (plan_in plan version).services 0 j j (omega arith) known
-        ∙ ap (packets_of_kind (kind_at (plan_in plan version) j) (get_or (map (λ (service : ServiceFields). service.unicast) (plan_in plan version).services) j []) (part.packets_before j % 16) (part.frames_before j))
+    no_packets : (j : ℕ) → j < length (plan_in plan version).services → length (slice_index_or (service_packets part) j []) ≡ 0
+    no_packets j known =
+        ap (λ (l : List PacketFields). length l)
+        (packets_at part.packets_before part.schedules part.datagrams (plan_in plan version).services 0 j j (omega arith) known
+        ∙ ap (packets_of_kind (kind_at (plan_in plan version) j) (get_or (map (λ (service : ServiceFields). service.unicast) (plan_in plan version).services) j []) (part.packets_before j % 16) (part.schedules j))
         (no_datagrams j (omega (arith, known, length-services_in plan version)))
-        ∙ none_of_kind (kind_at (plan_in plan version) j) (get_or (map (λ (service : ServiceFields). service.unicast) (plan_in plan version).services) j []) (part.packets_before j % 16) (part.frames_before j))
+        ∙ none_of_kind (kind_at (plan_in plan version) j) (get_or (map (λ (service : ServiceFields). service.unicast) (plan_in plan version).services) j []) (part.packets_before j % 16) (part.schedules j))
 
     no_least : it.least ≡ 0
     no_least = by_least it.least refl
       where
-        not_of_service : (s : ℕ) (slot : Slot) → ((j n : ℕ) → slot ≡ of_service j n → (j < length (packet_counts (service_packets part))) × (n < slice_index (packet_counts (service_packets part)) j))
+        not_of_service : (s : ℕ) (slot : Slot) → ((j n : ℕ) → slot ≡ of_service j n → (j < length (plan_in plan version).services) × (n < length (slice_index_or (service_packets part) j [])))
             → is_of_service slot ≡ true → ⊥
         not_of_service s (of_table n) within is = absurd (cc)
         not_of_service s (of_service j n) within is = absurd (omega (arith, (within j n refl).1, no_packets j (within j n refl).0))
@@ -79,9 +67,7 @@ module _ (plan : PlanFields) (some_cycle : 1 ≤ plan.cycle) (datagrams : ℕ �
         by_least : (n : ℕ) → it.least ≡ n → it.least ≡ 0
         by_least zero e = e
         by_least (suc s) e =
-            absurd (not_of_service s (slot_in part s)
-            (carried_within (kept_for_table plan.cycle (table_packets (plan_in plan version))) (packet_counts (service_packets part)) (table_keeps_none plan.cycle (table_packets (plan_in plan version))) s)
-            (it.count.last s (omega (arith, e))))
+            absurd (not_of_service s (slot_in part s) (carried part s) (it.count.last s (omega (arith, e))))
 
     no_slots : slots version ≡ 0
     no_slots = by_last (is_last plan datagrams version) it.slots_are

@@ -9,16 +9,17 @@ use Rattle.std.proofs.lemmas.List.FromFn.{fill_by_all}
 use Rattle.ts_spec.specs.Packet.{PacketFields, fields_of, is_packet, packet_bytes, null_packet}
 use Rattle.ts_spec.specs.Packetized.{no_packet, packet_at}
 use Rattle.ts_packet.specs.Fields.{written_fields}
-use Rattle.plan_spec.specs.Plan.{mpe, ServiceFields, IntFields, PlanFields, pid_of, table_pids, service_pids, kinds}
+use Rattle.plan_spec.specs.Plan.{mpe, ServiceFields, IntFields, PlanFields, pid_of, table_pids, service_pids, kinds, SlicedFields, sliced_of}
 use Rattle.plan_spec.specs.Checks.{has_pair}
 use Rattle.plan_spec.specs.Signalling.{table_packets}
+use Rattle.plan_spec.specs.Valid.{is_plan}
 use Rattle.stream_spec.specs.Services.{kind_at}
-use Rattle.stream_spec.specs.Slots.{Slot, of_table, of_service, empty, is_of_service, kept_for_table, IsSlotCount}
-use Rattle.stream_spec.specs.Parts.{PartFields, packets_from, service_packets, packet_counts, packet_in, slot_in}
+use Rattle.stream_spec.specs.Slots.{Slot, of_table, of_service, empty, is_of_service, IsSlotCount}
+use Rattle.stream_spec.specs.Parts.{PartFields, service_packets, sizes_in, packet_in, slot_in}
 use Rattle.stream_law.specs.Words.{number_of}
 use Rattle.stream_law.proofs.Ranges.{range_append}
-use Rattle.stream_law.proofs.Turns.{carried_within, out_is}
-use Rattle.stream_law.proofs.Ends.{all_out, table_keeps_none, table_leaves_slots}
+use Rattle.stream_law.proofs.Carrying.{carried}
+use Rattle.stream_law.proofs.AllOut.{service_out}
 use Rattle.stream_law.proofs.Packets.{IsOn}
 use Rattle.stream_law.proofs.Records.{read_of}
 use Rattle.stream_law.proofs.Pids.{same_pid, neither, none_meets, services_differ}
@@ -30,17 +31,6 @@ pub record IsSendable (plan : PlanFields) : Type 0 where
   pub table_most : (pid : ℕ) → table_pids plan.table ≡ pid ∷ [] → pid ≤ 8190
   pub service_most : (k pid : ℕ) → k < length (kinds plan) → pid_of (kind_at plan k) ≡ Some pid → pid ≤ 8190
   pub leaves : table_packets plan < plan.cycle
-
-pub length-packets_from : (before frames : ℕ → ℕ) (datagrams : ℕ → List (List ℕ)) (i : ℕ) (services : List ServiceFields)
-    → length (packets_from i services before frames datagrams) ≡ length services
-length-packets_from before frames datagrams i [] = refl
-length-packets_from before frames datagrams i (service ∷ services) = ap suc (length-packets_from before frames datagrams (i + 1) services)
-
--- how many packets a service has
-pub count_of : (lists : List (List PacketFields)) (j : ℕ) → slice_index (packet_counts lists) j ≡ length (slice_index_or lists j [])
-count_of [] j = refl
-count_of (list ∷ lists) zero = refl
-count_of (list ∷ lists) (suc j) = count_of lists j
 
 -- the PIDs of the services differ from each other, and from the INT's
 behind_table : (table : Option IntFields) (pids : List ℕ) → has_pair same_pid (table_pids table ++ pids) ≡ false → has_pair same_pid pids ≡ false
@@ -71,17 +61,9 @@ module _ (readable : (pid : ℕ) (starts : Bool) (counter : ℕ) (payload : List
   within_kinds : (j : ℕ) → j < length part.plan.services → j < length (kinds part.plan)
   within_kinds j less = omega (arith, less, length-map part.plan.services (λ (service : ServiceFields). service.kind))
 
-  counts_at : (j : ℕ) → slice_index (packet_counts services) j ≡ length (slice_index_or services j [])
-  counts_at j = count_of services j
-
   -- what a slot carries of a service
   in_slot : (s j n : ℕ) → slot s ≡ of_service j n → n < length (slice_index_or services j [])
-  in_slot s j n is =
-      omega (
-        arith,
-        (carried_within (kept_for_table part.plan.cycle (table_packets part.plan)) (packet_counts services) (table_keeps_none part.plan.cycle (table_packets part.plan)) s j n is).1,
-        counts_at j,
-      )
+  in_slot s j n is = (carried part s j n is).1
 
   -- A PID that neither the INT nor a service has in this part.
   module _ (pid : ℕ) (most : pid ≤ 8190) (no_table : (other : ℕ) → table_pids part.plan.table ≡ other ∷ [] → eqb other pid ≡ false)
@@ -94,7 +76,7 @@ module _ (readable : (pid : ℕ) (starts : Bool) (counter : ℕ) (payload : List
             read_table readable fields null_fields pid part part.plan.table (s / part.plan.cycle) n (λ other is. (omega (arith, sendable.table_most other is), no_table other is))
         by_slot (of_service j n) within =
             let on : (other : ℕ) × (pid_of (kind_at part.plan j) ≡ Some other) × IsOn other (packet_at (slice_index_or services j []) n) × (j < length part.plan.services)
-            = place_on part.packets_before part.frames_before part.datagrams part.plan.services 0 j n (within j n refl) in
+            = place_on part.packets_before part.schedules part.datagrams part.plan.services 0 j n (within j n refl) in
             let below : on.0 ≤ 8190 = sendable.service_most j on.0 (within_kinds j on.3) on.1 in
             read_other readable fields null_fields pid on.0 (packet_at (slice_index_or services j []) n) (omega (arith, below)) (no_service j on.0 on.3 on.1) on.2
         by_slot empty within = read_null readable fields null_fields pid most
@@ -113,13 +95,13 @@ module _ (readable : (pid : ℕ) (starts : Bool) (counter : ℕ) (payload : List
     most = sendable.service_most k pid (within_kinds k known) pid_is
 
     -- what one slot gives
-    slot_read : (s : ℕ) → read_of pid (slot_packet part s ∷ []) ≡ numbered_packets pid k packets (slot s ∷ [])
+    pub slot_read : (s : ℕ) → read_of pid (slot_packet part s ∷ []) ≡ numbered_packets pid k packets (slot s ∷ [])
     slot_read s = by_slot (slot s) (λ j n is. in_slot s j n is)
       where
         of_own : (j n : ℕ) → j ≡ k → n < length (slice_index_or services j []) → read_of pid (packet_in part (s / part.plan.cycle) (of_service j n) ∷ []) ≡ packet_at packets n ∷ []
         of_own j n same less =
             let on : (other : ℕ) × (pid_of (kind_at part.plan j) ≡ Some other) × IsOn other (packet_at (slice_index_or services j []) n) × (j < length part.plan.services)
-            = place_on part.packets_before part.frames_before part.datagrams part.plan.services 0 j n less in
+            = place_on part.packets_before part.schedules part.datagrams part.plan.services 0 j n less in
             let known_pid : Some on.0 ≡ Some pid = sym on.1 ∙ ap (λ (i : ℕ). pid_of (kind_at part.plan i)) same ∙ pid_is in
             let its_pid : on.0 ≡ pid = ap (λ (o : Option ℕ). unwrap_or o 0) known_pid in
             read_own readable fields null_fields pid (packet_at (slice_index_or services j []) n) (omega (arith, most)) (subst (λ (p : ℕ). IsOn p (packet_at (slice_index_or services j []) n)) its_pid on.2)
@@ -128,7 +110,7 @@ module _ (readable : (pid : ℕ) (starts : Bool) (counter : ℕ) (payload : List
         of_other : (j n : ℕ) → eqb j k ≡ false → n < length (slice_index_or services j []) → read_of pid (packet_in part (s / part.plan.cycle) (of_service j n) ∷ []) ≡ []
         of_other j n apart less =
             let on : (other : ℕ) × (pid_of (kind_at part.plan j) ≡ Some other) × IsOn other (packet_at (slice_index_or services j []) n) × (j < length part.plan.services)
-            = place_on part.packets_before part.frames_before part.datagrams part.plan.services 0 j n less in
+            = place_on part.packets_before part.schedules part.datagrams part.plan.services 0 j n less in
             let differs : eqb on.0 pid ≡ false
             = services_differ (mpe 0) (kinds part.plan) (behind_table part.plan.table (service_pids part.plan) sendable.differ) j k on.0 pid apart
             (within_kinds j on.3) (within_kinds k known) on.1 pid_is in
@@ -159,22 +141,14 @@ module _ (readable : (pid : ℕ) (starts : Bool) (counter : ℕ) (payload : List
     numbers over = filter_map (number_of k) (map slot over)
 
     -- all packets are out before the last of them, and in the slots after it none is
-    pub packets_sent_in : (least slots : ℕ) → IsSlotCount slot least → least ≤ slots → read_of pid (map (slot_packet part) (range_with_len 0 slots)) ≡ packets
-    packets_sent_in least slots count le =
-        slots_read pid k packets (slot_packet part) slot slot_read (range_with_len 0 slots)
-        ∙ ap (map (packet_at packets)) out_all
-        ∙ all_packets
+    pub all_numbers : is_plan part.plan ≡ true
+        → ((fields : SlicedFields) → sliced_of (kind_at part.plan k) ≡ Some fields → (c : ℕ) → slice_index (sizes_in part k) c ≤ fields.length)
+        → (least slots : ℕ) → IsSlotCount slot least → least ≤ slots
+        → filter_map (number_of k) (map (slot_in part) (range_with_len 0 slots)) ≡ range_with_len 0 (length (slice_index_or (service_packets part) k []))
+    all_numbers accepted fits least slots count le = out_all
       where
-        counts_size : k < length (packet_counts services)
-        counts_size =
-            omega (arith, length-map services (λ (list : List PacketFields). length list), length-packets_from part.packets_before part.frames_before part.datagrams 0 part.plan.services, known)
-
         out_first : numbers (range_with_len 0 least) ≡ range_with_len 0 (length packets)
-        out_first =
-            out_is (kept_for_table part.plan.cycle (table_packets part.plan)) (packet_counts services) (table_keeps_none part.plan.cycle (table_packets part.plan)) k counts_size least
-            ∙ ap (range_with_len 0)
-            (all_out (kept_for_table part.plan.cycle (table_packets part.plan)) (packet_counts services) (table_leaves_slots part.plan.cycle (table_packets part.plan) sendable.leaves) least count k counts_size
-            ∙ counts_at k)
+        out_first = service_out part accepted k known fits least count
 
         no_number : (it : Slot) → is_of_service it ≡ false → number_of k it ≡ None
         no_number (of_table n) is = refl
@@ -194,3 +168,11 @@ module _ (readable : (pid : ℕ) (starts : Bool) (counter : ℕ) (payload : List
             ∙ filter_map-append (number_of k) (map slot (range_with_len 0 least)) (map slot (range_with_len least (slots - least)))
             ∙ ap₂ (λ (a b : List ℕ). a ++ b) out_first (none_behind (slots - least) least (omega arith))
             ∙ append-nil (range_with_len 0 (length packets))
+
+    pub packets_sent_in : is_plan part.plan ≡ true
+        → ((fields : SlicedFields) → sliced_of (kind_at part.plan k) ≡ Some fields → (c : ℕ) → slice_index (sizes_in part k) c ≤ fields.length)
+        → (least slots : ℕ) → IsSlotCount slot least → least ≤ slots → read_of pid (map (slot_packet part) (range_with_len 0 slots)) ≡ packets
+    packets_sent_in accepted fits least slots count le =
+        slots_read pid k packets (slot_packet part) slot slot_read (range_with_len 0 slots)
+        ∙ ap (map (packet_at packets)) (all_numbers accepted fits least slots count le)
+        ∙ all_packets

@@ -1,15 +1,11 @@
 -- The packets of a packetization are ones that can be written, of one PID.
-use Rattle.std.proofs.Common.{◌≡◌, ℕ, zero, suc, ◌+◌, ◌-◌, ◌%◌, ◌<◌, ◌≤◌, Bool, true, false, cond, ◌&&◌, ◌||◌, leb, eqb, List, [], ◌∷◌, ◌++◌, length, take, drop, replicate, Some, refl, sym, ◌∙◌, arith, length-take}
+use Rattle.std.proofs.Common.{◌≡◌, ℕ, zero, suc, ◌+◌, ◌-◌, ◌%◌, ◌<◌, ◌≤◌, Bool, true, false, cond, ◌&&◌, ◌||◌, leb, eqb, List, [], ◌∷◌, ◌++◌, length, take, drop, replicate, refl, ◌∙◌, arith, length-take}
 use Rattle.std.proofs.lemmas.List.{length-replicate, length-append}
 use Rattle.ts_spec.specs.Form.{UnitForm}
 use Rattle.ts_spec.specs.Packet.{PacketFields}
 use Rattle.ts_spec.specs.Packetized.{packet_at}
 use Rattle.unit_stream.proofs.Written.{length-numbered}
 use Rattle.unit_stream.specs.Packing.{stuffed, behind_unit, filled, Piece, may_begin, begin_piece, middle_piece, pieces, byte_count, numbered, packetized}
-use Rattle.ts_spec.specs.Sndu.{sndu_form}
-use Rattle.section_spec.specs.Section.{section_form}
-use Rattle.plan_spec.specs.Plan.{KindFields, ule, mpe, fec, gse, pid_of}
-use Rattle.stream_spec.specs.Units.{units_of_kind, packets_of_kind}
 
 -- a packet of this PID that can be written
 pub record IsOn (pid : ℕ) (packet : PacketFields) : Type 0 where
@@ -99,35 +95,11 @@ pub packetized_on : (form : UnitForm) (packing : Bool) (pid counter : ℕ) (unit
 packetized_on form packing pid counter units le n less =
     numbered_on pid counter (pieces (byte_count units) form.start packing [] units) le (full_pieces (byte_count units) form.start packing [] units) n less
 
--- the packets of a service
-pub kind_on : (kind : KindFields) (unicast : List ℕ) (counter number : ℕ) (datagrams : List (List ℕ)) → counter ≤ 15 → (n : ℕ) → n < length (packets_of_kind kind unicast counter number datagrams)
-    → (pid : ℕ) × (pid_of kind ≡ Some pid) × IsOn pid (packet_at (packets_of_kind kind unicast counter number datagrams) n)
-kind_on (ule pid address packing) unicast counter number datagrams le n less =
-    (pid, refl, packetized_on sndu_form packing pid counter (units_of_kind (ule pid address packing) unicast number datagrams) le n less)
-kind_on (mpe pid) unicast counter number datagrams le n less =
-    (pid, refl, packetized_on section_form true pid counter (units_of_kind (mpe pid) unicast number datagrams) le n less)
-kind_on (fec pid rows parity window) unicast counter number datagrams le n less =
-    (pid, refl, packetized_on section_form true pid counter (units_of_kind (fec pid rows parity window) unicast number datagrams) le n less)
-kind_on (gse isi address) unicast counter number datagrams le n less = absurd (omega arith)
-
 -- Their number, which the first counter does not change.
 
-length-packetized : (form : UnitForm) (packing : Bool) (pid counter : ℕ) (units : List (List ℕ))
+pub length-packetized : (form : UnitForm) (packing : Bool) (pid counter : ℕ) (units : List (List ℕ))
     → length (packetized form packing pid counter units) ≡ length (pieces (byte_count units) form.start packing [] units)
 length-packetized form packing pid counter units = length-numbered pid counter (pieces (byte_count units) form.start packing [] units)
-
-pub length-packets_of_kind : (kind : KindFields) (unicast : List ℕ) (counter number : ℕ) (datagrams : List (List ℕ))
-    → length (packets_of_kind kind unicast counter number datagrams) ≡ length (packets_of_kind kind unicast 0 number datagrams)
-length-packets_of_kind (ule pid address packing) unicast counter number datagrams =
-    length-packetized sndu_form packing pid counter (units_of_kind (ule pid address packing) unicast number datagrams)
-    ∙ sym (length-packetized sndu_form packing pid 0 (units_of_kind (ule pid address packing) unicast number datagrams))
-length-packets_of_kind (mpe pid) unicast counter number datagrams =
-    length-packetized section_form true pid counter (units_of_kind (mpe pid) unicast number datagrams)
-    ∙ sym (length-packetized section_form true pid 0 (units_of_kind (mpe pid) unicast number datagrams))
-length-packets_of_kind (fec pid rows parity window) unicast counter number datagrams =
-    length-packetized section_form true pid counter (units_of_kind (fec pid rows parity window) unicast number datagrams)
-    ∙ sym (length-packetized section_form true pid 0 (units_of_kind (fec pid rows parity window) unicast number datagrams))
-length-packets_of_kind (gse isi address) unicast counter number datagrams = refl
 
 -- Their counters.
 
@@ -156,11 +128,3 @@ packetized_go_on form packing pid before units = record {
   where
     after : (n i : ℕ) → (n % 16 + i) % 16 ≡ (n + i) % 16
     after n i = omega arith
-
-pub kind_go_on : (kind : KindFields) (unicast : List ℕ) (before number : ℕ) (datagrams : List (List ℕ)) → GoOn before (packets_of_kind kind unicast (before % 16) number datagrams)
-kind_go_on (ule pid address packing) unicast before number datagrams =
-    packetized_go_on sndu_form packing pid before (units_of_kind (ule pid address packing) unicast number datagrams)
-kind_go_on (mpe pid) unicast before number datagrams = packetized_go_on section_form true pid before (units_of_kind (mpe pid) unicast number datagrams)
-kind_go_on (fec pid rows parity window) unicast before number datagrams =
-    packetized_go_on section_form true pid before (units_of_kind (fec pid rows parity window) unicast number datagrams)
-kind_go_on (gse isi address) unicast before number datagrams = none_go_on before

@@ -1,6 +1,6 @@
 -- What a stream of parts gives on a PID: what each part gives, one after another.
-use Rattle.std.proofs.Common.{◌≡◌, ℕ, ◌+◌, ◌-◌, ◌%◌, ◌≤◌, Bool, true, false, cond, List, [], length, map, replicate, refl, sym, ap, ◌∙◌, arith, Option, Some, None}
-use Rattle.std.specs.Prelude.{sum_by, flat_map, slice_index_or}
+use Rattle.std.proofs.Common.{◌≡◌, ℕ, ◌+◌, ◌-◌, ◌%◌, ◌≤◌, Bool, true, false, cond, List, [], length, map, replicate, refl, sym, ap, subst, ◌∙◌, arith, Option, Some, None}
+use Rattle.std.specs.Prelude.{sum_by, flat_map, slice_index, slice_index_or}
 use Rattle.std.specs.List.{range_with_len}
 use Rattle.std.proofs.lemmas.Bool.{eqb-true}
 use Rattle.std.proofs.lemmas.Nat.{div-add-mod'}
@@ -16,13 +16,13 @@ use Rattle.plan_spec.specs.Wholes.{is_whole_plan}
 use Rattle.stream_spec.specs.Services.{IsPidOf}
 use Rattle.stream_spec.specs.Parts.{PartFields, service_packets, records_of_slots}
 use Rattle.stream_spec.specs.Stream.{part_of, earlier, is_last, whole_cycles, IsPartCount}
-use Rattle.stream_law.specs.Words.{HaveMoments, begun_cycles, packets_on, packets_of_int}
+use Rattle.stream_law.specs.Words.{HaveMoments, FitsWindow, begun_cycles, packets_on, packets_of_int}
 use Rattle.stream_law.proofs.Ranges.{flat_map_same}
 use Rattle.stream_law.proofs.Records.{read_of, AreStamped, sent_is_read, pieces_have, slots_stamped, parts_stamped, parts_read}
 use Rattle.stream_law.proofs.OnPid.{IsSendable, slot_packet, nothing_sent, packets_sent_in}
 use Rattle.stream_law.proofs.TableOnPid.{ends_behind, ends_cycle, table_sent_in}
 use Rattle.stream_law.proofs.Plans.{sendable}
-use Rattle.stream_law.proofs.Kept.{pid_of_version}
+use Rattle.stream_law.proofs.Kept.{pid_of_version, sizes_kept, sliced_kept}
 use Rattle.stream_law.proofs.Wholes.{version_accepted, pid_most, known_in, table_has_other, others_have_other}
 
 -- the PID that a service has
@@ -79,24 +79,28 @@ module _ (plan : PlanFields) (datagrams : ℕ → ℕ → List (List ℕ)) (slot
         by_last false e = omega (arith, e, cycles_hold plan.cycle (each version within).least (omega (arith, (can_send version within).leaves)))
 
     -- of a service
-    pub read_in_part : (k pid : ℕ) → IsPidOf plan k pid → (version : ℕ) → version ≤ length plan.changes → read_of pid (packets version) ≡ packets_on plan datagrams slots k pid version
-    read_in_part k pid own version within = by_pid (has_pid (pid_in plan version k) pid) refl
+    pub read_in_part : (k pid : ℕ) → IsPidOf plan k pid → FitsWindow plan datagrams k
+        → (version : ℕ) → version ≤ length plan.changes → read_of pid (packets version) ≡ packets_on plan datagrams slots k pid version
+    read_in_part k pid own fits version within = by_pid (has_pid (pid_in plan version k) pid) refl
       where
         by_pid : (is : Bool) → has_pid (pid_in plan version k) pid ≡ is → read_of pid (packets version) ≡ cond is (slice_index_or (service_packets (part version)) k []) []
         by_pid true e =
             packets_sent_in readable fields null_fields (part version) (can_send version within) k pid (known_in plan whole k pid own version within)
             (sym (pid_of_version plan version k) ∙ has_its_pid (pid_in plan version k) pid e)
+            (version_accepted plan whole version within)
+            (λ fields is c. subst (λ (l : List ℕ). slice_index l c ≤ fields.length) (sym (sizes_kept plan version k (datagrams version k)))
+            (fits version c fields within (sym (sliced_kept plan version k) ∙ is)))
             (each version within).least (slots version) (each version within).count (least_within version within)
         by_pid false e =
             nothing_sent readable fields null_fields (part version) (can_send version within) pid (pid_most plan whole k pid own version within)
             (table_has_other plan whole k pid own version within) (others_have_other plan whole k pid own version within e) (range_with_len 0 (slots version))
 
-    pub service_sent : HaveMoments plan slots → (k pid : ℕ) → IsPidOf plan k pid
+    pub service_sent : HaveMoments plan slots → (k pid : ℕ) → IsPidOf plan k pid → FitsWindow plan datagrams k
         → packets_sent pid (records_of plan.recording (flat_map pieces (versions plan))) ≡ flat_map (packets_on plan datagrams slots k pid) (versions plan)
-    service_sent timed k pid own =
+    service_sent timed k pid own fits =
         all_read timed pid
         ∙ flat_map_same (λ version. read_of pid (packets version)) (packets_on plan datagrams slots k pid) 0 (length plan.changes + 1)
-        (λ version less. read_in_part k pid own version (omega (arith, less)))
+        (λ version less. read_in_part k pid own fits version (omega (arith, less)))
 
     -- of the INT
     pub table_in_part : (int : IntFields) → plan.table ≡ Some int → (version : ℕ) → version ≤ length plan.changes

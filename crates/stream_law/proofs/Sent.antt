@@ -10,11 +10,12 @@ use Rattle.section_spec.specs.Section.{section_form}
 use Rattle.int_spec.specs.Table.{table_bytes}
 use Rattle.plan_spec.specs.Plan.{mpe, ServiceFields, IntFields, pid_of, table_pids}
 use Rattle.plan_spec.specs.Signalling.{table_of, table_packets}
-use Rattle.stream_spec.specs.Units.{packets_of_kind}
+use Rattle.stream_spec.specs.Units.{FrameSchedule, packets_of_kind}
 use Rattle.stream_spec.specs.Slots.{Slot}
 use Rattle.stream_spec.specs.Parts.{PartFields, packets_from, int_packets, written}
 use Rattle.stream_law.specs.Words.{number_of}
-use Rattle.stream_law.proofs.Packets.{IsOn, packetized_on, kind_on}
+use Rattle.stream_law.proofs.Packets.{IsOn, packetized_on}
+use Rattle.stream_law.proofs.KindPackets.{kind_on}
 use Rattle.stream_law.proofs.Records.{read_of}
 
 -- slots of which each gives the packet of its number give the packets of all numbers
@@ -56,29 +57,29 @@ none_behind (packet ∷ packets) zero le = absurd (omega arith)
 none_behind (packet ∷ packets) (suc n) le = none_behind packets n (omega arith)
 
 -- the packets of the service at a place
-pub packets_at : (before frames : ℕ → ℕ) (datagrams : ℕ → List (List ℕ)) (services : List ServiceFields) (i k at : ℕ) → at ≡ i + k → k < length services
-    → slice_index_or (packets_from i services before frames datagrams) k []
+pub packets_at : (before : ℕ → ℕ) (schedules : ℕ → FrameSchedule) (datagrams : ℕ → List (List ℕ)) (services : List ServiceFields) (i k at : ℕ) → at ≡ i + k → k < length services
+    → slice_index_or (packets_from i services before schedules datagrams) k []
     ≡ packets_of_kind (get_or (map (λ (service : ServiceFields). service.kind) services) k (mpe 0)) (get_or (map (λ (service : ServiceFields). service.unicast) services) k [])
-    (before at % 16) (frames at) (datagrams at)
-packets_at before frames datagrams [] i k at e less = absurd (omega arith)
-packets_at before frames datagrams (service ∷ services) i zero at e less =
-    let here : i ≡ at = omega (arith, e) in ap (λ (n : ℕ). packets_of_kind service.kind service.unicast (before n % 16) (frames n) (datagrams n)) here
-packets_at before frames datagrams (service ∷ services) i (suc k) at e less = packets_at before frames datagrams services (i + 1) k at (omega (arith, e)) (omega arith)
+    (before at % 16) (schedules at) (datagrams at)
+packets_at before schedules datagrams [] i k at e less = absurd (omega arith)
+packets_at before schedules datagrams (service ∷ services) i zero at e less =
+    let here : i ≡ at = omega (arith, e) in ap (λ (n : ℕ). packets_of_kind service.kind service.unicast (before n % 16) (schedules n) (datagrams n)) here
+packets_at before schedules datagrams (service ∷ services) i (suc k) at e less = packets_at before schedules datagrams services (i + 1) k at (omega (arith, e)) (omega arith)
 
 -- each of them is one of its PID
-pub place_on : (before frames : ℕ → ℕ) (datagrams : ℕ → List (List ℕ)) (services : List ServiceFields) (i j n : ℕ)
-    → n < length (slice_index_or (packets_from i services before frames datagrams) j [])
+pub place_on : (before : ℕ → ℕ) (schedules : ℕ → FrameSchedule) (datagrams : ℕ → List (List ℕ)) (services : List ServiceFields) (i j n : ℕ)
+    → n < length (slice_index_or (packets_from i services before schedules datagrams) j [])
     → (pid : ℕ) × (pid_of (get_or (map (λ (service : ServiceFields). service.kind) services) j (mpe 0)) ≡ Some pid)
-    × IsOn pid (packet_at (slice_index_or (packets_from i services before frames datagrams) j []) n) × (j < length services)
-place_on before frames datagrams [] i j n less = absurd (omega arith)
-place_on before frames datagrams (service ∷ services) i zero n less =
-    let here : (pid : ℕ) × (pid_of service.kind ≡ Some pid) × IsOn pid (packet_at (packets_of_kind service.kind service.unicast (before i % 16) (frames i) (datagrams i)) n)
-    = kind_on service.kind service.unicast (before i % 16) (frames i) (datagrams i) (omega arith) n less in
+    × IsOn pid (packet_at (slice_index_or (packets_from i services before schedules datagrams) j []) n) × (j < length services)
+place_on before schedules datagrams [] i j n less = absurd (omega arith)
+place_on before schedules datagrams (service ∷ services) i zero n less =
+    let here : (pid : ℕ) × (pid_of service.kind ≡ Some pid) × IsOn pid (packet_at (packets_of_kind service.kind service.unicast (before i % 16) (schedules i) (datagrams i)) n)
+    = kind_on service.kind service.unicast (before i % 16) (schedules i) (datagrams i) (omega arith) n less in
     (here.0, here.1, here.2, omega arith)
-place_on before frames datagrams (service ∷ services) i (suc j) n less =
+place_on before schedules datagrams (service ∷ services) i (suc j) n less =
     let there : (pid : ℕ) × (pid_of (get_or (map (λ (s : ServiceFields). s.kind) services) j (mpe 0)) ≡ Some pid)
-    × IsOn pid (packet_at (slice_index_or (packets_from (i + 1) services before frames datagrams) j []) n) × (j < length services)
-    = place_on before frames datagrams services (i + 1) j n less in
+    × IsOn pid (packet_at (slice_index_or (packets_from (i + 1) services before schedules datagrams) j []) n) × (j < length services)
+    = place_on before schedules datagrams services (i + 1) j n less in
     (there.0, there.1, there.2, omega (arith, there.3))
 
 -- with the laws of packets that are written

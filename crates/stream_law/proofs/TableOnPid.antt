@@ -2,7 +2,7 @@
 use Rattle.std.proofs.Common.{◌≡◌, ℕ, zero, suc, ◌+◌, ◌-◌, ◌*◌, ◌/◌, ◌%◌, ◌<◌, ◌≤◌, Bool, true, false, cond, eqb, ltb, List, [], ◌∷◌, ◌++◌, length, map, replicate, refl, sym, ap, ap₂, ◌∙◌, arith, Option, Some, None}
 use Rattle.std.specs.Prelude.{slice_index, slice_index_or, flat_map}
 use Rattle.std.specs.List.{range_with_len}
-use Rattle.std.specs.Option.{unwrap_or}
+use Rattle.std.specs.Option.{unwrap_or, option_or}
 use Rattle.std.proofs.lemmas.List.{length-map}
 use Rattle.std.proofs.lemmas.Nat.{mod-mul-add}
 use Rattle.std.proofs.Math.Nat.{add-mul}
@@ -15,16 +15,17 @@ use Rattle.int_spec.specs.Table.{table_bytes}
 use Rattle.plan_spec.specs.Plan.{mpe, ServiceFields, IntFields, PlanFields, pid_of, table_pids, service_pids, kinds}
 use Rattle.plan_spec.specs.Signalling.{table_of, table_packets, packets_of_table, section_packets}
 use Rattle.stream_spec.specs.Services.{kind_at}
-use Rattle.stream_spec.specs.Slots.{Slot, of_table, of_service, empty, is_of_service, Turns, next_service, turns_at, slot_of_service, kept_for_table, IsSlotCount}
-use Rattle.stream_spec.specs.Parts.{PartFields, written, int_packets, service_packets, packet_counts, packet_in, slot_in}
+use Rattle.slice_spec.specs.Windows.{owner_of}
+use Rattle.stream_spec.specs.Slots.{Slot, of_table, of_service, empty, is_of_service, Turns, next_service, turns_at, slot_of_service, IsSlotCount}
+use Rattle.stream_spec.specs.Windows.{windows_of, out_before, of_owner}
+use Rattle.stream_spec.specs.Parts.{PartFields, written, int_packets, service_packets, turn_counts, sizes_in, kept_in, packet_in, slot_in}
 use Rattle.stream_law.specs.Words.{begun_cycles}
-use Rattle.stream_law.proofs.Turns.{carried_within}
-use Rattle.stream_law.proofs.Ends.{table_keeps_none}
+use Rattle.stream_law.proofs.Carrying.{carried}
 use Rattle.stream_law.proofs.Packets.{IsOn, packetized_on}
 use Rattle.stream_law.proofs.Records.{read_of}
 use Rattle.stream_law.proofs.Pids.{same_pid, none_meets}
 use Rattle.stream_law.proofs.Sent.{read_first, place_on, read_own, read_other, read_null}
-use Rattle.stream_law.proofs.OnPid.{IsSendable, table_meets_none, count_of, slot_packet}
+use Rattle.stream_law.proofs.OnPid.{IsSendable, table_meets_none, slot_packet}
 use Rattle.stream_law.proofs.TableSizes.{length-packetized}
 use Rattle.stream_law.proofs.Cycles.{given, items, of_slots}
 
@@ -78,7 +79,7 @@ module _ (readable : (pid : ℕ) (starts : Bool) (counter : ℕ) (payload : List
   of_service_read : (s j n : ℕ) → n < length (slice_index_or services j []) → read_of int.pid (packet_in part (s / part.plan.cycle) (of_service j n) ∷ []) ≡ []
   of_service_read s j n less =
       let on : (other : ℕ) × (pid_of (kind_at part.plan j) ≡ Some other) × IsOn other (packet_at (slice_index_or services j []) n) × (j < length part.plan.services)
-      = place_on part.packets_before part.frames_before part.datagrams part.plan.services 0 j n less in
+      = place_on part.packets_before part.schedules part.datagrams part.plan.services 0 j n less in
       let within : j < length (kinds part.plan) = omega (arith, on.3, length-map part.plan.services (λ (service : ServiceFields). service.kind)) in
       let differs : eqb int.pid on.0 ≡ false
       = none_meets (same_pid int.pid) (mpe 0) (kinds part.plan) (table_meets_none part.plan.table (service_pids part.plan) sendable.differ int.pid (ap table_pids table_is)) j on.0 within on.1 in
@@ -89,16 +90,14 @@ module _ (readable : (pid : ℕ) (starts : Bool) (counter : ℕ) (payload : List
       swapped a b e = grind (arith, e)
 
   slot_read : (s : ℕ) → read_of int.pid (bytes s ∷ []) ≡ gives s
-  slot_read s = by_place (ltb (s % part.plan.cycle) (table_packets part.plan)) refl
+  slot_read s =
+      by_place (ltb (s % part.plan.cycle) (table_packets part.plan)) refl (owner_of (windows_of part.plan) (s % part.plan.cycle)) refl
     where
-      next : Option ℕ
-      next = next_service (packet_counts services) (turns_at (kept_for_table part.plan.cycle (table_packets part.plan)) (packet_counts services) s)
-
       turns : Turns
-      turns = turns_at (kept_for_table part.plan.cycle (table_packets part.plan)) (packet_counts services) s
+      turns = turns_at (kept_in part) (turn_counts (kinds part.plan) services) s
 
-      later : Slot
-      later = slot_of_service turns next
+      next : Option ℕ
+      next = next_service (turn_counts (kinds part.plan) services) turns
 
       own : s % part.plan.cycle < table_packets part.plan → read_of int.pid (packet_in part (s / part.plan.cycle) (of_table (s % part.plan.cycle)) ∷ []) ≡ packet (s / part.plan.cycle) (s % part.plan.cycle) ∷ []
       own less =
@@ -117,18 +116,28 @@ module _ (readable : (pid : ℕ) (starts : Bool) (counter : ℕ) (payload : List
       no_table None n e = absurd (cc)
       no_table (Some j) n e = absurd (cc)
 
-      by_place : (early : Bool) → ltb (s % part.plan.cycle) (table_packets part.plan) ≡ early
-          → read_of int.pid (packet_in part (s / part.plan.cycle) (unwrap_or (cond early (Some (of_table (s % part.plan.cycle))) None) later) ∷ [])
-          ≡ cond early (packet (s / part.plan.cycle) (s % part.plan.cycle) ∷ []) []
-      by_place true e = own (grind (arith, e))
-      by_place false e = other later in_turn (no_table next)
+      not_later : (owner : Option (ℕ × ℕ)) (n : ℕ)
+          → unwrap_or (of_owner (sizes_in part) (s / part.plan.cycle) owner) (slot_of_service turns next) ≡ of_table n → ⊥
+      not_later None n e = no_table next n e
+      not_later (Some owner) n e =
+          by_more (ltb owner.1 (slice_index (sizes_in part owner.0) (s / part.plan.cycle))) (out_before (sizes_in part owner.0) (s / part.plan.cycle) + owner.1) e
         where
-          in_turn : (j n : ℕ) → later ≡ of_service j n → n < length (slice_index_or services j [])
+          by_more : (more : Bool) (m : ℕ) → unwrap_or (cond more (Some (of_service owner.0 m)) None) (slot_of_service turns next) ≡ of_table n → ⊥
+          by_more true m e2 = absurd (cc)
+          by_more false m e2 = no_table next n e2
+
+      by_place : (early : Bool) → ltb (s % part.plan.cycle) (table_packets part.plan) ≡ early → (owner : Option (ℕ × ℕ)) → owner_of (windows_of part.plan) (s % part.plan.cycle) ≡ owner
+          → read_of int.pid (packet_in part (s / part.plan.cycle)
+          (unwrap_or (option_or (cond early (Some (of_table (s % part.plan.cycle))) None) (of_owner (sizes_in part) (s / part.plan.cycle) owner)) (slot_of_service turns next)) ∷ [])
+          ≡ cond early (packet (s / part.plan.cycle) (s % part.plan.cycle) ∷ []) []
+      by_place true e owner e2 = own (grind (arith, e))
+      by_place false e owner e2 = other (unwrap_or (of_owner (sizes_in part) (s / part.plan.cycle) owner) (slot_of_service turns next)) in_turn (not_later owner)
+        where
+          in_turn : (j n : ℕ) → unwrap_or (of_owner (sizes_in part) (s / part.plan.cycle) owner) (slot_of_service turns next) ≡ of_service j n → n < length (slice_index_or services j [])
           in_turn j n is =
-              let here : slot s ≡ of_service j n = ap (λ (b : Bool). unwrap_or (cond b (Some (of_table (s % part.plan.cycle))) None) later) e ∙ is in
-              let known : (j < length (packet_counts services)) × (n < slice_index (packet_counts services) j)
-              = carried_within (kept_for_table part.plan.cycle (table_packets part.plan)) (packet_counts services) (table_keeps_none part.plan.cycle (table_packets part.plan)) s j n here in
-              omega (arith, known.1, count_of services j)
+              let here : slot s ≡ of_service j n
+              = ap₂ (λ (b : Bool) (o : Option (ℕ × ℕ)). unwrap_or (option_or (cond b (Some (of_table (s % part.plan.cycle))) None) (of_owner (sizes_in part) (s / part.plan.cycle) o)) (slot_of_service turns next)) e e2 ∙ is in
+              (carried part s j n here).1
 
   read_all : (slots : List ℕ) → read_of int.pid (map bytes slots) ≡ flat_map gives slots
   read_all [] = refl
@@ -145,11 +154,15 @@ module _ (readable : (pid : ℕ) (starts : Bool) (counter : ℕ) (payload : List
   pub ends_behind : (slots : ℕ) → IsSlotCount slot slots → (s : ℕ) → slots ≡ s + 1 → table_packets part.plan ≤ s % part.plan.cycle
   ends_behind slots count s e = by_place (ltb (s % part.plan.cycle) (table_packets part.plan)) refl (count.last s e)
     where
-      later : Slot
-      later = slot_of_service (turns_at (kept_for_table part.plan.cycle (table_packets part.plan)) (packet_counts services) s)
-          (next_service (packet_counts services) (turns_at (kept_for_table part.plan.cycle (table_packets part.plan)) (packet_counts services) s))
+      turns : Turns
+      turns = turns_at (kept_in part) (turn_counts (kinds part.plan) services) s
 
-      by_place : (early : Bool) → ltb (s % part.plan.cycle) (table_packets part.plan) ≡ early → is_of_service (unwrap_or (cond early (Some (of_table (s % part.plan.cycle))) None) later) ≡ true
+      later : Slot
+      later = slot_of_service turns (next_service (turn_counts (kinds part.plan) services) turns)
+
+      by_place : (early : Bool) → ltb (s % part.plan.cycle) (table_packets part.plan) ≡ early
+          → is_of_service (unwrap_or (option_or (cond early (Some (of_table (s % part.plan.cycle))) None)
+          (of_owner (sizes_in part) (s / part.plan.cycle) (owner_of (windows_of part.plan) (s % part.plan.cycle)))) later) ≡ true
           → table_packets part.plan ≤ s % part.plan.cycle
       by_place true is e2 = absurd (cc)
       by_place false is e2 = grind (arith, is)

@@ -265,6 +265,15 @@ module _ (form : UnitForm) (lawful : IsLawful form) (us vs : List (List ℕ)) (p
     },
   )
 
+  -- a unit begins in the packet in which it begins in its own list
+  pub begun_first : (n m : ℕ) → n < length us → IsIn ps m (b n) → IsIn (ps ++ qs) m (appended.0 n)
+  unfolding appended
+  begun_first n m less here = subst (IsIn (ps ++ qs) m) (sym (begin_low n less)) (in_both ps qs m (b n) here)
+
+  pub begun_behind : (n j m : ℕ) → n ≡ length us + j → IsIn qs m (c j) → IsIn (ps ++ qs) (length ps + m) (appended.0 n)
+  unfolding appended
+  begun_behind n j m e here = behind_in ps qs m (c j) (begin n) (begin_high n j e) here
+
   -- a packet that holds a part of a unit of the first is one of theirs, and one that holds a part of another unit is behind them
   pub held : (n m : ℕ) → n < length (us ++ vs) → HoldsPart (us ++ vs) (ps ++ qs) appended.0 n m
       → ((n < length us) × (m < length ps)) ⊎ ((length us ≤ n) × (length ps ≤ m) × HoldsPart vs qs c (n - length us) (m - length ps))

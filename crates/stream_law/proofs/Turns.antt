@@ -1,5 +1,5 @@
 -- How far the services are, and which packets are out.
-use Rattle.std.proofs.Common.{◌≡◌, ℕ, zero, suc, ◌+◌, ◌<◌, ◌≤◌, Bool, true, false, cond, eqb, List, [], ◌∷◌, ◌++◌, length, map, set, refl, sym, ap, ◌∙◌, arith, Option, Some, None}
+use Rattle.std.proofs.Common.{◌≡◌, ◌⊎◌, inl, inr, ℕ, zero, suc, ◌+◌, ◌<◌, ◌≤◌, Bool, true, false, cond, eqb, List, [], ◌∷◌, ◌++◌, length, map, set, refl, sym, ap, ◌∙◌, arith, Option, Some, None}
 use Rattle.std.specs.Prelude.{slice_index, is_some}
 use Rattle.std.specs.List.{range_with_len, filter_map}
 use Rattle.std.specs.Option.{unwrap_or}
@@ -44,6 +44,15 @@ range_snoc : (a n j : ℕ) → j ≡ a + n → range_with_len a n ++ j ∷ [] �
 range_snoc a zero j e = let same : j ≡ a = omega (arith, e) in ap (λ (i : ℕ). i ∷ []) same
 range_snoc a (suc n) j e = ap (λ (l : List ℕ). a ∷ l) (range_snoc (a + 1) n j (omega (arith, e)))
 
+-- no slot is kept for this service
+abbrev pub KeepsNoneOf : ℕ → (ℕ → Option Slot) → Type 0
+KeepsNoneOf k kept = (s : ℕ) (slot : Slot) → kept s ≡ Some slot → number_of k slot ≡ None
+
+pub none_of : (k : ℕ) (slot : Slot) → is_of_service slot ≡ false → number_of k slot ≡ None
+none_of k (of_table n) e = refl
+none_of k (of_service j n) e = absurd (cc)
+none_of k empty e = refl
+
 module _ (kept : ℕ → Option Slot) (packets : List ℕ) where
   pub within_at : (s : ℕ) → IsWithin packets (turns_at kept packets s)
   unfolding turns_at
@@ -74,7 +83,7 @@ module _ (kept : ℕ → Option Slot) (packets : List ℕ) where
       by_kept (Some slot) e = refl
 
   -- the packets that are out before slot s, in the order of the slots
-  module _ (keeps : KeepsNone kept) (k : ℕ) (below : k < length packets) where
+  module _ (k : ℕ) (keeps : KeepsNoneOf k kept) (below : k < length packets) where
     abbrev out : ℕ → List ℕ
     out s = filter_map (number_of k) (map (slot_at kept packets) (range_with_len 0 s))
 
@@ -87,15 +96,10 @@ module _ (kept : ℕ → Option Slot) (packets : List ℕ) where
         ap out next ∙ ap (filter_map (number_of k)) (map-range_with_len_more (slot_at kept packets) 0 s s (omega arith))
         ∙ filter_map-append (number_of k) (map (slot_at kept packets) (range_with_len 0 s)) (slot_at kept packets s ∷ [])
 
-    none_of : (slot : Slot) → is_of_service slot ≡ false → number_of k slot ≡ None
-    none_of (of_table n) e = refl
-    none_of (of_service j n) e = absurd (cc)
-    none_of empty e = refl
-
-    pub out_is : (s : ℕ) → out s ≡ range_with_len 0 (sent s)
+    pub out_of : (s : ℕ) → out s ≡ range_with_len 0 (sent s)
     unfolding turns_at
-    out_is zero = sym (ap (range_with_len 0) (get_or-replicate {A = ℕ} (length packets) k 0 0 below))
-    out_is (suc s) = more s ∙ by_kept (kept s) refl (within_at s) (out_is s)
+    out_of zero = sym (ap (range_with_len 0) (get_or-replicate {A = ℕ} (length packets) k 0 0 below))
+    out_of (suc s) = more s ∙ by_kept (kept s) refl (within_at s) (out_of s)
       where
         turns : Turns
         turns = turns_at kept packets s
@@ -125,11 +129,15 @@ module _ (kept : ℕ → Option Slot) (packets : List ℕ) where
             ≡ range_with_len 0 (slice_index (cond (is_some is) turns (served turns (next_service packets turns))).sent k)
         by_kept None e within so_far = by_turn (next_service packets turns) refl within so_far
         by_kept (Some slot) e within so_far =
-            ap (λ (o : Option ℕ). out s ++ filter_map (λ (p : Option ℕ). p) (o ∷ [])) (none_of slot (keeps s slot e)) ∙ append-nil (out s) ∙ so_far
+            ap (λ (o : Option ℕ). out s ++ filter_map (λ (p : Option ℕ). p) (o ∷ [])) (keeps s slot e) ∙ append-nil (out s) ∙ so_far
 
-  -- a packet of a service that a slot carries is one that the service has
-  pub carried_within : KeepsNone kept → (s j n : ℕ) → slot_at kept packets s ≡ of_service j n → (j < length packets) × (n < slice_index packets j)
-  carried_within keeps s j n e = by_kept (kept s) refl e
+  pub out_is : (keeps : KeepsNone kept) (k : ℕ) (below : k < length packets) (s : ℕ)
+      → filter_map (number_of k) (map (slot_at kept packets) (range_with_len 0 s)) ≡ range_with_len 0 (slice_index (turns_at kept packets s).sent k)
+  out_is keeps k below s = out_of k (λ s2 slot e. none_of k slot (keeps s2 slot e)) below s
+
+  -- a packet of a service that a slot carries is kept for it, or one of those that go out in rotation
+  pub carried_there : (s j n : ℕ) → slot_at kept packets s ≡ of_service j n → (kept s ≡ Some (of_service j n)) ⊎ ((j < length packets) × (n < slice_index packets j))
+  carried_there s j n e = by_kept (kept s) refl e
     where
       turns : Turns
       turns = turns_at kept packets s
@@ -153,9 +161,17 @@ module _ (kept : ℕ → Option Slot) (packets : List ℕ) where
           let of_packets : slice_index packets i ≡ slice_index packets j = ap (slice_index packets) service in
           (omega (arith, service, left.1), omega (arith, number, left.0, of_packets))
 
-      by_kept : (is : Option Slot) → kept s ≡ is → unwrap_or is (slot_of_service turns (next_service packets turns)) ≡ of_service j n → (j < length packets) × (n < slice_index packets j)
-      by_kept None none e2 = by_turn (next_service packets turns) refl e2
-      by_kept (Some slot) is e2 =
-          let not_kept : is_of_service slot ≡ false = keeps s slot is in
-          let of_it : is_of_service slot ≡ true = ap is_of_service e2 in
+      by_kept : (is : Option Slot) → kept s ≡ is → unwrap_or is (slot_of_service turns (next_service packets turns)) ≡ of_service j n
+          → (kept s ≡ Some (of_service j n)) ⊎ ((j < length packets) × (n < slice_index packets j))
+      by_kept None none e2 = inr (by_turn (next_service packets turns) refl e2)
+      by_kept (Some slot) is e2 = inl (is ∙ ap (λ (it : Slot). Some it) e2)
+
+  -- so it is one that the service has, where no slot is kept for one
+  pub carried_within : KeepsNone kept → (s j n : ℕ) → slot_at kept packets s ≡ of_service j n → (j < length packets) × (n < slice_index packets j)
+  carried_within keeps s j n e = by_place (carried_there s j n e)
+    where
+      by_place : (kept s ≡ Some (of_service j n)) ⊎ ((j < length packets) × (n < slice_index packets j)) → (j < length packets) × (n < slice_index packets j)
+      by_place (inl is) =
+          let not_kept : is_of_service (of_service j n) ≡ false = keeps s (of_service j n) is in
           absurd (cc)
+      by_place (inr of_turn) = of_turn

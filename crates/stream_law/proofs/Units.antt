@@ -1,6 +1,6 @@
 -- The units of a service carry the datagrams that it takes.
 use Rattle.std.proofs.Common.{◌≡◌, ℕ, zero, suc, ◌<◌, ◌≤◌, Bool, true, false, cond, ◌&&◌, leb, eqb, List, [], ◌∷◌, ◌++◌, length, map, refl, sym, ap, ◌∙◌, arith, Option, Some, None}
-use Rattle.std.specs.Prelude.{◌↔◌, filter, flat_map, option_to_list, option_map, All}
+use Rattle.std.specs.Prelude.{◌↔◌, filter, flat_map, option_to_list, option_map, All, is_some}
 use Rattle.wire_spec.specs.Bytes.{AreBytes}
 use Rattle.wire_spec.specs.Datagram.{IsDatagram, ether_type_of}
 use Rattle.ts_spec.specs.Form.{UnitForm, IsLawful, IsUnit}
@@ -12,15 +12,14 @@ use Rattle.section_spec.specs.Mpe.{MpeFields, IsRows, IsWritableMpe, mpe_to_writ
 use Rattle.unit_stream.specs.Packing.{packetized}
 use Rattle.carriage_spec.specs.Delivered.{carried_by_sndu}
 use Rattle.ule_unit.specs.Writable.{IsAddress, IsWritable}
-use Rattle.plan_spec.specs.Plan.{KindFields, ule, mpe, fec, gse, PlanFields}
+use Rattle.plan_spec.specs.Plan.{KindFields, ule, mpe, fec, gse, PlanFields, pid_of, sliced_of}
 use Rattle.plan_spec.specs.Route.{longest_of}
-use Rattle.stream_spec.specs.Units.{mac_for, sndu_of, section_of, datagrams_by_frame, units_of_frames, units_of_kind, packets_of_kind}
+use Rattle.stream_spec.specs.Units.{FrameSchedule, mac_for, sndu_of, section_of, datagrams_by_frame, units_of_frames, units_of_kind, packets_of_kind}
 use Rattle.stream_spec.specs.Services.{carried_by_section, carried_by_unit, form_of_kind}
 use Rattle.plan_spec.specs.Offered.{datagrams as datagrams_of, service_of_datagram, is_offered_to, offered}
 use Rattle.stream_spec.specs.Services.{kind_at}
 use Rattle.plan_spec.specs.Bytes.{IsMac}
 use Rattle.stream_law.specs.Words.{is_single, IsByteDatagram}
-use Rattle.plan_spec.specs.Built.{is_sent}
 use Rattle.stream_law.proofs.Datagrams.{type_below, chain_gives, mac_for_is}
 use Rattle.stream_law.proofs.Frames.{AreFramed, AreFrames, are_frames}
 use Rattle.stream_law.proofs.KindRanges.{HasFrames}
@@ -100,14 +99,14 @@ module _ (packetizes : (form : UnitForm) (packing : Bool) (pid counter : ℕ) (u
       ∙ ap (λ (t : List (List ℕ)). t ++ flat_map (carried_by_unit kind) (map unit datagrams)) (sym (each datagram taken.0))
 
   -- a service of which each datagram has its own unit: its datagrams in its units
-  pub units_carry : (kind : KindFields) (number : ℕ) (datagrams : List (List ℕ)) → is_single kind ≡ true → AreTaken kind datagrams
-      → datagrams ≡ flat_map (carried_by_unit kind) (units_of_kind kind unicast number datagrams)
-  units_carry (ule own address packing) number datagrams single taken =
+  pub units_carry : (kind : KindFields) (schedule : FrameSchedule) (datagrams : List (List ℕ)) → is_single kind ≡ true → AreTaken kind datagrams
+      → datagrams ≡ flat_map (carried_by_unit kind) (units_of_kind kind unicast schedule datagrams)
+  units_carry (ule own address packing) schedule datagrams single taken =
       are_carried (ule own address packing) (sndu_of address unicast) (λ datagram of_it. sndu_carries address datagram of_it.is of_it.bytes of_it.size) datagrams taken
-  units_carry (mpe own) number datagrams single taken =
+  units_carry (mpe own) schedule datagrams single taken =
       are_carried (mpe own) (section_of unicast) (λ datagram of_it. section_carries datagram of_it.is of_it.bytes of_it.size) datagrams taken
-  units_carry (fec own rows parity window) number datagrams single taken = absurd (cc)
-  units_carry (gse isi address) number datagrams single taken = absurd (cc)
+  units_carry (fec own rows parity window) schedule datagrams single taken = absurd (cc)
+  units_carry (gse isi address) schedule datagrams single taken = absurd (cc)
 
   -- with the law of frames
   module _ (frames_units : (rows columns first : ℕ) (frames : List (List (List ℕ))) → IsRows rows → 1 ≤ columns → columns ≤ 64 → AreFrames rows frames
@@ -119,20 +118,21 @@ module _ (packetizes : (form : UnitForm) (packing : Bool) (pid counter : ℕ) (u
     framed_units rows columns first datagrams is_rows least most framed n less =
         frames_units rows columns first (datagrams_by_frame rows datagrams) is_rows least most (are_frames rows is_rows datagrams framed) n [] less
 
-    -- a service of a kind that is sent: its units in its packets
-    pub units_packetized : (kind : KindFields) → HasFrames kind → (counter number : ℕ) (datagrams : List (List ℕ)) → is_sent kind ≡ true → AreTaken kind datagrams
-        → (begin : ℕ → ℕ) × Packetizes (form_of_kind kind) (units_of_kind kind unicast number datagrams) (packets_of_kind kind unicast counter number datagrams) begin
-    units_packetized (ule own address packing) has counter number datagrams built taken =
+    -- a service on a PID without time slicing: its units in its packets
+    pub units_packetized : (kind : KindFields) → HasFrames kind → (counter : ℕ) (schedule : FrameSchedule) (datagrams : List (List ℕ))
+        → is_some (pid_of kind) ≡ true → sliced_of kind ≡ None → AreTaken kind datagrams
+        → (begin : ℕ → ℕ) × Packetizes (form_of_kind kind) (units_of_kind kind unicast schedule datagrams) (packets_of_kind kind unicast counter schedule datagrams) begin
+    units_packetized (ule own address packing) has counter schedule datagrams built none taken =
         packetizes sndu_form packing own counter (map (sndu_of address unicast) datagrams) sndu_lawful
         (are_units sndu_form (ule own address packing) (sndu_of address unicast) (λ datagram of_it. sndu_unit address datagram of_it.is of_it.bytes of_it.size) datagrams taken)
-    units_packetized (mpe own) has counter number datagrams built taken =
+    units_packetized (mpe own) has counter schedule datagrams built none taken =
         packetizes section_form true own counter (map (section_of unicast) datagrams) section_lawful
         (are_units section_form (mpe own) (section_of unicast) (λ datagram of_it. mpe_unit (mpe_to_write (mac_for unicast datagram) None datagram) (can_write datagram of_it.is of_it.bytes of_it.size)) datagrams taken)
-    units_packetized (fec own rows parity None) has counter number datagrams built taken =
-        packetizes section_form true own counter (units_of_frames rows parity unicast number (datagrams_by_frame rows datagrams)) section_lawful
-        (framed_units rows parity number datagrams has.0 has.1 has.2 (taken_framed (fec own rows parity None) (omega arith) datagrams taken))
-    units_packetized (fec own rows parity (Some window)) has counter number datagrams built taken = absurd (cc)
-    units_packetized (gse isi address) has counter number datagrams built taken = absurd (cc)
+    units_packetized (fec own rows parity None) has counter schedule datagrams built none taken =
+        packetizes section_form true own counter (units_of_frames rows parity unicast schedule.first (datagrams_by_frame rows datagrams)) section_lawful
+        (framed_units rows parity schedule.first datagrams has.0 has.1 has.2 (taken_framed (fec own rows parity None) (omega arith) datagrams taken))
+    units_packetized (fec own rows parity (Some window)) has counter schedule datagrams built none taken = absurd (cc (none))
+    units_packetized (gse isi address) has counter schedule datagrams built none taken = absurd (cc (built))
 
 -- What is offered to a service is what it takes.
 taken_of : (kind : KindFields) (test : List ℕ → Bool) → ((datagram : List ℕ) → test datagram ≡ true → length datagram ≤ longest_of kind)

@@ -1,16 +1,18 @@
 -- Words of the laws of a sender's stream.
-use Rattle.std.specs.Prelude.{◌≡◌, ◌≢◌, length, flat_map, replicate, sum_by, slice_index_or, ℕ, ◌+◌, ◌-◌, ◌*◌, ◌/◌, ◌^◌, ◌<◌, ◌≤◌, Bool, true, false, List, [], ◌==◌, if◌then◌else◌, Option, Some, None}
-use Rattle.std.specs.List.{range_with_len}
+use Rattle.std.specs.Prelude.{◌≡◌, ◌≢◌, length, map, flat_map, replicate, sum_by, slice_index, slice_index_or, ℕ, ◌+◌, ◌-◌, ◌*◌, ◌/◌, ◌^◌, ◌<◌, ◌≤◌, Bool, true, false, List, [], ◌==◌, if◌then◌else◌, Option, Some, None}
+use Rattle.std.specs.List.{filter_map, range_with_len}
 use Rattle.wire_spec.specs.Bytes.{AreBytes}
 use Rattle.wire_spec.specs.Datagram.{IsDatagram}
 use Rattle.int_spec.specs.Table.{table_bytes}
 use Rattle.unit_stream.specs.Packing.{byte_count}
 use Rattle.ts_spec.specs.Packet.{PacketFields}
-use Rattle.plan_spec.specs.Plan.{KindFields, ule, mpe, fec, gse, IntFields, PlanFields}
+use Rattle.plan_spec.specs.Plan.{KindFields, ule, mpe, fec, gse, IntFields, PlanFields, SlicedFields, sliced_of}
 use Rattle.plan_spec.specs.Signalling.{table_of}
 use Rattle.plan_spec.specs.Changes.{plan_in, pid_in, has_pid}
 use Rattle.ts_spec.specs.Recording.{RecordingForm, plain, stamped, m2ts}
-use Rattle.stream_spec.specs.Parts.{PartFields, service_packets, int_packets}
+use Rattle.stream_spec.specs.Units.{FrameSchedule, burst_sizes}
+use Rattle.stream_spec.specs.Services.{kind_at}
+use Rattle.stream_spec.specs.Parts.{PartFields, service_packets, int_packets, slot_in}
 use Rattle.stream_spec.specs.Stream.{earlier, part_of}
 use Rattle.stream_spec.specs.Slots.{Slot, of_table, of_service, empty, kept_for_table, turns_at, slot_at}
 
@@ -31,8 +33,19 @@ HasMoment stamped rate s = s * 1000000 / rate < 2 ^ 62
 HasMoment m2ts rate s = Unit {0}
 
 -- the one part of a stream of a plan that nothing changes
+abbrev pub only_schedule : PlanFields → FrameSchedule
+only_schedule plan =
+    record { first = 0; form = plan.recording; rate = plan.packet_rate; cycle = plan.cycle; slots_before = 0; goes_on = false }
+
 abbrev pub only_part : PlanFields → (ℕ → List (List ℕ)) → PartFields
-only_part plan datagrams = record { plan = plan; slots_before = 0; table_before = 0; packets_before = λ k. 0; frames_before = λ k. 0; datagrams = datagrams }
+only_part plan datagrams = record {
+  plan = plan;
+  slots_before = 0;
+  table_before = 0;
+  packets_before = λ k. 0;
+  schedules = λ k. only_schedule plan;
+  datagrams = datagrams;
+}
 
 -- What the laws of a stream say of its parts, where these have so many slots, one number for each version.
 
@@ -63,6 +76,11 @@ packets_of_int plan datagrams slots int version =
 abbrev pub sections_of_int : PlanFields → (ℕ → ℕ) → IntFields → ℕ → List (List ℕ)
 sections_of_int plan slots int version = replicate (begun_cycles plan.cycle (slots version)) (table_bytes (table_of (plan_in plan version) int))
 
+-- no burst of service k has more packets than its window has slots; without time slicing there are none
+abbrev pub FitsWindow : PlanFields → (ℕ → ℕ → List (List ℕ)) → ℕ → Type 0
+FitsWindow plan datagrams k = (version c : ℕ) (fields : SlicedFields) → version ≤ length plan.changes → sliced_of (kind_at plan k) ≡ Some fields
+    → slice_index (burst_sizes (kind_at plan k) (datagrams version k)) c ≤ fields.length
+
 -- datagrams of this kind are carried each by a unit of its own
 abbrev pub is_single : KindFields → Bool
 is_single (ule pid address packing) = true
@@ -86,3 +104,13 @@ pub record IsWithinLimits (datagrams : List (List ℕ)) : Type 0 where
 pub record AreFirstOut (cycle table : ℕ) (packets : List ℕ) (s : ℕ) : Type 0 where
   pub out : (turns_at (kept_for_table cycle table) packets s).sent ≡ packets
   pub first : (earlier : ℕ) → earlier < s → (turns_at (kept_for_table cycle table) packets earlier).sent ≢ packets
+
+-- before slot s of a part all packets of the services are out, in order and each once
+abbrev pub AreOutIn : PartFields → ℕ → Type 0
+AreOutIn part s = (k : ℕ) → k < length part.plan.services
+    → filter_map (number_of k) (map (slot_in part) (range_with_len 0 s)) ≡ range_with_len 0 (length (slice_index_or (service_packets part) k []))
+
+-- and before no earlier one
+pub record AreFirstOutIn (part : PartFields) (s : ℕ) : Type 0 where
+  pub out : AreOutIn part s
+  pub first : (earlier : ℕ) → earlier < s → AreOutIn part earlier → ⊥

@@ -26,7 +26,7 @@ pub fn a_capture_gives_datagrams()
     a_front_is_one_datagram();
 }
 
-/// For all settings that are accepted, without time slicing and GSE packets, and all captures:
+/// For all settings that are accepted, without GSE packets, and all captures:
 /// the stream carries what was offered, by service and PID.
 pub fn a_capture_is_carried()
     ensures carries { (plan : PlanFields) → is_whole_plan plan ≡ true → AreOfBytes plan

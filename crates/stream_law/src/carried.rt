@@ -13,13 +13,17 @@ ghost use Rattle.stream_law.specs.Words.{IsByteDatagram, IsWithinLimits};
 use crate::stream::{records_have_moments, the_packets_of_a_service_are_on_its_pid};
 use mpe_section::{a_written_datagram_section_reads_back, an_address_or_parameters_can_be_written};
 use section_codec::sections_are_lawful;
-use sent_frame_law::frames_carry_their_datagrams;
+use sent_frame_law::{
+    a_frame_of_datagrams_is_one, a_unit_reads_as_its_section, frames_carry_their_datagrams,
+};
+use ts_packet::{null_packet_is_read, written_packets_are_read};
 use ule_unit::{a_written_sndu_reads_back, sndus_are_lawful, sndus_are_units};
 use unit_stream::packetized_units_are_carried;
 
-/// The stream of a plan carries what was offered, by service and PID: in SNDUs, in datagram_sections, or in MPE-FEC frames.
+/// The stream of a plan carries what was offered, by service and PID: in SNDUs, in datagram_sections, or in MPE-FEC frames, whose delta_t
+/// says with time slicing when the next burst begins.
 ///
-/// For all settings that are accepted, without time slicing and GSE packets, all that a capture can give, and each form of recording.
+/// For all settings that are accepted, without GSE packets, all that a capture can give, and each form of recording.
 pub fn a_stream_carries_what_was_offered()
     ensures carries { (plan : PlanFields) → is_whole_plan plan ≡ true → AreOfBytes plan
         → (gives : List (Option (List ℕ))) → All IsByteDatagram (datagrams_of gives) → IsWithinLimits (datagrams_of gives)
@@ -36,6 +40,10 @@ pub fn a_stream_carries_what_was_offered()
     a_written_datagram_section_reads_back();
     an_address_or_parameters_can_be_written();
     frames_carry_their_datagrams();
+    a_frame_of_datagrams_is_one();
+    a_unit_reads_as_its_section();
+    written_packets_are_read();
+    null_packet_is_read();
 }
 
 /// The datagrams on the PIDs of a service, one PID after another, are those of all versions.

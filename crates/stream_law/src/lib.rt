@@ -16,8 +16,10 @@ pub use appended::packetizations_go_on;
 pub use captures::{a_capture_gives_datagrams, a_capture_is_carried};
 pub use carried::{a_stream_carries_what_was_offered, the_pids_of_a_service_have_all_datagrams};
 pub use slots::{
-    a_transmission_ends_where_all_packets_are_out, packets_go_out_in_order_and_each_once,
-    there_is_one_slot_count,
+    a_part_ends_where_all_packets_are_out, a_part_sends_all_packets,
+    a_transmission_ends_where_all_packets_are_out, offered_bursts_fit_their_windows,
+    packets_go_out_in_order_and_each_once, there_is_one_slot_count,
+    without_time_slicing_services_go_by_turns,
 };
 pub use standing::a_stream_stands_in_parts;
 pub use stream::{

@@ -5,21 +5,20 @@ ghost use Rattle.ts_spec.specs.Recording.{record_size, records_of};
 ghost use Rattle.carriage_spec.specs.Carried.{packets_sent};
 ghost use Rattle.plan_spec.specs.Plan.{PlanFields};
 ghost use Rattle.plan_spec.specs.Changes.{versions};
-ghost use Rattle.plan_spec.specs.Built.{are_sent};
 ghost use Rattle.plan_spec.specs.Wholes.{is_whole_plan};
 ghost use Rattle.plan_spec.specs.Offered.{datagrams as datagrams_of, offered_in};
 ghost use Rattle.stream_spec.specs.Slots.{IsSlotCount};
 ghost use Rattle.stream_spec.specs.Parts.{slot_in, records_of_slots};
 ghost use Rattle.stream_spec.specs.Services.{IsPidOf};
-ghost use Rattle.stream_spec.specs.Stream.{IsStream};
+ghost use Rattle.stream_spec.specs.Stream.{are_on_pids, IsStream};
 ghost use Rattle.plan_spec.specs.Bytes.{AreOfBytes};
-ghost use Rattle.stream_law.specs.Words.{HaveMoments, packets_on, only_part, IsByteDatagram, IsWithinLimits};
+ghost use Rattle.stream_law.specs.Words.{HaveMoments, FitsWindow, packets_on, only_part, IsByteDatagram, IsWithinLimits};
 
 use ts_packet::{null_packet_is_read, written_packets_are_read};
 
-/// Of services of kinds that are sent there is a stream, and one alone.
+/// Of services on PIDs there is a stream, and one alone.
 pub fn there_is_one_stream()
-    ensures is { (plan : PlanFields) (datagrams : ℕ → ℕ → List (List ℕ)) → is_whole_plan plan ≡ true → are_sent plan ≡ true
+    ensures is { (plan : PlanFields) (datagrams : ℕ → ℕ → List (List ℕ)) → is_whole_plan plan ≡ true → are_on_pids plan ≡ true
         → (records : List (List ℕ)) × IsStream plan datagrams records }
     ensures one { (plan : PlanFields) (datagrams : ℕ → ℕ → List (List ℕ)) (a b : List (List ℕ))
         → IsStream plan datagrams a → IsStream plan datagrams b → a ≡ b }
@@ -40,10 +39,11 @@ pub fn records_have_moments()
         → (records : List (List ℕ)) (stream : IsStream plan (offered_in plan gives) records) → HaveMoments plan stream.slots }
 {}
 
-/// The readable packets of a service's PID are the packets of the service in the versions that give it this PID, all of them in order.
+/// The readable packets of a service's PID are the packets of the service in the versions that give it this PID, all of them in order,
+/// where no burst of it is longer than its window.
 pub fn the_packets_of_a_service_are_on_its_pid()
     ensures sent { (plan : PlanFields) (datagrams : ℕ → ℕ → List (List ℕ)) (records : List (List ℕ)) → is_whole_plan plan ≡ true
-        → (stream : IsStream plan datagrams records) → HaveMoments plan stream.slots → (k pid : ℕ) → IsPidOf plan k pid
+        → (stream : IsStream plan datagrams records) → HaveMoments plan stream.slots → (k pid : ℕ) → IsPidOf plan k pid → FitsWindow plan datagrams k
         → packets_sent pid (records_of plan.recording records) ≡ flat_map (packets_on plan datagrams stream.slots k pid) (versions plan) }
 {
     written_packets_are_read();

@@ -1,9 +1,11 @@
 -- Small transmissions, to try the definitions on: cycles of five slots, of which the first is the INT's; and a plan that changes.
-use Rattle.std.specs.Prelude.{ℕ, zero, suc, List, [], ◌∷◌, ◌++◌, map, replicate, None}
+use Rattle.std.specs.Prelude.{ℕ, zero, suc, true, List, [], ◌∷◌, ◌++◌, map, replicate, None}
 use Rattle.std.specs.List.{range_with_len}
-use Rattle.plan_spec.specs.Plan.{fec, ServiceFields, PlanFields}
+use Rattle.ts_spec.specs.Recording.{stamped}
+use Rattle.plan_spec.specs.Plan.{WindowFields, fec, ServiceFields, PlanFields}
 use Rattle.plan_spec.specs.Examples.{plan_that_changes}
 use Rattle.stream_spec.specs.Slots.{Slot, kept_for_table, slot_at}
+use Rattle.stream_spec.specs.Units.{FrameSchedule}
 use Rattle.stream_spec.specs.Parts.{PartFields}
 use Rattle.stream_spec.specs.Stream.{part_of}
 
@@ -46,3 +48,11 @@ framed_plan = record plan_that_changes { services = map in_frames plan_that_chan
 
 abbrev pub second_part_in_frames : PartFields
 second_part_in_frames = part_of framed_plan two_of_each slots_of_files 1
+
+-- bursts at 10,000 packets per second, in a window of 1,500 slots from slot 100 of each cycle of 20,000, in a part before which one cycle
+-- went out
+abbrev pub after_a_cycle : FrameSchedule
+after_a_cycle = record { first = 1; form = stamped; rate = 10000; cycle = 20000; slots_before = 20000; goes_on = true }
+
+abbrev pub window_of_1500 : WindowFields
+window_of_1500 = record { start = 100; length = 1500 }

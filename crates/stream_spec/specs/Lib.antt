@@ -1,5 +1,6 @@
 pub mod Units
 pub mod Slots
+pub mod Windows
 pub mod Parts
 pub mod Stream
 pub mod Services

@@ -52,7 +52,7 @@ none_so test (kind ∷ others) (suc k) fields none is = none_so test others k fi
 above : (n : ℕ) → ltb 0 (suc n) ≡ true
 above n = grind arith
 
-some_sliced : (all : List KindFields) (k : ℕ) (fields : SlicedFields) → sliced_of (get_or all k (mpe 0)) ≡ Some fields → ltb 0 (length (filter_map sliced_of all)) ≡ true
+pub some_sliced : (all : List KindFields) (k : ℕ) (fields : SlicedFields) → sliced_of (get_or all k (mpe 0)) ≡ Some fields → ltb 0 (length (filter_map sliced_of all)) ≡ true
 some_sliced [] k fields is = absurd (cc)
 some_sliced (kind ∷ others) zero fields is = by_kind (sliced_of kind) is
   where

@@ -8,8 +8,7 @@ use Rattle.plan_spec.specs.Valid.{is_plan}
 use Rattle.stream_spec.specs.Services.{kind_at}
 use Rattle.stream_spec.specs.Slots.{of_service}
 use Rattle.slice_spec.specs.Windows.{owner_of}
-use Rattle.window_law.specs.Plans.{windows_of}
-use Rattle.window_law.specs.Kept.{out_before, kept_for_bursts}
+use Rattle.stream_spec.specs.Windows.{windows_of, out_before, kept_for_bursts}
 use Rattle.window_law.proofs.Checks.{inside, shorter}
 use Rattle.window_law.proofs.Owners.{owner_is, is_owned}
 use Rattle.window_law.proofs.Turned.{IsWindowed, kept_there}

@@ -7,7 +7,7 @@ use Rattle.plan_spec.specs.Valid.{is_plan}
 use Rattle.stream_spec.specs.Services.{kind_at}
 use Rattle.slice_spec.specs.Windows.{OwnedWindow, has_slot, owner_of, AreApart}
 use Rattle.slice_law.proofs.Owners.{slot_is, owner_has, has_owner}
-use Rattle.window_law.specs.Plans.{owned, windows_from, windows_of}
+use Rattle.stream_spec.specs.Windows.{owned, windows_from, windows_of}
 use Rattle.window_law.proofs.Checks.{neither, none_overlap}
 
 abbrev meets : OwnedWindow → OwnedWindow → Bool

@@ -5,7 +5,7 @@ ghost use Rattle.plan_spec.specs.Signalling.{table_packets};
 ghost use Rattle.plan_spec.specs.Valid.{is_plan};
 ghost use Rattle.stream_spec.specs.Services.{kind_at};
 ghost use Rattle.slice_spec.specs.Windows.{owner_of, AreApart};
-ghost use Rattle.window_law.specs.Plans.{windows_of};
+ghost use Rattle.stream_spec.specs.Windows.{windows_of};
 
 /// No slot is in two windows, each window is after the INT and within the cycle, and the owner of a slot is the one service whose
 /// window has it.

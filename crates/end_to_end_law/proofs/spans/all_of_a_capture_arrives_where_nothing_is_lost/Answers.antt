@@ -13,10 +13,10 @@ use Rattle.loss_law.proofs.SpansAlike.{flat_same}
 use Rattle.loss_law.proofs.WholeSpans.{all_over_spans}
 use Rattle.end_to_end_law.specs.Units.{wants_datagram}
 use Rattle.end_to_end_law.specs.Sent.{offered_by, offered_on, sent_records}
-use Rattle.end_to_end_law.proofs.Services.{service_kind_is, unicast_mac}
+use Rattle.end_to_end_law.proofs.Services.{unicast_mac}
 use Rattle.end_to_end_law.proofs.Offered.{units_by_kind, takes}
 use Rattle.end_to_end_law.proofs.Arrives.{wanted_are}
-use Rattle.end_to_end_law.proofs.OverSpans.{single_stays, taken_on, units_on, all_wanted, has_pid_sent}
+use Rattle.end_to_end_law.proofs.OverSpans.{single_stays, taken_on, units_on, all_wanted, own_pid}
 use Rattle.end_to_end_law.proofs.ByKind.{wanted_are_offered}
 use Rattle.end_to_end_law.proofs.spans.all_of_a_capture_arrives_where_nothing_is_lost.Goals as goal
 
@@ -24,8 +24,8 @@ pub returns : goal.returns
 returns c = record {
   wanted = λ plan capture told records sent k known.
       let found = c.each_datagram_is_sent_in_a_unit.ensures.sends plan capture told records sent in
-      let built = service_kind_is plan sent.stream.defined k known in
-      let its_pid = has_pid_sent (kind_at plan k) built in
+      let has = found.0.on_pids k known in
+      let its_pid = own_pid (kind_at plan k) has in
       let in_units : (pid : ℕ) → IsPidOf plan k pid → is_single (kind_at plan k) ≡ true
       → wanted_datagrams (service_on plan k pid) (found.0.units k pid) ≡ filter (wants_datagram (service_on plan k pid)) (offered_on plan capture told k pid)
       = λ pid own single.
@@ -38,7 +38,7 @@ returns c = record {
       let on_pid : (pid : ℕ) → IsPidOf plan k pid → wanted_by (kind_at plan k) (service_on plan k pid) (found.0.units k pid) (offered_on plan capture told k pid)
       ≡ filter (wants_datagram (service_on plan k pid)) (offered_on plan capture told k pid)
       = λ pid own.
-      wanted_are_offered (kind_at plan k) (service_on plan k pid) pid (found.0.units k pid) (offered_on plan capture told k pid) built
+      wanted_are_offered (kind_at plan k) (service_on plan k pid) pid (found.0.units k pid) (offered_on plan capture told k pid) has
       (ap (λ (kind : KindFields). with_pid kind pid) (kind_of_service plan k known)) (in_units pid own) in
       all_over_spans plan (sent_records plan records) (offered_on plan capture told) found.0 k known
       (λ pid a own there. c.where_nothing_is_lost_each_packet_is_heard.ensures.heard plan capture told records sent k pid a own there)

@@ -15,10 +15,10 @@ use Rattle.loss_law.proofs.Plan.{kind_of_service}
 use Rattle.loss_law.proofs.OverSpans.{over_spans}
 use Rattle.end_to_end_law.specs.Units.{wants_datagram}
 use Rattle.end_to_end_law.specs.Sent.{offered_by, offered_on, sent_records, DeliversNumbered, DeliversOffered}
-use Rattle.end_to_end_law.proofs.Services.{service_kind_is, unicast_mac}
+use Rattle.end_to_end_law.proofs.Services.{unicast_mac}
 use Rattle.end_to_end_law.proofs.Offered.{units_by_kind, takes}
 use Rattle.end_to_end_law.proofs.Arrives.{delivers_numbered}
-use Rattle.end_to_end_law.proofs.OverSpans.{single_stays, taken_on, units_on, wanted_of_all, has_pid_sent}
+use Rattle.end_to_end_law.proofs.OverSpans.{single_stays, taken_on, units_on, wanted_of_all, own_pid}
 use Rattle.end_to_end_law.proofs.ByKind.{delivers_offered, offered_were_wanted}
 use Rattle.end_to_end_law.proofs.spans.what_arrives_of_a_capture.Goals as goal
 
@@ -29,8 +29,8 @@ returns c = record {
         found.0,
         found.1,
         λ recorded is_recorded k known.
-            let built = service_kind_is plan sent.stream.defined k known in
-            let its_pid = has_pid_sent (kind_at plan k) built in
+            let has = found.0.on_pids k known in
+            let its_pid = own_pid (kind_at plan k) has in
             let spans = over_spans plan (sent_records plan records) (offered_on plan capture told) found.0 recorded is_recorded k known in
             let kind_same : (pid : ℕ) → (service_on plan k pid).kind ≡ with_pid (kind_at plan k) pid
             = λ pid. ap (λ (kind : KindFields). with_pid kind pid) (kind_of_service plan k known) in

@@ -1,5 +1,5 @@
 use Rattle.plan_spec.specs.Signalling.{table_packets}
-use Rattle.window_law.specs.Plans.{windows_of}
+use Rattle.stream_spec.specs.Windows.{windows_of}
 use Rattle.window_law.proofs.InPlans.{windowed, there}
 use Rattle.window_law.proofs.Turned.{all_out}
 use Rattle.window_law.proofs.slots.bursts_go_out_in_their_windows.Goals as goal

@@ -2,7 +2,7 @@ use Rattle.std.proofs.Common.{◌≡◌, Option, Some, None}
 use Rattle.plan_spec.specs.Plan.{SlicedFields, sliced_of}
 use Rattle.plan_spec.specs.Signalling.{table_packets}
 use Rattle.stream_spec.specs.Services.{kind_at}
-use Rattle.window_law.specs.Plans.{windows_of}
+use Rattle.stream_spec.specs.Windows.{windows_of}
 use Rattle.window_law.proofs.Checks.{shorter}
 use Rattle.window_law.proofs.Owners.{owner_is}
 use Rattle.window_law.proofs.After.{leaves, keeps_none, keeps_none_of}
