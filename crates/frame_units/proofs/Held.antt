@@ -15,6 +15,10 @@ rising_more : (from size count : ℕ) (ends : List ℕ) → 0 < count → AreEnd
 rising_more from size count [] some are rising = (omega (arith, some, are), tt)
 rising_more from size count (end ∷ ends) some are rising = (rising.0, rising_more end size count ends some are.1 rising.1)
 
+-- where one more ends
+pub grown_end : (bytes piece new_bytes : List ℕ) (end : ℕ) → new_bytes ≡ bytes ++ piece → end ≡ length bytes + length piece → end ≡ length new_bytes
+grown_end bytes piece new_bytes end grown sum = sum ∙ sym (ap length grown ∙ length-append bytes piece)
+
 -- one more
 pub held_rising : (bytes piece ends new_bytes new_ends : List ℕ) (end : ℕ) → 0 < length piece → new_bytes ≡ bytes ++ piece → end ≡ length new_bytes → new_ends ≡ ends ++ end ∷ []
     → AreEndsFrom 0 (length bytes) ends → AreRising 1 0 ends → AreRising 1 0 new_ends

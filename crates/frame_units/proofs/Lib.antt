@@ -2,5 +2,9 @@ pub mod Held
 pub mod Padded
 pub mod Parts
 pub mod Going
+pub mod Counted
 pub mod Filling
 pub mod Written
+pub mod Shortest
+pub mod Timed
+pub mod PartEnds

@@ -1,2 +1,6 @@
 pub mod Parts
+pub mod Packets
+pub mod Timed
+pub mod Room
 pub mod Held
+pub mod Bursts

@@ -17,13 +17,13 @@ use mpe_section::{fec_size, mpe_size};
 use std::alloc::{AllocError as OutOfMemory, Global};
 
 /// Columns of an RS data table (EN 301 192 clause 9).
-const PARITY_COLUMNS: usize = 64;
+pub(crate) const PARITY_COLUMNS: usize = 64;
 
 /// Numbers of frames, which go round.
 const FRAME_NUMBERS: u32 = 4096;
 
 /// Where the datagrams of a frame end that begins at a place of the list.
-fn frame_end(list: &DatagramList, rows: u16, from: usize) -> usize
+pub(crate) fn frame_end(list: &DatagramList, rows: u16, from: usize) -> usize
     requires datagrams { AreSendable list.now }
     requires rows { IsRows rows }
     requires from { from < length list.now }
@@ -77,13 +77,13 @@ fn data_size(list: &DatagramList) -> usize
 
 /// What all frames of a service have in common.
 #[derive(Clone, Copy)]
-struct Shape {
+pub(crate) struct Shape {
     /// Rows.
-    rows: u16,
+    pub(crate) rows: u16,
     /// Columns of the RS data table that are sent.
-    columns: u8,
+    pub(crate) columns: u8,
     /// The address of the service's own receivers.
-    unicast: [u8; 6],
+    pub(crate) unicast: [u8; 6],
 }
 
 /// An empty list, with room for the units of so many frames of the datagrams.
@@ -106,7 +106,7 @@ fn list_with_room(
 }
 
 /// Bytes of the datagrams from one place of the list to another.
-fn data_bytes(list: &DatagramList, from: usize, end: usize) -> usize
+pub(crate) fn data_bytes(list: &DatagramList, from: usize, end: usize) -> usize
     requires datagrams { AreSendable list.now }
     requires from { from < end }
     requires end { end ≤ length list.now }

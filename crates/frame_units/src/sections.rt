@@ -47,7 +47,7 @@ fn put_column(units: &mut UnitList, column: &Fec<'_>, work: &mut [u8]) -> Result
 }
 
 /// The address of the receivers that a datagram is for, where the service's own have this one.
-fn receivers_of(datagram: &[u8], unicast: [u8; 6]) -> [u8; 6]
+pub(crate) fn receivers_of(datagram: &[u8], unicast: [u8; 6]) -> [u8; 6]
     requires datagram { IsDatagram datagram.now }
     ensures read { result ≡ mac_for unicast datagram.now }
 {

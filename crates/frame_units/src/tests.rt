@@ -1,8 +1,9 @@
-//! Frames of 256 rows, by hand from EN 301 192 clause 9.
-ghost use Rattle.std.specs.Prelude.{◌<◌, ◌^◌, length, IfOk};
+//! Frames and bursts of 256 rows, by hand from EN 301 192 clause 9.
+ghost use Rattle.std.specs.Prelude.{ℕ, ◌<◌, ◌^◌, length, All, IfOk};
 ghost use Rattle.sent_frame_law.specs.Frames.{AreSendable, IsSendable};
 
 use super::*;
+use crate::frames::frame_end;
 use ip_datagram::{DatagramList, front};
 use std::alloc::Global;
 use std::test::Fail;
@@ -97,6 +98,75 @@ fn a_datagram_without_room_begins_the_next_frame(rt: HostRuntime) -> Result<(), 
         0x3E, 0xBF, 0xFD, 9, 0, 0xC1, 0, 0, 0x00, 0x08, 0x00, 0x00, 0x45,
     ];
     assert!(rt; stand_at(&made.bytes, 11 * 4096 + 2 * 272, &next));
+    Ok(())
+}
+
+/// The units of the burst of all datagrams of a list, in frames of 256 rows of whose RS data one column is sent.
+fn burst_of(alloc: Global, list: &DatagramList, deltas: &[u16]) -> Result<BurstBuffer, Fail>
+    requires sendable { AreSendable list.now }
+    requires few { length list.now < 2 ^ 32 }
+    requires deltas { All (λ (delta : ℕ). delta < 2 ^ 12) deltas.now }
+{
+    let mut buffer = BurstBuffer::new(alloc, 256, 1)?;
+    let end = list.len();
+    if end == 0 || frame_end(list, 256, 0) != end {
+        return Err(Fail::new("not one frame"));
+    }
+    buffer.make(list, 0, end, UNICAST, deltas);
+    Ok(buffer)
+}
+
+/// Two datagrams of 100 bytes and a column: sections of 116, 116 and 272 bytes begin in packets 0, 0 and 1.
+#[test]
+fn sections_have_the_time_of_their_packet(rt: HostRuntime) -> Result<(), Fail> {
+    let alloc = rt.alloc();
+    let list = list_of(alloc, 2, 100, [10, 0, 0, 7])?;
+    let buffer = burst_of(alloc, &list, &[300, 299, 298])?;
+    assert_eq!(rt; buffer.ends(), [116, 232, 504].as_slice());
+    // delta_t 300, address 0; delta_t 300, table_boundary, address 100; delta_t 299, both boundaries, address 0
+    let times: [(usize, [u8; 4]); 3] = [
+        (0, [0x12, 0xC0, 0, 0]),
+        (116, [0x12, 0xC8, 0, 100]),
+        (232, [0x12, 0xBC, 0, 0]),
+    ];
+    for (start, time) in times {
+        assert!(rt; stand_at(buffer.bytes(), start + 8, &time));
+    }
+    Ok(())
+}
+
+/// A section begins in the packet in which the one before ends, if that has room for pointer_field and one byte more.
+#[test]
+fn a_section_begins_where_there_is_room(rt: HostRuntime) -> Result<(), Fail> {
+    let alloc = rt.alloc();
+    // Bytes of a datagram, whose section has 16 more, and the packet in which the section of the column begins after it: a first packet has
+    // 183 bytes, one in which no section begins has 184.
+    let cases: [(u16, u8); 6] = [(166, 0), (167, 1), (349, 1), (350, 2), (351, 2), (352, 2)];
+    for (size, packet) in cases {
+        let list = list_of(alloc, 1, size, [10, 0, 0, 7])?;
+        let buffer = burst_of(alloc, &list, &[0x10, 0x20, 0x30])?;
+        // delta_t 0x010 and so on, and both boundaries
+        let time = [packet + 1, 0x0C];
+        assert!(rt; stand_at(buffer.bytes(), usize::from(size) + 16 + 8, &time));
+    }
+    Ok(())
+}
+
+/// A window of three slots has room for two datagrams of 100 bytes, and not for three: these take four packets.
+#[test]
+fn a_burst_takes_what_its_window_has_room_for(rt: HostRuntime) -> Result<(), Fail> {
+    let alloc = rt.alloc();
+    let list = list_of(alloc, 5, 100, [10, 0, 0, 7])?;
+    let cases: [(u32, [u32; 5], usize); 4] = [
+        (1, [1, 2, 3, 4, 5], 5),
+        (3, [2, 4, 5, 0, 0], 3),
+        (4, [3, 5, 0, 0, 0], 2),
+        (100, [5, 0, 0, 0, 0], 1),
+    ];
+    for (slots, want, count) in cases {
+        let ends = burst_ends(alloc, &list, 256, 1, slots)?;
+        assert_eq!(rt; ends.as_slice(), &want[..count]);
+    }
     Ok(())
 }
 

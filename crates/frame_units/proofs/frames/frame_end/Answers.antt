@@ -1,4 +1,6 @@
-use Rattle.std.proofs.Common.{ℕ, ◌+◌, ◌*◌, ◌≤◌, List, length, ap, arith}
+use Rattle.std.proofs.Common.{ℕ, ◌+◌, ◌*◌, ◌≤◌, List, length, ap, arith, le-leb}
+use Rattle.std.proofs.lemmas.Bool.{lt-leb}
+use Rattle.frame_spec.specs.Sender.{fits_table}
 use Rattle.wire_spec.specs.Lists.{joined}
 use Rattle.frame_units.specs.Parts.{part_of}
 use Rattle.sent_frame_law.specs.Frames.{IsSendable}
@@ -20,7 +22,7 @@ loop-end-init c =
         ap (λ (l : List ℕ). length l) is.1,
       );
       fits = omega (arith, it.size, (rows_within c.args.rows c.requires.rows).0);
-      going = going_first c.args.rows list from is.0;
+      going = going_first (fits_table c.args.rows) list from is.0;
     }
 
 pub returns-then-used-room-clause-frame : goal.returns-then-used-room-clause-frame
@@ -30,15 +32,15 @@ returns-then-used-room-clause-frame c =
     let end : ℕ = c.loop-end.end in
     let is = got list end c.at.result.now c.at.ensures.read in
     let order : from ≤ end = omega (arith, c.loop-end.auto.end) in
-    going_over c.args.rows list from end order is.0 c.loop-end.invariant.going
-    (omega (
+    going_over (fits_table c.args.rows) list from end order is.0 c.loop-end.invariant.going
+    (lt-leb (length (joined (part_of from (end + 1) list))) (191 * c.args.rows) (omega (
       arith,
       c.if-used-room.true,
       c.from-room.ensures,
       c.loop-end.invariant.used,
       part_bytes_more from end list order is.0,
       ap (λ (l : List ℕ). length l) is.1,
-    ))
+    )))
 
 pub loop-end-preserved : goal.loop-end-preserved
 loop-end-preserved c =
@@ -54,5 +56,6 @@ loop-end-preserved c =
     record {
       used = omega (arith, c.loop-end.invariant.used, more, size);
       fits = omega (arith, c.if-used-room.false, c.from-room.ensures);
-      going = going_on c.args.rows list from end order is.0 c.loop-end.invariant.going fits;
+      going = going_on (fits_table c.args.rows) list from end order is.0 c.loop-end.invariant.going
+          (le-leb (length (joined (part_of from (end + 1) list))) (191 * c.args.rows) fits);
     }

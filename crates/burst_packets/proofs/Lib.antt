@@ -1,0 +1,5 @@
+mod Moments
+mod Limits
+mod Opened
+mod Same
+mod Sent

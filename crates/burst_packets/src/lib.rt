@@ -1,0 +1,13 @@
+//! The bursts of a sliced service (EN 301 192 clause 9), on their way into the packets of its PID.
+//!
+//! Sending: datagrams of a service -> frame_units -> [burst_packets] -> mux_core.
+//! Begin with `BurstPackets::new`.
+#![tactic(auto)]
+
+mod bursts;
+#[cfg(test)]
+mod tests;
+mod timing;
+
+pub use bursts::{BurstPackets, Shape};
+pub use timing::Timing;
