@@ -7,21 +7,17 @@ use Rattle.std.proofs.lemmas.List.{length-append, map-append}
 use Rattle.std.proofs.lemmas.List.Sums.{fold-append}
 use Rattle.std.proofs.Math.Seq.{get_or-append_seam}
 use Rattle.ts_spec.specs.Packet.{PacketFields}
-use Rattle.ts_spec.specs.Sndu.{sndu_form}
-use Rattle.section_spec.specs.Section.{section_form}
-use Rattle.unit_stream.specs.Packing.{pieces, byte_count}
-use Rattle.unit_stream.proofs.Written.{length-numbered}
-use Rattle.plan_spec.specs.Plan.{KindFields, ule, mpe, fec, gse, PlanFields}
+use Rattle.plan_spec.specs.Plan.{PlanFields}
 use Rattle.plan_spec.specs.Changes.{services_in, service_in, pid_in, pids_in, with_last, with_pid_behind}
 use Rattle.plan_spec.specs.Wholes.{is_whole_plan}
 use Rattle.plan_law.proofs.Pids.{is_in, twice}
 use Rattle.plan_law.proofs.Kept.{length-services_in}
-use Rattle.stream_spec.specs.Units.{sndu_of, section_of, units_of_kind, packets_of_kind}
 use Rattle.stream_spec.specs.Parts.{PartFields, service_packets}
-use Rattle.stream_spec.specs.Stream.{shares_pid, packet_count, packet_count_on, earlier, part_of}
+use Rattle.stream_spec.specs.Stream.{schedule_of, shares_pid, packet_count, packet_count_on, earlier, part_of}
 use Rattle.stream_law.proofs.Ranges.{range_append, sum_same, sum_next, sum_most}
 use Rattle.stream_law.proofs.Lists.{in_both, twice_parts, twice_first}
 use Rattle.stream_law.proofs.PidsIn.{with_last_is}
+use Rattle.stream_law.proofs.KindPackets.{length-packets_of_kind}
 use Rattle.stream_law.proofs.Wholes.{pids_not_twice}
 use Rattle.mux_core.specs.Services.{counter_at}
 use Rattle.mux_core.proofs.Made.{packets_in_part}
@@ -116,20 +112,6 @@ module _ (pid_at : ℕ → Option ℕ) (all : (v : ℕ) → (pid : ℕ) × (pid_
 
 -- Counters.
 
--- how many packets there are does not depend on the counter
-length-any : (kind : KindFields) (unicast : List ℕ) (a b number : ℕ) (datagrams : List (List ℕ))
-    → length (packets_of_kind kind unicast a number datagrams) ≡ length (packets_of_kind kind unicast b number datagrams)
-length-any (ule pid address packing) unicast a b number datagrams =
-    let units : List (List ℕ) = map (sndu_of address unicast) datagrams in
-    length-numbered pid a (pieces (byte_count units) sndu_form.start packing [] units) ∙ sym (length-numbered pid b (pieces (byte_count units) sndu_form.start packing [] units))
-length-any (mpe pid) unicast a b number datagrams =
-    let units : List (List ℕ) = map (section_of unicast) datagrams in
-    length-numbered pid a (pieces (byte_count units) section_form.start true [] units) ∙ sym (length-numbered pid b (pieces (byte_count units) section_form.start true [] units))
-length-any (fec pid rows parity window) unicast a b number datagrams =
-    let units : List (List ℕ) = units_of_kind (fec pid rows parity window) unicast number datagrams in
-    length-numbered pid a (pieces (byte_count units) section_form.start true [] units) ∙ sym (length-numbered pid b (pieces (byte_count units) section_form.start true [] units))
-length-any (gse isi address) unicast a b number datagrams = refl
-
 shared_same : (a b : Option ℕ) → shares_pid a b ≡ true → a ≡ b
 shared_same None b is = absurd (cc)
 shared_same (Some pid) None is = absurd (cc)
@@ -192,8 +174,9 @@ module _ (plan : PlanFields) (whole : is_whole_plan plan ≡ true) (datagrams : 
 
       count : length (slice_index_or (service_packets (part version)) k []) ≡ packet_count plan datagrams k version
       count =
-          ap (λ (ps : List PacketFields). length ps) (packets_in_part (part version).packets_before (part version).frames_before (datagrams version) (services_in plan version) 0 k k (omega arith) (omega (arith, known, length-services_in plan version)))
-          ∙ length-any (service_in plan version k).kind (service_in plan version k).unicast ((part version).packets_before k % 16) 0 ((part version).frames_before k) (datagrams version k)
+          ap (λ (ps : List PacketFields). length ps) (packets_in_part (part version).packets_before (part version).schedules (datagrams version) (services_in plan version) 0 k k (omega arith) (omega (arith, known, length-services_in plan version)))
+          ∙ length-packets_of_kind (service_in plan version k).kind (service_in plan version k).unicast ((part version).packets_before k % 16) 0 ((part version).schedules k)
+          (schedule_of plan datagrams 0 k version) (datagrams version k) refl
 
       by_pid : (shared : Bool) → shares_pid (pid_in plan (version + 1) k) (pid_in plan (version + 1 - 1) k) ≡ shared
           → cond shared (slice_index behind k) 0 ≡ (part (version + 1)).packets_before k % 16

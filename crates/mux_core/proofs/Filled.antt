@@ -10,11 +10,11 @@ use Rattle.plan_spec.specs.Plan.{PlanFields}
 use Rattle.plan_spec.specs.Wholes.{is_whole_plan}
 use Rattle.stream_spec.specs.Parts.{PartFields, records_of_slots}
 use Rattle.stream_spec.specs.Stream.{whole_cycles}
-use Rattle.mux_core.specs.Services.{Serving, packet_total, turn_of}
-use Rattle.mux_core.specs.Slots.{IsPartOf, StandBefore, slots_with}
+use Rattle.mux_core.specs.Services.{Serving, turn_of}
+use Rattle.mux_core.specs.Slots.{IsPartOf, IsOver, StandBefore, slots_with}
 use Rattle.mux_core.specs.declared.int_packets.IntPackets.{IntPackets}
 use Rattle.mux_core.proofs.Signalled.{cycle_some, part_accepted, cycle_is}
-use Rattle.mux_core.proofs.Ended.{no_turn_there, more_records}
+use Rattle.mux_core.proofs.Ended.{idle, over_left, more_records}
 
 -- The end of the cycle of a slot.
 
@@ -72,9 +72,11 @@ module _ (cycle : ℕ) (some : 0 < cycle) where
 -- Slots that are filled.
 
 module _ (plan : PlanFields) (whole : is_whole_plan plan ≡ true) (part : PartFields) where
-  -- no service has its turn where none has packets left
-  pub none_turns : (place of_stream : ℕ) (serving : Serving) (signals : IntPackets) → StandBefore plan part place of_stream serving signals → packet_total serving.packets ≡ 0 → turn_of serving ≡ None
-  none_turns place of_stream serving signals stand none = no_turn_there part place serving stand.services none
+  -- no service has its turn after the end
+  pub none_turns : (from place of_stream : ℕ) (serving : Serving) (signals : IntPackets) → StandBefore plan part place of_stream serving signals → from ≤ place → IsOver part from → turn_of serving ≡ None
+  none_turns from place of_stream serving signals stand le over =
+      let accepted = part_accepted plan whole part stand.of_plan in
+      idle part accepted stand.of_plan.fits place serving stand.services (over_left part accepted stand.of_plan.fits place serving stand.services from le over)
 
   pub fills_one : (place after from slot : ℕ) → place + (slot - from) ≡ after → from ≤ slot → place + (slot + 1 - from) ≡ after + 1
   fills_one place after from slot is le = omega (arith, is, le)

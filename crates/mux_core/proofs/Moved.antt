@@ -33,8 +33,7 @@ pub record Stays (old new : ServiceFields) : Type 0 where
 sent_moved : (kind : KindFields) (pid : ℕ) → is_sent (with_pid kind pid) ≡ is_sent kind
 sent_moved (ule old address packing) pid = refl
 sent_moved (mpe old) pid = refl
-sent_moved (fec old rows parity None) pid = refl
-sent_moved (fec old rows parity (Some window)) pid = refl
+sent_moved (fec old rows parity window) pid = refl
 sent_moved (gse isi address) pid = refl
 
 slices_moved : (kind : KindFields) (pid rate : ℕ) → slices_of rate (with_pid kind pid) ≡ slices_of rate kind

@@ -10,7 +10,7 @@ use Rattle.plan.specs.Parts.{kind_seen, service_seen}
 use Rattle.plan.specs.PlanView.{plan_fields}
 use Rattle.plan.specs.declared.service.Service.{Service}
 use Rattle.plan.specs.declared.plan.Plan.{Plan}
-use Rattle.stream_spec.specs.Units.{frame_count}
+use Rattle.stream_spec.specs.Units.{fits_window, frame_count}
 use Rattle.stream_spec.specs.Services.{kind_at}
 use Rattle.stream_spec.specs.Stream.{frame_count_in}
 use Rattle.stream_law.proofs.Kept.{kind_of_version, frame_count_kept}
@@ -42,7 +42,7 @@ pub frames_most : (kind : KindFields) (ds : List (List ℕ)) → frame_count kin
 frames_most (ule pid address packing) ds = omega arith
 frames_most (mpe pid) ds = omega arith
 frames_most (fec pid rows parity None) ds = omega (arith, all_more (fits_table rows) ds [])
-frames_most (fec pid rows parity (Some window)) ds = omega arith
+frames_most (fec pid rows parity (Some window)) ds = omega (arith, all_more (fits_window rows parity window.length) ds [])
 frames_most (gse isi address) ds = omega arith
 
 -- a version more

@@ -1,5 +1,5 @@
 -- The parts of a stream, one after another, as their records are written or held back.
-use Rattle.std.proofs.Common.{◌≡◌, ◌⊎◌, inl, inr, ℕ, zero, suc, ◌+◌, ◌-◌, ◌*◌, ◌/◌, ◌%◌, ◌<◌, ◌≤◌, min, Bool, true, false, cond, not, ◌||◌, ltb, List, [], ◌∷◌, ◌++◌, length, take, drop, refl, sym, ap, ap₂, ◌∙◌, arith, append_assoc, append-nil, subst, Option}
+use Rattle.std.proofs.Common.{◌≡◌, ◌⊎◌, inl, inr, ℕ, zero, suc, ◌+◌, ◌-◌, ◌*◌, ◌/◌, ◌%◌, ◌<◌, ◌≤◌, min, Bool, true, false, cond, not, ◌||◌, ltb, List, [], ◌∷◌, ◌++◌, length, take, drop, refl, sym, ap, ap₂, ◌∙◌, arith, append_assoc, append-nil, subst, Option, Some, None}
 use Rattle.std.specs.Prelude.{sum_by, flat_map, slice_index, slice_index_or}
 use Rattle.std.specs.List.{list_any, range_with_len}
 use Rattle.std.specs.Io.KnownBytes.{Appends}
@@ -9,26 +9,28 @@ use Rattle.std.proofs.lemmas.List.{length-append, length-map, take_at, take-appe
 use Rattle.std.proofs.lemmas.List.Sums.{sum_by-cons}
 use Rattle.std.proofs.lemmas.Grind.{flat_map-append}
 use Rattle.wire_spec.specs.Lists.{joined}
-use Rattle.ts_spec.specs.Packet.{PacketFields}
-use Rattle.plan_spec.specs.Plan.{PlanFields}
+use Rattle.plan_spec.specs.Plan.{KindFields, ServiceFields, PlanFields, kinds, SlicedFields, sliced_of}
 use Rattle.plan_spec.specs.Changes.{plan_in, versions}
 use Rattle.plan_spec.specs.Signalling.{table_packets}
 use Rattle.plan_spec.specs.Wholes.{is_whole_plan}
 use Rattle.plan_law.proofs.Kept.{length-services_in}
+use Rattle.stream_spec.specs.Services.{kind_at}
+use Rattle.stream_spec.specs.Units.{burst_sizes}
+use Rattle.stream_spec.specs.Windows.{windows_of}
+use Rattle.stream_law.proofs.Kept.{sliced_kept}
 use Rattle.stream_spec.specs.Slots.{IsSlotCount}
 use Rattle.stream_spec.specs.Parts.{PartFields, service_packets, slot_in, record_of_slot, records_of_slots}
 use Rattle.stream_spec.specs.Stream.{earlier, part_of, has_datagrams, is_last, whole_cycles, IsPartCount}
 use Rattle.stream_law.proofs.Ranges.{range_append, sum_next}
 use Rattle.stream_law.proofs.Ends.{one_count}
 use Rattle.stream_law.proofs.Lasts.{none_behind_last}
-use Rattle.stream_law.proofs.OnPid.{length-packets_from}
-use Rattle.mux_core.specs.Services.{Serving, Begins}
-use Rattle.mux_core.specs.Slots.{turns_in, IsPartOf, StandBefore, slots_with}
+use Rattle.mux_core.specs.Services.{Serving, shape_of, shapes_of, Begins}
+use Rattle.mux_core.specs.Slots.{IsPartOf, StandBefore, slots_with}
 use Rattle.mux_core.specs.IntPackets.{IsTableAt}
 use Rattle.mux_core.specs.declared.int_packets.IntPackets.{IntPackets}
 use Rattle.mux_core.proofs.Signalled.{cycle_some, same_place}
-use Rattle.mux_core.proofs.Stepped.{length-left_of}
-use Rattle.mux_core.proofs.Ended.{at_start, joined-append}
+use Rattle.mux_core.proofs.Made.{same_items, shapes_at, windows_kept}
+use Rattle.mux_core.proofs.Ended.{services_start, joined-append}
 use Rattle.mux_core.proofs.Filled.{is_end}
 use Rattle.stream_law.proofs.Wholes.{version_accepted}
 
@@ -57,6 +59,24 @@ none_there p start (suc n) each =
     both : (a b : Bool) → a ≡ false → b ≡ false → (a || b) ≡ false
     both true b e e2 = absurd (cc)
     both false b e e2 = e2
+
+-- no burst is longer than its window
+abbrev pub Fits : PlanFields → (ℕ → ℕ → List (List ℕ)) → Type 0
+Fits plan datagrams = (version : ℕ) → version ≤ length plan.changes → (k : ℕ) (fields : SlicedFields) → sliced_of (kind_at (plan_in plan version) k) ≡ Some fields
+    → (c : ℕ) → slice_index (burst_sizes (kind_at (plan_in plan version) k) (datagrams version k)) c ≤ fields.length
+
+shapes_kept : (plan : PlanFields) (version : ℕ) → shapes_of (plan_in plan version) ≡ shapes_of plan
+shapes_kept plan version =
+    same_items None (shapes_of (plan_in plan version)) (shapes_of plan) size
+    (λ k less.
+    shapes_at (kinds (plan_in plan version)) k (omega (arith, less, size, length-map (kinds (plan_in plan version)) (λ (kind : KindFields). shape_of (sliced_of kind))))
+    ∙ ap shape_of (sliced_kept plan version k)
+    ∙ sym (shapes_at (kinds plan) k (omega (arith, less, length-map (kinds plan) (λ (kind : KindFields). shape_of (sliced_of kind))))))
+  where
+    size : length (shapes_of (plan_in plan version)) ≡ length (shapes_of plan)
+    size =
+        length-map (kinds (plan_in plan version)) (λ (kind : KindFields). shape_of (sliced_of kind)) ∙ length-map (plan_in plan version).services (λ (s : ServiceFields). s.kind)
+        ∙ length-services_in plan version ∙ sym (length-map plan.services (λ (s : ServiceFields). s.kind)) ∙ sym (length-map (kinds plan) (λ (kind : KindFields). shape_of (sliced_of kind)))
 
 -- this version is the last with datagrams, where one has some
 pub record IsLastOf (plan : PlanFields) (datagrams : ℕ → ℕ → List (List ℕ)) (last : ℕ) : Type 0 where
@@ -145,10 +165,15 @@ module _ (plan : PlanFields) (datagrams : ℕ → ℕ → List (List ℕ)) (slot
           ∙ append_assoc handed.front (held ++ joined (pieces version)) rest
 
   -- how many services there are
-  pub services_stay : (version place slot : ℕ) (serving : Serving) (signals : IntPackets) → StandBefore plan (part version) place slot serving signals → length serving.packets ≡ length plan.services
-  services_stay version place slot serving signals stand =
-      ap (λ (ps : List (List PacketFields)). length ps) stand.services.packets ∙ length-left_of (service_packets (part version)) (turns_in (part version) place).sent
-      ∙ length-packets_from (part version).packets_before (part version).frames_before (part version).datagrams 0 (plan_in plan version).services ∙ length-services_in plan version
+  pub services_stay : (version place slot : ℕ) (serving : Serving) (signals : IntPackets) → StandBefore plan (part version) place slot serving signals → length serving.bursts ≡ length plan.services
+  services_stay version place slot serving signals stand = stand.services.count ∙ length-services_in plan version
+
+  -- which of them are sliced, and their windows
+  pub sliced_stay : (version place slot : ℕ) (serving : Serving) (signals : IntPackets) → StandBefore plan (part version) place slot serving signals → serving.sliced ≡ shapes_of plan
+  sliced_stay version place slot serving signals stand = stand.services.sliced ∙ shapes_kept plan version
+
+  pub windows_stay : (version place slot : ℕ) (serving : Serving) (signals : IntPackets) → StandBefore plan (part version) place slot serving signals → serving.windows ≡ windows_of plan
+  windows_stay version place slot serving signals stand = stand.services.windows ∙ windows_kept plan version
 
   -- all parts up to that of a version are written or held back, and all stands behind it
   pub record IsBehind (version slot : ℕ) (old new : Option (List ℕ)) (back : List ℕ) (serving : Serving) (signals : IntPackets) : Type 0 where
@@ -216,17 +241,26 @@ module _ (plan : PlanFields) (datagrams : ℕ → ℕ → List (List ℕ)) (slot
         ∙ same_place (sum_by slots (earlier version)) (slots version) plan.cycle some_cycle (whole_before version (omega (arith, le)))
         ∙ whole_part version (omega (arith, le))
 
-    pub part_is : (version : ℕ) → version ≤ last → IsPartOf plan (part version)
-    part_is version le = record { version = version; within = omega (arith, le, is.within); plan_is = refl; whole = whole_before version le }
+    within_last : last ≤ length plan.changes
+    within_last = is.within
+
+    pub part_is : Fits plan datagrams → (version : ℕ) → version ≤ last → IsPartOf plan (part version)
+    part_is fits version le = record {
+      version = version;
+      within = omega (arith, le, is.within);
+      plan_is = refl;
+      whole = whole_before version le;
+      fits = λ k fields is c. fits version (omega (arith, le, within_last)) k fields is c;
+    }
 
     -- the services and the INT before the first slot of a part
-    pub part_begins : (version slot : ℕ) (serving : Serving) (signals : IntPackets) → version ≤ last → slot ≡ sum_by slots (earlier version) → Begins (part version) serving → IsTableAt (part version) 0 signals
+    pub part_begins : Fits plan datagrams → (version slot : ℕ) (serving : Serving) (signals : IntPackets) → version ≤ last → slot ≡ sum_by slots (earlier version) → Begins (part version) serving → IsTableAt (part version) 0 signals
         → StandBefore plan (part version) 0 slot serving signals
-    part_begins version slot serving signals le slot_is begins table = record {
-      of_plan = part_is version le;
+    part_begins fits version slot serving signals le slot_is begins table = record {
+      of_plan = part_is fits version le;
       place = omega (arith, slot_is);
       table = table;
-      services = at_start (part version) serving begins.packets begins.first;
+      services = services_start (part version) (omega (arith, some_cycle)) serving begins;
     }
 
     -- behind a part that is not the last the counter of the INT is that of the next

@@ -1,5 +1,5 @@
 -- A record is its stamp and its packet, and stands after those that no sink has yet.
-use Rattle.std.proofs.Common.{◌≡◌, ℕ, ◌+◌, ◌-◌, ◌≤◌, List, [], ◌++◌, length, take, drop, sym, ap, ap₂, ◌∙◌, arith, append_assoc, append-nil, length-drop, Option}
+use Rattle.std.proofs.Common.{◌≡◌, ℕ, ◌+◌, ◌-◌, ◌≤◌, List, [], ◌++◌, length, take, drop, sym, ap, ap₂, ◌∙◌, arith, append_assoc, append-nil, length-drop}
 use Rattle.std.proofs.lemmas.List.{length-append, length-take-le, take_at, drop_at, take-append-drop, drop-drop, drop_all}
 use Rattle.std.proofs.Math.Seq.{take-length}
 use borrow.Rule.Slice.PartMut.{post_of}
@@ -16,7 +16,7 @@ stamp_is plan part is slot of_stream place =
     ap (λ (s : ℕ). stamp_bytes plan.recording plan.packet_rate s) place
     ∙ ap (λ (p : PlanFields). stamp_bytes p.recording p.packet_rate (part.slots_before + slot)) (sym is.plan_is)
 
-module _ (plan : PlanFields) (part : PartFields) (slot of_stream : ℕ) (turn : Option ℕ) (serving : Serving) (table : IntPackets) where
+module _ (plan : PlanFields) (part : PartFields) (slot of_stream : ℕ) (serving : Serving) (table : IntPackets) where
   abbrev stamp : List ℕ
   stamp = stamp_bytes part.plan.recording part.plan.packet_rate (part.slots_before + slot)
 
@@ -25,13 +25,12 @@ module _ (plan : PlanFields) (part : PartFields) (slot of_stream : ℕ) (turn : 
 
   -- the stamp was written, and then the packet after it
   pub record_written : (old mid rest new : List ℕ) (size : ℕ) → size ≡ length stamp → size ≤ 8 → mid ≡ stamp ++ drop size old → 196 ≤ length old
-      → rest ≡ take (length mid - size) (drop size mid) → drop 188 new ≡ drop 188 rest → length new ≡ length rest → TakesSlot plan part slot of_stream turn serving table (take 188 new)
-      → WritesRecord plan part slot of_stream turn serving table old (take size mid ++ (new ++ post_of size (length mid - size) mid)) (size + 188)
+      → rest ≡ take (length mid - size) (drop size mid) → drop 188 new ≡ drop 188 rest → length new ≡ length rest → TakesSlot plan part slot of_stream serving table (take 188 new)
+      → WritesRecord plan part slot of_stream serving table old (take size mid ++ (new ++ post_of size (length mid - size) mid)) (size + 188)
   record_written old mid rest new size size_is few mid_is room rest_is behind same took = record {
     bytes_are = whole;
     size_is = omega (arith, size_is, length-append stamp (take 188 new), length-take-le 188 new (omega (arith, long)), ap length (ap (λ (t : List ℕ). stamp ++ t) took.bytes_are));
     after = took.after;
-    of_service = took.of_service;
   }
     where
       back : drop size mid ≡ drop size old
@@ -60,15 +59,14 @@ module _ (plan : PlanFields) (part : PartFields) (slot of_stream : ℕ) (turn : 
 
   -- it was written after the others
   pub record_added : (items rest new : List ℕ) (fill size : ℕ) (before : List ℕ) → take fill items ≡ before → fill ≤ length items
-      → WritesRecord plan part slot of_stream turn serving table rest new size → (all : List ℕ) → all ≡ take fill items ++ new
-      → AddsRecord plan part slot of_stream turn serving table before (take (fill + size) all)
+      → WritesRecord plan part slot of_stream serving table rest new size → (all : List ℕ) → all ≡ take fill items ++ new
+      → AddsRecord plan part slot of_stream serving table before (take (fill + size) all)
   record_added items rest new fill size before before_is fits wrote all all_is = record {
     bytes_are =
         ap (take (fill + size)) (all_is ∙ ap (λ (t : List ℕ). take fill items ++ t) wrote.bytes_are ∙ sym (append_assoc (take fill items) record_is (drop size rest)))
         ∙ take_at (take fill items ++ record_is) (drop size rest) (fill + size) (omega (arith, length-append (take fill items) record_is, length-take-le fill items fits, wrote.size_is))
         ∙ ap (λ (t : List ℕ). t ++ record_is) before_is;
     after = wrote.after;
-    of_service = wrote.of_service;
   }
 
 -- what a buffer has whose rest from a place on was written
@@ -92,7 +90,7 @@ rest_written items seen rest new len fill same len_is fits rest_is size =
     all_is = ap₂ (λ (a b : List ℕ). take fill a ++ (new ++ b)) same none ∙ ap (λ (t : List ℕ). take fill items ++ t) (append-nil new)
 
 -- a record is written in the room that there is
-pub record_kept : (plan : PlanFields) (part : PartFields) (slot of_stream : ℕ) (turn : Option ℕ) (serving : Serving) (table : IntPackets) (old new : List ℕ) (size : ℕ) → WritesRecord plan part slot of_stream turn serving table old new size → size ≤ length old
+pub record_kept : (plan : PlanFields) (part : PartFields) (slot of_stream : ℕ) (serving : Serving) (table : IntPackets) (old new : List ℕ) (size : ℕ) → WritesRecord plan part slot of_stream serving table old new size → size ≤ length old
     → length new ≡ length old
-record_kept plan part slot of_stream turn serving table old new size wrote room =
+record_kept plan part slot of_stream serving table old new size wrote room =
     omega (arith, ap length wrote.bytes_are, length-append (record_of_slot part slot) (drop size old), length-drop size old, wrote.size_is, room)

@@ -1,24 +1,33 @@
 -- From slot to slot: how far the services are, and what each slot carries.
 use Rattle.std.proofs.Common.{◌≡◌, ℕ, zero, suc, ◌+◌, ◌-◌, ◌/◌, ◌%◌, ◌<◌, ◌≤◌, Bool, true, false, cond, ltb, List, [], ◌∷◌, length, drop, set, refl, sym, ap, ap₂, ◌∙◌, arith, add-one, length-drop, subst, Option, Some, None}
-use Rattle.std.specs.Prelude.{find, slice_index, slice_index_or, is_some, not, ◌&&◌, if◌then◌else◌}
-use Rattle.std.specs.Option.{unwrap_or}
-use Rattle.std.proofs.lemmas.List.{length-map}
+use Rattle.std.specs.Prelude.{find, slice_index, slice_index_or}
+use Rattle.std.specs.Option.{unwrap_or, option_or}
+use Rattle.std.proofs.lemmas.List.{length-map, length-set}
 use Rattle.ts_spec.specs.Packet.{PacketFields, null_packet}
 use Rattle.ts_spec.specs.Packetized.{packet_at}
-use Rattle.plan_spec.specs.Plan.{PlanFields}
+use Rattle.plan_spec.specs.Plan.{PlanFields, kinds, SlicedFields, sliced_of}
 use Rattle.plan_spec.specs.Signalling.{table_packets}
+use Rattle.plan_spec.specs.Valid.{is_plan}
 use Rattle.plan_spec.specs.Wholes.{is_whole_plan}
-use Rattle.stream_spec.specs.Slots.{Slot, of_table, of_service, empty, is_of_service, asked, Turns, has_left, next_service, served, slot_of_service, kept_for_table}
-use Rattle.stream_spec.specs.Parts.{PartFields, service_packets, written, packet_in, packet_counts, slot_in}
+use Rattle.slice_spec.specs.Windows.{AreApart, owner_of}
+use Rattle.stream_spec.specs.Services.{kind_at}
+use Rattle.stream_spec.specs.Slots.{Slot, of_table, of_service, asked, Turns, has_left, next_service, served, slot_of_service}
+use Rattle.stream_spec.specs.Windows.{windows_of, sliced_at}
+use Rattle.stream_spec.specs.Parts.{PartFields, service_packets, written, packet_in, packet_counts, turn_counts, sizes_in, kept_in, slot_in}
 use Rattle.stream_spec.proofs.Over.{turns_kept, turns_served}
 use Rattle.stream_law.proofs.Turns.{IsWithin, within_at}
 use Rattle.stream_law.proofs.Next.{has_turn, true_ltb, false_ltb}
-use Rattle.stream_law.proofs.OnPid.{count_of}
-use Rattle.mux_core.specs.Services.{Serving, has_packets, turn_of, TakesTurn, left_of, AreAt}
+use Rattle.stream_law.proofs.Carrying.{count_of}
+use Rattle.window_law.proofs.Owners.{plan_apart, owner_is}
+use Rattle.mux_core.specs.Services.{Serving, Bursts, bursts_of, has_packets, turn_of, TakesTurn, left_of, AreAt, rotation, opened_by, with_opened, burst_of, GivesBurst}
 use Rattle.mux_core.specs.IntPackets.{IsTableAt, packet_of_table}
 use Rattle.mux_core.specs.declared.int_packets.IntPackets.{IntPackets}
 use Rattle.mux_core.proofs.Signalled.{part_accepted, early_is, signalling_passes}
-use Rattle.mux_core.specs.Slots.{turns_in, is_early, StandBefore, TakesSlot}
+use Rattle.mux_core.proofs.Windowed.{known_there}
+use Rattle.mux_core.proofs.Rotation.{counts_are, all_in_rotation}
+use Rattle.mux_core.proofs.Bursting.{drop_first}
+use Rattle.mux_core.proofs.OverWindows.{early_stays, closed_there, Rests, rests_there, Gives, gives_there}
+use Rattle.mux_core.specs.Slots.{turns_in, is_early, StandBefore, ServicesAt, TakesSlot}
 
 -- What is left of services.
 
@@ -31,7 +40,7 @@ drop_none : (n : ℕ) → ◌≡◌ {A = List PacketFields} [] (drop n [])
 drop_none zero = refl
 drop_none (suc n) = refl
 
-left_at : (services : List (List PacketFields)) (sent : List ℕ) (k : ℕ) → length sent ≡ length services → slice_index_or (left_of services sent) k [] ≡ drop (slice_index sent k) (slice_index_or services k [])
+pub left_at : (services : List (List PacketFields)) (sent : List ℕ) (k : ℕ) → length sent ≡ length services → slice_index_or (left_of services sent) k [] ≡ drop (slice_index sent k) (slice_index_or services k [])
 left_at [] [] k size = drop_none (slice_index [] k)
 left_at [] (n ∷ sent) k size = absurd (omega (arith, size))
 left_at (packets ∷ services) [] k size = absurd (omega (arith, size))
@@ -46,14 +55,8 @@ set_left (packets ∷ services) (n ∷ sent) zero rest size less is = ap (λ (ps
 set_left (packets ∷ services) (n ∷ sent) (suc k) rest size less is =
     ap (λ (t : List (List PacketFields)). drop n packets ∷ t) (set_left services sent k rest (omega (arith, size)) (omega (arith, less)) is)
 
-drop_first : (packets : List PacketFields) (n : ℕ) (packet : PacketFields) (rest : List PacketFields) → drop n packets ≡ packet ∷ rest → (packet_at packets n ≡ packet) × (drop (n + 1) packets ≡ rest)
-drop_first packets n packet rest e = let it = go packets n e in (it.0, ap (λ (m : ℕ). drop m packets) (add-one n) ∙ it.1)
-  where
-    go : (ps : List PacketFields) (m : ℕ) → drop m ps ≡ packet ∷ rest → (packet_at ps m ≡ packet) × (drop (suc m) ps ≡ rest)
-    go [] zero e2 = absurd (cc)
-    go [] (suc m) e2 = absurd (cc)
-    go (first ∷ ps) zero e2 = (cc, cc)
-    go (first ∷ ps) (suc m) e2 = go ps m e2
+first_dropped : (packets : List PacketFields) (n : ℕ) (packet : PacketFields) (rest : List PacketFields) → drop n packets ≡ packet ∷ rest → (packet_at packets n ≡ packet) × (drop (n + 1) packets ≡ rest)
+first_dropped packets n packet rest e = let it = drop_first packets n packet rest e in (it.0, ap (λ (m : ℕ). drop m packets) (add-one n) ∙ it.1)
 
 -- The turn.
 
@@ -65,11 +68,11 @@ module _ (services : List (List PacketFields)) (turns : Turns) (within : IsWithi
   sized : length turns.sent ≡ length services
   sized = omega (arith, within.size, length-map services (λ (packets : List PacketFields). length packets))
 
-  has_same : (k : ℕ) → has_packets serving.packets k ≡ has_left (packet_counts services) turns.sent k
-  has_same k = compared (slice_index turns.sent k) (slice_index (packet_counts services) k) (slice_index (packet_counts serving.packets) k) counts
+  has_same : (k : ℕ) → has_packets serving.turns k ≡ has_left (packet_counts services) turns.sent k
+  has_same k = compared (slice_index turns.sent k) (slice_index (packet_counts services) k) (slice_index (packet_counts serving.turns) k) counts
     where
-      counts : slice_index (packet_counts serving.packets) k ≡ slice_index (packet_counts services) k - slice_index turns.sent k
-      counts = count_of serving.packets k ∙ ap (λ (ps : List (List PacketFields)). length (slice_index_or ps k [])) at.packets ∙ ap (λ (ps : List PacketFields). length ps) (left_at services turns.sent k sized)
+      counts : slice_index (packet_counts serving.turns) k ≡ slice_index (packet_counts services) k - slice_index turns.sent k
+      counts = count_of serving.turns k ∙ ap (λ (ps : List (List PacketFields)). length (slice_index_or ps k [])) at.packets ∙ ap (λ (ps : List PacketFields). length ps) (left_at services turns.sent k sized)
           ∙ length-drop (slice_index turns.sent k) (slice_index_or services k []) ∙ ap (λ (n : ℕ). n - slice_index turns.sent k) (sym (count_of services k))
 
       compared : (a b n : ℕ) → n ≡ b - a → ltb 0 n ≡ ltb a b
@@ -81,10 +84,10 @@ module _ (services : List (List PacketFields)) (turns : Turns) (within : IsWithi
 
   pub same_turn : turn_of serving ≡ next_service (packet_counts services) turns
   same_turn =
-      let size : length (packet_counts serving.packets) ≡ length (packet_counts services)
-      = length-map serving.packets (λ (packets : List PacketFields). length packets) ∙ ap (λ (ps : List (List PacketFields)). length ps) at.packets ∙ length-left_of services turns.sent
+      let size : length (packet_counts serving.turns) ≡ length (packet_counts services)
+      = length-map serving.turns (λ (packets : List PacketFields). length packets) ∙ ap (λ (ps : List (List PacketFields)). length ps) at.packets ∙ length-left_of services turns.sent
       ∙ sym (length-map services (λ (packets : List PacketFields). length packets)) in
-      same_find (has_packets serving.packets) (has_left (packet_counts services) turns.sent) has_same (asked (length (packet_counts serving.packets)) serving.first)
+      same_find (has_packets serving.turns) (has_left (packet_counts services) turns.sent) has_same (asked (length (packet_counts serving.turns)) serving.first)
       ∙ ap₂ (λ (n first : ℕ). find (has_left (packet_counts services) turns.sent) (asked n first)) size at.first
 
   -- one service gave a packet
@@ -94,9 +97,9 @@ module _ (services : List (List PacketFields)) (turns : Turns) (within : IsWithi
   turn_served new bytes took = (
     turn,
     record {
-      packets = took.packets ∙ ap (λ (ps : List (List PacketFields)). set ps took.service took.rest) at.packets
+      packets = ap (λ (s : Serving). s.turns) took.after ∙ ap (λ (ps : List (List PacketFields)). set ps took.service took.rest) at.packets
           ∙ set_left services turns.sent took.service took.rest sized below (sym parts.1);
-      first = took.first;
+      first = ap (λ (s : Serving). s.first) took.after;
     },
     took.bytes_are ∙ ap written (sym parts.0),
   )
@@ -108,105 +111,185 @@ module _ (services : List (List PacketFields)) (turns : Turns) (within : IsWithi
       below = omega (arith, (has_turn (packet_counts services) turns took.service within.first turn).1, length-map services (λ (packets : List PacketFields). length packets))
 
       parts : (packet_at (slice_index_or services took.service []) (slice_index turns.sent took.service) ≡ took.packet) × (drop (slice_index turns.sent took.service + 1) (slice_index_or services took.service []) ≡ took.rest)
-      parts = drop_first (slice_index_or services took.service []) (slice_index turns.sent took.service) took.packet took.rest
+      parts = first_dropped (slice_index_or services took.service []) (slice_index turns.sent took.service) took.packet took.rest
           (sym (left_at services turns.sent took.service sized) ∙ ap (λ (ps : List (List PacketFields)). slice_index_or ps took.service []) (sym at.packets) ∙ took.next)
 
 -- The slots.
 
-module _ (part : PartFields) (slot : ℕ) where
+module _ (part : PartFields) (accepted : is_plan part.plan ≡ true)
+    (fits : (k : ℕ) (fields : SlicedFields) → sliced_of (kind_at part.plan k) ≡ Some fields → (c : ℕ) → slice_index (sizes_in part k) c ≤ fields.length) (slot : ℕ) where
   abbrev services : List (List PacketFields)
-  services = service_packets part
+  services = rotation part
 
   abbrev early_here : Bool
   early_here = is_early part.plan.cycle (table_packets part.plan) slot
 
-  -- a slot carries these bytes, and the services stand before the next
-  pub record Steps (turn : Option ℕ) (serving : Serving) (bytes : List ℕ) : Type 0 where
-    pub bytes_are : bytes ≡ packet_in part (slot / part.plan.cycle) (slot_in part slot)
-    pub after : AreAt services (turns_in part (slot + 1)) serving
-    pub of_service : early_here ≡ false → is_of_service (slot_in part slot) ≡ is_some turn
+  abbrev counts : List ℕ
+  counts = turn_counts (kinds part.plan) (service_packets part)
 
-  abbrev kept : ℕ → Option Slot
-  kept s = kept_for_table part.plan.cycle (table_packets part.plan) s
+  abbrev off : ℕ
+  off = slot % part.plan.cycle
 
   abbrev turns : Turns
   turns = turns_in part slot
 
-  kept_early : early_here ≡ true → kept slot ≡ Some (of_table (slot % part.plan.cycle))
-  kept_early e = ap (λ (b : Bool). cond b (Some (of_table (slot % part.plan.cycle))) None) e
+  -- a slot carries these bytes, and the services stand before the next
+  pub record Steps (serving : Serving) (bytes : List ℕ) : Type 0 where
+    pub bytes_are : bytes ≡ packet_in part (slot / part.plan.cycle) (slot_in part slot)
+    pub after : ServicesAt part (slot + 1) serving
 
-  kept_late : early_here ≡ false → kept slot ≡ None
-  kept_late e = ap (λ (b : Bool). cond b (Some (of_table (slot % part.plan.cycle))) None) e
+  pub within_here : IsWithin (packet_counts services) turns
+  within_here = subst (λ (ns : List ℕ). IsWithin ns turns) (sym (counts_are part)) (within_at (kept_in part) counts slot)
+
+  kept_early : early_here ≡ true → kept_in part slot ≡ Some (of_table off)
+  kept_early e = ap (λ (b : Bool). option_or (cond b (Some (of_table off)) None) (sliced_at part.plan.cycle (windows_of part.plan) (sizes_in part) slot)) e
+
+  -- of a kept slot
+  turns_stay : (it : Slot) → kept_in part slot ≡ Some it → turns_in part (slot + 1) ≡ turns
+  turns_stay it is = ap (turns_in part) (add-one slot) ∙ turns_kept (kept_in part) counts slot it is
+
+  carries_kept : (it : Slot) → kept_in part slot ≡ Some it → slot_in part slot ≡ it
+  carries_kept it is = ap (λ (o : Option Slot). unwrap_or o (slot_of_service turns (next_service counts turns))) is
+
+  -- and of one that isn't
+  turns_go_on : kept_in part slot ≡ None → turns_in part (slot + 1) ≡ served turns (next_service counts turns)
+  turns_go_on is = ap (turns_in part) (add-one slot) ∙ turns_served (kept_in part) counts slot is
+
+  carries_turn : kept_in part slot ≡ None → slot_in part slot ≡ slot_of_service turns (next_service counts turns)
+  carries_turn is = ap (λ (o : Option Slot). unwrap_or o (slot_of_service turns (next_service counts turns))) is
+
+  pub turn_is : (serving : Serving) → AreAt services turns serving → turn_of serving ≡ next_service counts turns
+  turn_is serving at = same_turn services turns within_here serving at ∙ ap (λ (ns : List ℕ). next_service ns turns) (counts_are part)
 
   -- a slot of the INT
-  pub early_taken : (turn : Option ℕ) (serving : Serving) (bytes : List ℕ) → early_here ≡ true → AreAt services turns serving → bytes ≡ packet_of_table part slot → Steps turn serving bytes
-  early_taken turn serving bytes early at bytes_are = record {
-    bytes_are = bytes_are ∙ sym (ap (λ (it : Slot). packet_in part (slot / part.plan.cycle) it) carried);
-    after = subst (λ (t : Turns). AreAt services t serving)
-        (sym (ap (turns_in part) (add-one slot) ∙ turns_kept kept (packet_counts services) slot (of_table (slot % part.plan.cycle)) (kept_early early))) at;
-    of_service = λ late. absurd (differ early_here early late);
+  pub early_taken : (serving : Serving) (bytes : List ℕ) → early_here ≡ true → ServicesAt part slot serving → bytes ≡ packet_of_table part slot → Steps serving bytes
+  early_taken serving bytes early at bytes_are = record {
+    bytes_are = bytes_are ∙ sym (ap (packet_in part (slot / part.plan.cycle)) (carries_kept (of_table off) (kept_early early)));
+    after = record {
+      turns = subst (λ (t : Turns). AreAt services t serving) (sym (turns_stay (of_table off) (kept_early early))) at.turns;
+      bursts = λ k. at.bursts k ∙ sym (early_stays part accepted fits slot early k);
+      count = at.count;
+      sliced = at.sliced;
+      windows = at.windows;
+    };
   }
-    where
-      differ : (b : Bool) → b ≡ true → b ≡ false → ⊥
-      differ b e1 e2 = cc
 
-      carried : slot_in part slot ≡ of_table (slot % part.plan.cycle)
-      carried = ap (λ (o : Option Slot). unwrap_or o (slot_of_service turns (next_service (packet_counts services) turns))) (kept_early early)
+  -- what has to hold where a window opens
+  module _ (old : Serving) (at : ServicesAt part slot old) where
+    pub windows_apart : AreApart old.windows
+    windows_apart = subst AreApart (sym at.windows) (plan_apart part.plan accepted)
 
-  -- a slot of the service whose turn it is
-  pub late_taken : (k : ℕ) (old new : Serving) (bytes : List ℕ) → early_here ≡ false → AreAt services turns old → TakesTurn old new bytes → Steps (Some k) new bytes
-  late_taken k old new bytes late at took = record {
-    bytes_are = it.2 ∙ sym (ap (λ (s : Slot). packet_in part (slot / part.plan.cycle) s) carried);
-    after = subst (λ (t : Turns). AreAt services t new)
-        (sym (ap (turns_in part) (add-one slot) ∙ turns_served kept (packet_counts services) slot (kept_late late) ∙ ap (λ (o : Option ℕ). served turns o) it.0)) it.1;
-    of_service = λ e. ap is_of_service carried;
-  }
-    where
-      it : (next_service (packet_counts services) turns ≡ Some took.service) × AreAt services (served turns (Some took.service)) new
-          × (bytes ≡ written (packet_at (slice_index_or services took.service []) (slice_index turns.sent took.service)))
-      it = turn_served services turns (within_at kept (packet_counts services) slot) old at new bytes took
+    pub known_owner : (k n : ℕ) → owner_of old.windows off ≡ Some (k, n) → k < length old.bursts
+    known_owner k n e =
+        let own = owner_is part.plan accepted off k n (ap (λ ws. owner_of ws off) (sym at.windows) ∙ e) in
+        omega (arith, at.count, known_there part.plan accepted k own.0 own.1)
 
-      carried : slot_in part slot ≡ of_service took.service (slice_index turns.sent took.service)
-      carried = ap (λ (o : Option Slot). unwrap_or o (slot_of_service turns (next_service (packet_counts services) turns))) (kept_late late) ∙ ap (λ (o : Option ℕ). slot_of_service turns o) it.0
+    pub closed_owner : (k : ℕ) → owner_of old.windows off ≡ Some (k, zero) → (bursts_of old.bursts k).under_way ≡ 0
+    closed_owner k e =
+        let own = owner_is part.plan accepted off k zero (ap (λ ws. owner_of ws off) (sym at.windows) ∙ e) in
+        closed_there part accepted fits slot k own.0 own.1 old.bursts (at.bursts k) own.2
 
-  -- a slot that is none's
-  pub idle_taken : (serving : Serving) (bytes : List ℕ) → early_here ≡ false → AreAt services turns serving → turn_of serving ≡ None → bytes ≡ null_packet → Steps None serving bytes
-  idle_taken serving bytes late at none bytes_are = record {
-    bytes_are = bytes_are ∙ sym (ap (λ (s : Slot). packet_in part (slot / part.plan.cycle) s) carried);
-    after = subst (λ (t : Turns). AreAt services t serving)
-        (sym (ap (turns_in part) (add-one slot) ∙ turns_served kept (packet_counts services) slot (kept_late late) ∙ ap (λ (o : Option ℕ). served turns o) no_next)) at;
-    of_service = λ e. ap is_of_service carried;
-  }
-    where
-      no_next : next_service (packet_counts services) turns ≡ None
-      no_next = sym (same_turn services turns (within_at kept (packet_counts services) slot) serving at) ∙ none
+    length-opened : (o : Option (ℕ × ℕ)) → length (opened_by o old.bursts) ≡ length old.bursts
+    length-opened None = refl
+    length-opened (Some (j, zero)) = length-set old.bursts j _
+    length-opened (Some (j, suc n)) = refl
 
-      carried : slot_in part slot ≡ empty
-      carried = ap (λ (o : Option Slot). unwrap_or o (slot_of_service turns (next_service (packet_counts services) turns))) (kept_late late) ∙ ap (λ (o : Option ℕ). slot_of_service turns o) no_next
+    opened_is : opened_by (owner_of old.windows off) old.bursts ≡ opened_by (owner_of (windows_of part.plan) off) old.bursts
+    opened_is = ap (λ ws. opened_by (owner_of ws off) old.bursts) at.windows
+
+    module _ (late : early_here ≡ false) where
+      abbrev mid : Serving
+      mid = with_opened off old
+
+      rests_so : burst_of off mid ≡ None → Rests part accepted fits slot late old.bursts at.count at.bursts
+      rests_so none = rests_there part accepted fits slot late old.bursts at.count at.bursts
+          (sym (ap (λ ws. burst_of off (record old { windows = ws; bursts = opened_by (owner_of ws off) old.bursts })) at.windows) ∙ none)
+
+      -- a slot of the service whose turn it is
+      pub late_taken : burst_of off mid ≡ None → (new : Serving) (bytes : List ℕ) → TakesTurn mid new bytes → Steps new bytes
+      late_taken none new bytes took = record {
+        bytes_are = it.2 ∙ ap (λ (ps : List PacketFields). written (packet_at ps (slice_index turns.sent took.service))) (all_in_rotation part took.service some)
+            ∙ sym (ap (packet_in part (slot / part.plan.cycle)) (carries_turn rests.kept ∙ ap (λ (o : Option ℕ). slot_of_service turns o) next));
+        after = record {
+          turns = subst (λ (t : Turns). AreAt services t new) (sym (turns_go_on rests.kept ∙ ap (λ (o : Option ℕ). served turns o) next)) it.1;
+          bursts = λ k. ap (λ (s : Serving). bursts_of s.bursts k) took.after ∙ ap (λ (bs : List Bursts). bursts_of bs k) opened_is ∙ rests.after k;
+          count = ap (λ (s : Serving). length s.bursts) took.after ∙ length-opened (owner_of old.windows off) ∙ at.count;
+          sliced = ap (λ (s : Serving). s.sliced) took.after ∙ at.sliced;
+          windows = ap (λ (s : Serving). s.windows) took.after ∙ at.windows;
+        };
+      }
+        where
+          rests : Rests part accepted fits slot late old.bursts at.count at.bursts
+          rests = rests_so none
+
+          at_mid : AreAt services turns mid
+          at_mid = record { packets = at.turns.packets; first = at.turns.first }
+
+          it : (next_service (packet_counts services) turns ≡ Some took.service) × AreAt services (served turns (Some took.service)) new
+              × (bytes ≡ written (packet_at (slice_index_or services took.service []) (slice_index turns.sent took.service)))
+          it = turn_served services turns within_here mid at_mid new bytes took
+
+          next : next_service counts turns ≡ Some took.service
+          next = ap (λ (ns : List ℕ). next_service ns turns) (sym (counts_are part)) ∙ it.0
+
+          some : 0 < length (slice_index_or services took.service [])
+          some = omega (arith, (has_turn (packet_counts services) turns took.service within_here.first it.0).0, count_of services took.service)
+
+      -- a slot that is none's
+      pub idle_taken : burst_of off mid ≡ None → (bytes : List ℕ) → turn_of mid ≡ None → bytes ≡ null_packet → Steps mid bytes
+      idle_taken none bytes no_turn bytes_are = record {
+        bytes_are = bytes_are ∙ sym (ap (packet_in part (slot / part.plan.cycle)) (carries_turn rests.kept ∙ ap (λ (o : Option ℕ). slot_of_service turns o) next));
+        after = record {
+          turns = subst (λ (t : Turns). AreAt services t mid) (sym (turns_go_on rests.kept ∙ ap (λ (o : Option ℕ). served turns o) next)) at_mid;
+          bursts = λ k. ap (λ (bs : List Bursts). bursts_of bs k) opened_is ∙ rests.after k;
+          count = length-opened (owner_of old.windows off) ∙ at.count;
+          sliced = at.sliced;
+          windows = at.windows;
+        };
+      }
+        where
+          rests : Rests part accepted fits slot late old.bursts at.count at.bursts
+          rests = rests_so none
+
+          at_mid : AreAt services turns mid
+          at_mid = record { packets = at.turns.packets; first = at.turns.first }
+
+          next : next_service counts turns ≡ None
+          next = sym (turn_is mid at_mid) ∙ no_turn
+
+      -- a slot of a burst
+      pub burst_taken : (k : ℕ) → burst_of off mid ≡ Some k → (new : Serving) (bytes : List ℕ) → GivesBurst mid new k bytes → Steps new bytes
+      burst_taken k is new bytes gave = record {
+        bytes_are = gave.bytes_are ∙ ap written (sym gives.packet_is) ∙ sym (ap (packet_in part (slot / part.plan.cycle)) (carries_kept (of_service k gives.number) gives.kept));
+        after = record {
+          turns = subst (λ (t : Turns). AreAt services t new) (sym (turns_stay (of_service k gives.number) gives.kept))
+              (record { packets = ap (λ (s : Serving). s.turns) gave.after ∙ at.turns.packets; first = ap (λ (s : Serving). s.first) gave.after ∙ at.turns.first });
+          bursts = λ i. ap (λ (s : Serving). bursts_of s.bursts i) gave.after
+              ∙ ap (λ (bs : List Bursts). bursts_of (set bs k (record { packets = gave.rest; under_way = gave.under_way; sizes = (bursts_of bs k).sizes })) i) opened_is
+              ∙ gives.after_is i;
+          count = ap (λ (s : Serving). length s.bursts) gave.after ∙ length-set mid.bursts k _ ∙ length-opened (owner_of old.windows off) ∙ at.count;
+          sliced = ap (λ (s : Serving). s.sliced) gave.after ∙ at.sliced;
+          windows = ap (λ (s : Serving). s.windows) gave.after ∙ at.windows;
+        };
+      }
+        where
+          gives : Gives part accepted fits slot late old.bursts at.count at.bursts k gave.packet
+              (set (opened_by (owner_of (windows_of part.plan) off) old.bursts) k
+              (record { packets = gave.rest; under_way = gave.under_way; sizes = (bursts_of (opened_by (owner_of (windows_of part.plan) off) old.bursts) k).sizes }))
+          gives = gives_there part accepted fits slot late old.bursts at.count at.bursts k
+              (sym (ap (λ ws. burst_of off (record old { windows = ws; bursts = opened_by (owner_of ws off) old.bursts })) at.windows) ∙ is)
+              gave.packet gave.rest gave.under_way
+              (ap (λ (bs : List Bursts). (bursts_of bs k).packets) (sym opened_is) ∙ gave.next)
+              (ap (λ (bs : List Bursts). (bursts_of bs k).under_way) (sym opened_is) ∙ gave.left)
 
 -- the services and the INT stand before the next slot
-pub slot_taken : (plan : PlanFields) (part : PartFields) (slot of_stream : ℕ) (turn : Option ℕ) (old new : Serving) (table after : IntPackets) (bytes : List ℕ)
-    → StandBefore plan part slot of_stream old table → IsTableAt part (slot + 1) after → Steps part slot turn new bytes → TakesSlot plan part slot of_stream turn new after bytes
-slot_taken plan part slot of_stream turn old new table after bytes stand at steps = record {
-  bytes_are = steps.bytes_are;
-  after = record { of_plan = stand.of_plan; place = omega (arith, stand.place); table = at; services = steps.after };
-  of_service = steps.of_service;
+pub slot_taken : (plan : PlanFields) (part : PartFields) (slot of_stream : ℕ) (old new : Serving) (table after : IntPackets) (bytes : List ℕ)
+    → StandBefore plan part slot of_stream old table → IsTableAt part (slot + 1) after
+    → (bytes ≡ packet_in part (slot / part.plan.cycle) (slot_in part slot)) → ServicesAt part (slot + 1) new → TakesSlot plan part slot of_stream new after bytes
+slot_taken plan part slot of_stream old new table after bytes stand at bytes_are services = record {
+  bytes_are = bytes_are;
+  after = record { of_plan = stand.of_plan; place = omega (arith, stand.place); table = at; services = services };
 }
-
--- how many packets are left
-pub left_early : (n : ℕ) (early some : Bool) → early ≡ true → n ≡ n + (if not early && some then 1 else 0)
-left_early n true some e = omega arith
-left_early n false some e = absurd (cc)
-
-pub left_late : (old new : ℕ) (early : Bool) (turn : Option ℕ) (k : ℕ) → early ≡ false → turn ≡ Some k → old ≡ new + 1 → old ≡ new + (if not early && is_some turn then 1 else 0)
-left_late old new true turn k e is left = absurd (cc)
-left_late old new false None k e is left = absurd (cc)
-left_late old new false (Some j) k e is left = left
-
-pub left_idle : (n : ℕ) (early : Bool) (turn : Option ℕ) → turn ≡ None → n ≡ n + (if not early && is_some turn then 1 else 0)
-left_idle n early (Some k) e = absurd (cc)
-left_idle n true None e = omega arith
-left_idle n false None e = omega arith
 
 -- a slot of the stream that is none of the INT's is none in its part, and leaves the INT as it is
 module _ (plan : PlanFields) (whole : is_whole_plan plan ≡ true) (part : PartFields) (slot of_stream : ℕ) (serving : Serving) (table : IntPackets)

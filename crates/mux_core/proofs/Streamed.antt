@@ -1,5 +1,5 @@
 -- What was offered under a plan, as lists by version and service.
-use Rattle.std.proofs.Common.{◌≡◌, ℕ, zero, suc, ◌+◌, ◌%◌, ◌^◌, ◌<◌, ◌≤◌, true, false, ltb, List, [], ◌∷◌, length, drop, get_or, refl, sym, ap, ◌∙◌, arith, subst, Option, Some, None}
+use Rattle.std.proofs.Common.{◌≡◌, ℕ, zero, suc, ◌+◌, ◌%◌, ◌^◌, ◌<◌, ◌≤◌, true, false, ltb, List, [], ◌∷◌, length, drop, get_or, refl, sym, ap, ap₂, ◌∙◌, ◌||◌, Bool, ◌-◌, arith, subst, Option, Some, None}
 use Rattle.std.specs.Prelude.{All, slice_get, slice_index_or, sum_by}
 use Rattle.std.proofs.lemmas.List.{length-map}
 use Rattle.std.proofs.lemmas.List.FromFn.{length-map-range_with_len, get_or-map-range_with_len}
@@ -16,8 +16,9 @@ use Rattle.plan.specs.Parts.{service_seen}
 use Rattle.plan.specs.PlanView.{plan_fields}
 use Rattle.plan.specs.declared.plan.Plan.{Plan}
 use Rattle.stream_spec.specs.Services.{kind_at}
-use Rattle.stream_spec.specs.Units.{frame_count}
-use Rattle.stream_spec.specs.Stream.{frame_count_in, frame_count_before, part_of}
+use Rattle.std.specs.List.{list_any, range_with_len}
+use Rattle.stream_spec.specs.Units.{FrameSchedule, frame_count}
+use Rattle.stream_spec.specs.Stream.{earlier, frame_count_in, frame_count_before, has_frames, has_frames_after, schedule_of, part_of}
 use Rattle.stream_law.proofs.Ranges.{sum_same}
 use Rattle.stream_law.proofs.Kept.{part_kept}
 use Rattle.datagram_routing.specs.Offering.{lists_in, IsOffered}
@@ -53,7 +54,7 @@ version_most (services ∷ lists) zero = omega (arith, sum_by-cons (λ (ss : Lis
 version_most (services ∷ lists) (suc i) = omega (arith, sum_by-cons (λ (ss : List (List (List ℕ))). count_of ss) services lists, version_most lists i)
 
 -- one list has no more than all of a version
-list_most : (lists : List (List (List ℕ))) (k : ℕ) (list : List (List ℕ)) → slice_get lists k ≡ Some list → length list ≤ count_of lists
+pub list_most : (lists : List (List (List ℕ))) (k : ℕ) (list : List (List ℕ)) → slice_get lists k ≡ Some list → length list ≤ count_of lists
 list_most [] k list found = absurd (cc)
 list_most (first ∷ lists) zero list found =
     let same : first ≡ list = cc in omega (arith, sum_by-cons (λ (l : List (List ℕ)). length l) first lists, ap (λ (l : List (List ℕ)). length l) same)
@@ -101,14 +102,39 @@ module _ (plan : PlanFields) (datagrams : ℕ → ℕ → List (List ℕ)) (list
       item_is (y ∷ xs) zero x e = cc
       item_is (y ∷ xs) (suc i) x e = item_is xs i x e
 
-  pub has_lists : (slots : ℕ → ℕ) (version : ℕ) (counters : ℕ → ℕ) → version ≤ length plan.changes
+  list_is : (version k : ℕ) → version ≤ length plan.changes → k < length plan.services → listed lists version k ≡ datagrams version k
+  list_is version k within known = found_is (get_or lists version []) k (datagrams version k) (are.each version k within known)
+    where
+      found_is : (xs : List (List (List ℕ))) (i : ℕ) (x : List (List ℕ)) → slice_get xs i ≡ Some x → get_or xs i [] ≡ x
+      found_is [] i x e = absurd (cc)
+      found_is (y ∷ xs) zero x e = cc
+      found_is (y ∷ xs) (suc i) x e = found_is xs i x e
+
+  -- and so are those after it
+  goes_same : (version k : ℕ) → version ≤ length plan.changes → k < length plan.services → has_frames_after plan (listed lists) k version ≡ has_frames_after plan datagrams k version
+  goes_same version k within known = any_same (version + 1) (length plan.changes - version) (omega (arith, within))
+    where
+      any_same : (start n : ℕ) → start + n ≤ length plan.changes + 1 → list_any (has_frames plan (listed lists) k) (range_with_len start n) ≡ list_any (has_frames plan datagrams k) (range_with_len start n)
+      any_same start zero le = refl
+      any_same start (suc n) le =
+          ap₂ (λ (a b : Bool). a || b)
+          (ap (λ (ds : List (List ℕ)). ltb 0 (frame_count (service_in plan start k).kind ds)) (list_is start k (omega (arith, le)) known))
+          (any_same (start + 1) n (omega (arith, le)))
+
+  schedules_same : (before version k : ℕ) → version ≤ length plan.changes → k < length plan.services → schedule_of plan datagrams before k version ≡ schedule_of plan (listed lists) before k version
+  schedules_same before version k within known =
+      ap₂ (λ (first : ℕ) (goes : Bool). let s : FrameSchedule = record { first = first; form = plan.recording; rate = plan.packet_rate; cycle = plan.cycle; slots_before = before; goes_on = goes } in s)
+      (sym (numbers_same version k within known)) (sym (goes_same version k within known))
+
+  pub has_lists : (slots : ℕ → ℕ) (version before : ℕ) (counters : ℕ → ℕ) → version ≤ length plan.changes → before ≡ sum_by slots (earlier version)
       → ((k : ℕ) → k < length plan.services → counters k ≡ (part_of plan datagrams slots version).packets_before k % 16)
-      → HasLists plan version (get_or lists version []) counters (frames_before plan lists version) (part_of plan datagrams slots version)
-  has_lists slots version counters within counted = record {
+      → HasLists plan version lists counters before (part_of plan datagrams slots version)
+  has_lists slots version before counters within before_is counted = record {
     plan_is = refl;
     datagrams = λ k known. are.each version k within known;
     counters_are = counted;
-    numbers_are = λ k known. numbers_same version k within known;
+    schedules_are = λ k known.
+        schedules_same (sum_by slots (earlier version)) version k within known ∙ ap (λ (n : ℕ). schedule_of plan (listed lists) n k version) (sym before_is);
   }
 
   pub is_last_of : (last : ℕ) → last < length lists → ((version : ℕ) → last < version → version < length lists → sum_by (λ (list : List (List ℕ)). length list) (get_or lists version []) ≡ 0)

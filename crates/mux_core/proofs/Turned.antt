@@ -1,16 +1,17 @@
 -- Services in rotation: which has its turn, and what it leaves.
-use Rattle.std.proofs.Common.{◌≡◌, ℕ, zero, suc, ◌+◌, ◌-◌, ◌*◌, ◌^◌, ◌<◌, ◌≤◌, Bool, true, false, cond, ltb, List, [], ◌∷◌, length, map, get_or, set, refl, sym, ap, ◌∙◌, arith, Option, Some, None, subst}
-use Rattle.std.specs.Prelude.{All, find, slice_index, slice_index_or, is_some, IsSome}
+use Rattle.std.proofs.Common.{◌≡◌, ℕ, zero, suc, ◌+◌, ◌-◌, ◌<◌, ◌≤◌, Bool, true, false, cond, ltb, List, [], ◌∷◌, length, map, get_or, refl, sym, ap, ◌∙◌, arith, Option, Some, None, subst}
+use Rattle.std.specs.Prelude.{find, slice_index, slice_index_or, is_some, IsSome}
 use Rattle.std.specs.List.{range_with_len}
 use Rattle.std.specs.Option.{option_or}
-use Rattle.std.proofs.lemmas.List.{length-map, map-set}
+use Rattle.std.proofs.lemmas.List.{length-map}
 use Rattle.std.proofs.lemmas.List.Folds.{find-append}
 use Rattle.ts_spec.specs.Packet.{PacketFields}
+use Rattle.slice_spec.specs.Windows.{OwnedWindow}
 use Rattle.stream_spec.specs.Slots.{asked, Turns}
-use Rattle.stream_spec.specs.Parts.{packet_counts, written}
+use Rattle.stream_spec.specs.Parts.{packet_counts}
 use Rattle.stream_law.proofs.Next.{has_turn, none_has_turn}
-use Rattle.stream_law.proofs.OnPid.{count_of}
-use Rattle.mux_core.specs.Services.{packets_in, behind_in, packet_total, has_packets, Serving, turn_of, TakesTurn}
+use Rattle.stream_law.proofs.Carrying.{count_of}
+use Rattle.mux_core.specs.Services.{turns_in_service, packet_total, has_packets, Serving, serving_of, turn_of}
 use Rattle.mux_core.specs.declared.service_packets.ServicePackets.{ServicePackets}
 
 -- the first of some numbers is asked
@@ -25,14 +26,14 @@ find_here p k to less is =
     ap (λ (n : ℕ). find p (range_with_len k n)) size ∙ ap (λ (b : Bool). cond b (Some k) (find p (range_with_len (k + 1) (to - (k + 1))))) is
 
 -- the packets of the service at a place
-pub service_at : (services : List ServicePackets) (k : ℕ) (service : ServicePackets) → k < length services → service ≡ get_or services k service → slice_index_or (map packets_in services) k [] ≡ packets_in service
+pub service_at : (services : List ServicePackets) (k : ℕ) (service : ServicePackets) → k < length services → service ≡ get_or services k service → slice_index_or (map turns_in_service services) k [] ≡ turns_in_service service
 service_at [] k service less is = absurd (omega (arith, less))
-service_at (first ∷ services) zero service less is = ap packets_in (sym is)
+service_at (first ∷ services) zero service less is = ap turns_in_service (sym is)
 service_at (first ∷ services) (suc k) service less is = service_at services k service (omega (arith, less)) is
 
-pub has_there : (services : List ServicePackets) (k : ℕ) (service : ServicePackets) → k < length services → service ≡ get_or services k service → has_packets (map packets_in services) k ≡ ltb 0 (length (packets_in service))
+pub has_there : (services : List ServicePackets) (k : ℕ) (service : ServicePackets) → k < length services → service ≡ get_or services k service → has_packets (map turns_in_service services) k ≡ ltb 0 (length (turns_in_service service))
 has_there services k service less is =
-    ap (λ (n : ℕ). ltb 0 n) (count_of (map packets_in services) k ∙ ap (λ (ps : List PacketFields). length ps) (service_at services k service less is))
+    ap (λ (n : ℕ). ltb 0 n) (count_of (map turns_in_service services) k ∙ ap (λ (ps : List PacketFields). length ps) (service_at services k service less is))
 
 -- one service has no more packets than all
 pub total_at : (services : List (List PacketFields)) (k : ℕ) → length (slice_index_or services k []) ≤ packet_total services
@@ -76,28 +77,28 @@ module _ (services : List (List PacketFields)) (first : ℕ) (le : first ≤ len
       by_turn None e = absurd (omega (arith, some, none_left services (λ k less. none_has_turn counts as_turns k sized e less)))
 
 -- whose turn it is, of services whose first and whose others were looked through
-pub turn_two : (items seen : List ServicePackets) (first count : ℕ) (found rest : Option ℕ) → seen ≡ items → count ≡ length items → first ≤ length items
-    → found ≡ find (has_packets (map packets_in seen)) (range_with_len first (count - first))
-    → rest ≡ find (has_packets (map packets_in items)) (range_with_len 0 first)
-    → turn_of (record { packets = map packets_in items; behind = map behind_in items; first = first }) ≡ option_or found rest
-turn_two items seen first count found rest same size le found_is rest_is =
-    asked_in_two (map packets_in items) first (omega (arith, le, length-map items packets_in))
-    ∙ ap (λ (n : ℕ). option_or (find (has_packets (map packets_in items)) (range_with_len first (n - first))) (find (has_packets (map packets_in items)) (range_with_len 0 first)))
-    (length-map items packets_in ∙ sym size)
-    ∙ ap (λ (o : Option ℕ). option_or o (find (has_packets (map packets_in items)) (range_with_len 0 first)))
-    (ap (λ (ls : List ServicePackets). find (has_packets (map packets_in ls)) (range_with_len first (count - first))) (sym same) ∙ sym found_is)
+pub turn_two : (items seen : List ServicePackets) (windows : List OwnedWindow) (first count : ℕ) (found rest : Option ℕ) → seen ≡ items → count ≡ length items → first ≤ length items
+    → found ≡ find (has_packets (map turns_in_service seen)) (range_with_len first (count - first))
+    → rest ≡ find (has_packets (map turns_in_service items)) (range_with_len 0 first)
+    → turn_of (serving_of items windows first) ≡ option_or found rest
+turn_two items seen windows first count found rest same size le found_is rest_is =
+    asked_in_two (map turns_in_service items) first (omega (arith, le, length-map items turns_in_service))
+    ∙ ap (λ (n : ℕ). option_or (find (has_packets (map turns_in_service items)) (range_with_len first (n - first))) (find (has_packets (map turns_in_service items)) (range_with_len 0 first)))
+    (length-map items turns_in_service ∙ sym size)
+    ∙ ap (λ (o : Option ℕ). option_or o (find (has_packets (map turns_in_service items)) (range_with_len 0 first)))
+    (ap (λ (ls : List ServicePackets). find (has_packets (map turns_in_service ls)) (range_with_len first (count - first))) (sym same) ∙ sym found_is)
     ∙ ap (λ (o : Option ℕ). option_or found o) (sym rest_is)
 
 -- what is known of the turn
 pub record IsTurn (serving : Serving) (turn : Option ℕ) : Type 0 where
   pub read : turn ≡ turn_of serving
-  pub left : ltb 0 (packet_total serving.packets) ≡ is_some turn
+  pub left : ltb 0 (packet_total serving.turns) ≡ is_some turn
 
-pub is_turn : (serving : Serving) (turn : Option ℕ) → serving.first ≤ length serving.packets → turn_of serving ≡ turn → IsTurn serving turn
+pub is_turn : (serving : Serving) (turn : Option ℕ) → serving.first ≤ length serving.turns → turn_of serving ≡ turn → IsTurn serving turn
 is_turn serving turn le e = record { read = sym e; left = by_turn turn e }
   where
     total : ℕ
-    total = packet_total serving.packets
+    total = packet_total serving.turns
 
     some_so : (n : ℕ) → 0 < n → ltb 0 n ≡ true
     some_so n less = grind (arith, less)
@@ -106,7 +107,7 @@ is_turn serving turn le e = record { read = sym e; left = by_turn turn e }
     so_some n e2 = grind (arith, e2)
 
     by_turn : (o : Option ℕ) → turn_of serving ≡ o → ltb 0 total ≡ is_some o
-    by_turn (Some k) e2 = some_so total (omega (arith, (found_has serving.packets serving.first le k e2).1, total_at serving.packets k))
+    by_turn (Some k) e2 = some_so total (omega (arith, (found_has serving.turns serving.first le k e2).1, total_at serving.turns k))
     by_turn None e2 = by_left (ltb 0 total) refl
       where
         nothing : Option ℕ
@@ -117,60 +118,8 @@ is_turn serving turn le e = record { read = sym e; left = by_turn turn e }
 
         by_left : (left : Bool) → ltb 0 total ≡ left → left ≡ false
         by_left false e3 = refl
-        by_left true e3 = absurd (none_found (subst (λ (o : Option ℕ). IsSome o) e2 (some_asked serving.packets serving.first le (so_some total e3))))
+        by_left true e3 = absurd (none_found (subst (λ (o : Option ℕ). IsSome o) e2 (some_asked serving.turns serving.first le (so_some total e3))))
 
 -- the service whose turn it is has packets left
-pub turn_has : (serving : Serving) (turn : ℕ) → serving.first ≤ length serving.packets → turn_of serving ≡ Some turn → (turn < length serving.packets) × (0 < length (slice_index_or serving.packets turn []))
-turn_has serving turn le e = found_has serving.packets serving.first le turn e
-
--- the packets of so many services
-pub total_most : (services : List ServicePackets) → All (λ (service : ServicePackets). length (packets_in service) ≤ 2 ^ 48) services → packet_total (map packets_in services) ≤ 2 ^ 48 * length services
-total_most [] each = omega arith
-total_most (service ∷ services) each = omega (arith, each 0 service (omega arith), total_most services (λ k d less. each (suc k) d (omega (arith, less))))
-
--- one packet less is left
-pub total_set : (services : List (List PacketFields)) (k : ℕ) (packet : PacketFields) (rest : List PacketFields) → k < length services → slice_index_or services k [] ≡ packet ∷ rest
-    → packet_total services ≡ packet_total (set services k rest) + 1
-total_set [] k packet rest less is = absurd (omega (arith, less))
-total_set (packets ∷ services) zero packet rest less is = omega (arith, ap (λ (ps : List PacketFields). length ps) is)
-total_set (packets ∷ services) (suc k) packet rest less is = omega (arith, total_set services k packet rest (omega (arith, less)) is)
-
--- the counters behind all packets stay
-behind_kept : (items : List ServicePackets) (k : ℕ) (old new : ServicePackets) → k < length items → old ≡ get_or items k old → behind_in new ≡ behind_in old
-    → map behind_in (set items k new) ≡ map behind_in items
-behind_kept [] k old new less is same = absurd (omega (arith, less))
-behind_kept (first ∷ items) zero old new less is same = ap (λ (n : ℕ). n ∷ map behind_in items) (same ∙ ap behind_in is)
-behind_kept (first ∷ items) (suc k) old new less is same = ap (λ (ns : List ℕ). behind_in first ∷ ns) (behind_kept items k old new (omega (arith, less)) is same)
-
--- the service whose turn it is gave a packet
-pub turn_taken : (items : List ServicePackets) (first k : ℕ) (old new : ServicePackets) (now : Serving) (packet : PacketFields) (into : List ℕ)
-    → let serving : Serving = record { packets = map packets_in items; behind = map behind_in items; first = first } in serving ≡ now
-    → k < length items → turn_of now ≡ Some k → old ≡ get_or items k old → packets_in old ≡ packet ∷ packets_in new → into ≡ written packet → behind_in new ≡ behind_in old
-    → let behind : Serving = record { packets = map packets_in (set items k new); behind = map behind_in (set items k new); first = k + 1 } in
-    TakesTurn now behind into × (packet_total now.packets ≡ packet_total (map packets_in (set items k new)) + 1)
-turn_taken items first k old new now packet into is less turn old_is took into_is behind_is = (
-  record {
-    service = k;
-    turn = turn;
-    packet = packet;
-    rest = packets_in new;
-    next = there;
-    packets = set_is;
-    behind = behind_kept items k old new less old_is behind_is ∙ ap (λ (s : Serving). s.behind) is;
-    first = refl;
-    bytes_are = into_is;
-  },
-  total_set now.packets k packet (packets_in new) within there ∙ ap (λ (ps : List (List PacketFields)). packet_total ps + 1) (sym set_is),
-)
-  where
-    same : map packets_in items ≡ now.packets
-    same = ap (λ (s : Serving). s.packets) is
-
-    within : k < length now.packets
-    within = omega (arith, less, ap (λ (ps : List (List PacketFields)). length ps) same, length-map items packets_in)
-
-    there : slice_index_or now.packets k [] ≡ packet ∷ packets_in new
-    there = ap (λ (ps : List (List PacketFields)). slice_index_or ps k []) (sym same) ∙ service_at items k old less old_is ∙ took
-
-    set_is : map packets_in (set items k new) ≡ set now.packets k (packets_in new)
-    set_is = map-set packets_in items k new ∙ ap (λ (ps : List (List PacketFields)). set ps k (packets_in new)) same
+pub turn_has : (serving : Serving) (turn : ℕ) → serving.first ≤ length serving.turns → turn_of serving ≡ Some turn → (turn < length serving.turns) × (0 < length (slice_index_or serving.turns turn []))
+turn_has serving turn le e = found_has serving.turns serving.first le turn e

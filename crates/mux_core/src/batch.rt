@@ -31,12 +31,12 @@ impl Model for Batch {
 }
 
 impl Batch {
-    ghost use Rattle.std.specs.Prelude.{◌≡◌, ◌≤◌, ◌<◌, ◌+◌, ◌&&◌, not, is_some, ℕ, [], length, take, IfOk, OnOk, if◌then◌else◌};
+    ghost use Rattle.std.specs.Prelude.{◌≡◌, ◌≤◌, ◌<◌, ◌+◌, ℕ, [], length, take, IfOk, OnOk};
     ghost use Rattle.wire_spec.specs.Causes.{HasCause};
     ghost use Rattle.wire_spec.specs.Content.{Puts, Stays};
     ghost use Rattle.plan.specs.PlanView.{plan_fields};
     ghost use Rattle.stream_spec.specs.Parts.{PartFields};
-    ghost use Rattle.mux_core.specs.Services.{packet_total, turn_of};
+    ghost use Rattle.mux_core.specs.Services.{turn_of};
     ghost use Rattle.mux_core.specs.Slots.{is_early, StandBefore, StandInPart, AddsRecord, Hands};
 
     /// Takes memory for the records; there are none yet.
@@ -60,9 +60,7 @@ impl Batch {
         requires stand { StandInPart (plan_fields plan.now) slot services.old table.old }
         requires turn { turn_of services.old ≡ turn }
         ensures added { (part : PartFields) (place : ℕ) → StandBefore (plan_fields plan.now) part place slot services.old table.old
-            → AddsRecord (plan_fields plan.now) part place slot turn services.new table.new self.old self.new }
-        ensures left { packet_total services.old.packets
-            ≡ packet_total services.new.packets + (if not (is_early plan.now.cycle table.old.count slot) && is_some turn then 1 else 0) }
+            → AddsRecord (plan_fields plan.now) part place slot services.new table.new self.old self.new }
         ensures kept { (table.new.count ≡ table.old.count) × (services.new.behind ≡ services.old.behind) }
     {
         let into = &mut self.buffer[self.fill..];

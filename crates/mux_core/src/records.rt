@@ -1,8 +1,8 @@
-//! A slot -> its record: the time stamp, and the packet of the INT or of the service whose turn it is.
-ghost use Rattle.std.specs.Prelude.{◌≡◌, ◌≤◌, ◌+◌, ◌&&◌, not, is_some, ℕ, length, take, drop, if◌then◌else◌};
+//! A slot -> its record: the time stamp, and the packet of the INT, of a burst, or of the service whose turn it is.
+ghost use Rattle.std.specs.Prelude.{◌≡◌, ◌≤◌, ◌+◌, ℕ, length, take, drop};
 ghost use Rattle.plan.specs.PlanView.{plan_fields};
 ghost use Rattle.stream_spec.specs.Parts.{PartFields};
-ghost use Rattle.mux_core.specs.Services.{packet_total, turn_of};
+ghost use Rattle.mux_core.specs.Services.{turn_of};
 ghost use Rattle.mux_core.specs.Slots.{is_early, StandBefore, StandInPart, TakesSlot, WritesRecord};
 
 use crate::int_packets::IntPackets;
@@ -24,8 +24,8 @@ fn is_of_table(plan: &Plan, table: &IntPackets, slot: u64) -> bool
     table.count() > 0 && slot % u64::from(plan.cycle) < table.count()
 }
 
-/// Writes the packet of a slot: that of the INT in the first slots of a cycle, otherwise that of the service whose turn it is, and a
-/// null packet where it is none's.
+/// Writes the packet of a slot: that of the INT in the first slots of a cycle, that of a burst in the window of its service, otherwise that
+/// of the service whose turn it is, and a null packet where it is none's.
 fn packet_for_slot(
     plan: &Plan,
     services: &mut Services<'_>,
@@ -37,14 +37,16 @@ fn packet_for_slot(
     requires stand { StandInPart (plan_fields plan.now) slot services.old table.old }
     requires turn { turn_of services.old ≡ turn }
     ensures taken { (part : PartFields) (place : ℕ) → StandBefore (plan_fields plan.now) part place slot services.old table.old
-        → TakesSlot (plan_fields plan.now) part place slot turn services.new table.new into.new }
+        → TakesSlot (plan_fields plan.now) part place slot services.new table.new into.new }
     ensures size { length into.new ≡ 188 }
-    ensures left { packet_total services.old.packets
-        ≡ packet_total services.new.packets + (if not (is_early plan.now.cycle table.old.count slot) && is_some turn then 1 else 0) }
     ensures kept { (table.new.count ≡ table.old.count) × (services.new.behind ≡ services.old.behind) }
 {
     if is_of_table(plan, table, slot) {
         table.next(plan, slot, into);
+        return;
+    }
+    if let Some(k) = services.burst(plan.cycle, slot) {
+        services.give(k, into);
         return;
     }
     match turn {
@@ -66,11 +68,9 @@ fn put_packet(
     requires stand { StandInPart (plan_fields plan.now) slot services.old table.old }
     requires turn { turn_of services.old ≡ turn }
     ensures taken { (part : PartFields) (place : ℕ) → StandBefore (plan_fields plan.now) part place slot services.old table.old
-        → TakesSlot (plan_fields plan.now) part place slot turn services.new table.new (take 188 into.new) }
+        → TakesSlot (plan_fields plan.now) part place slot services.new table.new (take 188 into.new) }
     ensures after { drop 188 into.new ≡ drop 188 into.old }
     ensures size { length into.new ≡ length into.old }
-    ensures left { packet_total services.old.packets
-        ≡ packet_total services.new.packets + (if not (is_early plan.now.cycle table.old.count slot) && is_some turn then 1 else 0) }
     ensures kept { (table.new.count ≡ table.old.count) × (services.new.behind ≡ services.old.behind) }
 {
     let Some(packet) = into.first_chunk_mut::<PACKET>() else {
@@ -95,10 +95,8 @@ pub(crate) fn write_record(
     requires stand { StandInPart (plan_fields plan.now) slot services.old table.old }
     requires turn { turn_of services.old ≡ turn }
     ensures written { (part : PartFields) (place : ℕ) → StandBefore (plan_fields plan.now) part place slot services.old table.old
-        → WritesRecord (plan_fields plan.now) part place slot turn services.new table.new into.old into.new result }
+        → WritesRecord (plan_fields plan.now) part place slot services.new table.new into.old into.new result }
     ensures most { result ≤ 196 }
-    ensures left { packet_total services.old.packets
-        ≡ packet_total services.new.packets + (if not (is_early plan.now.cycle table.old.count slot) && is_some turn then 1 else 0) }
     ensures kept { (table.new.count ≡ table.old.count) × (services.new.behind ≡ services.old.behind) }
 {
     let stamp = write_stamp(plan.recording, plan.packet_rate, slot, into);

@@ -7,7 +7,7 @@ ghost use Rattle.plan.specs.PlanView.{plan_fields};
 ghost use Rattle.datagram_routing.specs.Offering.{IsOffered};
 ghost use Rattle.wire_spec.specs.Causes.{HasCause};
 ghost use Rattle.stream_spec.specs.Parts.{PartFields};
-ghost use Rattle.mux_core.specs.Services.{packet_total, AreTaken, HasLists, Begins, frames_before};
+ghost use Rattle.mux_core.specs.Services.{packet_total, AreTaken, HasLists, Begins};
 ghost use Rattle.mux_core.specs.PartUnits.{MadeUnits};
 ghost use Rattle.mux_core.specs.Sending.{IsUnderPlan, WritesStream, WritesRecords, AreUnits, AreDatagrams, datagram_count};
 ghost use Rattle.plan_spec.specs.Built.{are_sent};
@@ -126,8 +126,8 @@ fn put_parts<'a, K: Sink>(
 ) -> Result<u64, Failed>
     requires built { are_sent (plan_fields plan.now) ≡ true }
     requires units { AreUnits (plan_fields plan.now) lists.now units.now }
-    requires begun { (part : PartFields) → HasLists (plan_fields plan.now) 0 (get_or lists.now 0 []) (λ k. 0) (frames_before (plan_fields plan.now) lists.now 0) part → Begins part services.old }
-    requires total { packet_total services.old.packets ≤ 2 ^ 54 }
+    requires begun { (part : PartFields) → HasLists (plan_fields plan.now) 0 lists.now (λ k. 0) 0 part → Begins part services.old }
+    requires total { packet_total services.old.turns ≤ 2 ^ 54 }
     requires few { datagram_count lists.now < 2 ^ 32 }
     requires empty { batch.old ≡ [] }
     ensures written { (datagrams : ℕ → ℕ → List (List ℕ)) → AreDatagrams (plan_fields plan.now) datagrams lists.now
@@ -140,7 +140,7 @@ fn put_parts<'a, K: Sink>(
     let mut slot = put_slots(plan, services, &mut table, batch, 0, last > 0, sink)?;
     for version in 1..last + 1 {
         let part = &units[usize::from(version)];
-        services.begin(plan, version, lists, part);
+        services.begin(plan, version, lists, part, slot);
         table = IntPackets::new(plan, part.section(), table.counter());
         slot = put_slots(
             plan,
@@ -156,10 +156,10 @@ fn put_parts<'a, K: Sink>(
     Ok(slot)
 }
 
-/// Writes the stream of what was offered under the plan: the packets of its services in rotation, and in each cycle of slots those
-/// of the INT first.
+/// Writes the stream of what was offered under the plan: the packets of its services in rotation or, with time slicing, in bursts, and in each
+/// cycle of slots those of the INT first.
 ///
-/// The services are of SNDUs, of datagram_sections and of MPE-FEC frames without time slicing, and fewer than 2^32 records were offered.
+/// The services are of SNDUs, of datagram_sections and of MPE-FEC frames, and fewer than 2^32 records were offered.
 /// On an Err a prefix of the stream was written, and nothing when out of memory. Nothing is flushed.
 pub fn stream<K: Sink>(
     alloc: Global,

@@ -1,11 +1,10 @@
 //! Slot after slot of a part, up to the last packet of its services: a record of each goes to the batch, and full batches to the sink.
-ghost use Rattle.std.specs.Prelude.{◌≡◌, ◌≤◌, ◌<◌, ◌+◌, ◌*◌, ◌^◌, ℕ, List, Option, false, length, IfOk, OnOk};
+ghost use Rattle.std.specs.Prelude.{◌≡◌, ◌≤◌, ◌<◌, ◌+◌, ◌^◌, ℕ, List, Option, false, length, OnOk};
 ghost use Rattle.wire_spec.specs.Causes.{HasCause};
 ghost use Rattle.wire_spec.specs.Content.{Stays};
 ghost use Rattle.plan.specs.PlanView.{plan_fields};
 ghost use Rattle.stream_spec.specs.Parts.{PartFields};
-ghost use Rattle.mux_core.specs.Services.{packet_total};
-ghost use Rattle.mux_core.specs.Slots.{StandBefore, StandInPart, AreHanded, WritesSlots, FillsCycle};
+ghost use Rattle.mux_core.specs.Slots.{StandBefore, IsFew, IsOver, AreHanded, WritesSlots, FillsCycle};
 
 use crate::batch::Batch;
 use crate::int_packets::IntPackets;
@@ -23,22 +22,18 @@ fn put_packets<K: Sink>(
     first: u64,
     sink: &mut K,
 ) -> Result<u64, Failed>
-    requires stand { (part : PartFields) × StandBefore (plan_fields plan.now) part 0 first services.old table.old }
+    requires stand { (part : PartFields) × StandBefore (plan_fields plan.now) part 0 first services.old table.old × IsFew part first }
     requires room { length batch.old ≤ 192512 }
-    requires few { first + (24 * packet_total services.old.packets + 23) < 2 ^ 64 }
-    requires count { table.old.count ≤ 23 }
     ensures written { (part : PartFields) → StandBefore (plan_fields plan.now) part 0 first services.old table.old
         → WritesSlots (plan_fields plan.now) part false result (K.told sink.old).held (K.told sink.new).held batch.old batch.new services.new table.new }
     ensures room { OnOk result (length batch.new ≤ 192512) }
-    ensures most { IfOk result (λ slot. slot ≤ first + (24 * packet_total services.old.packets + 23)) }
-    ensures out { OnOk result (packet_total services.new.packets ≡ 0) }
     ensures behind { services.new.behind ≡ services.old.behind }
     ensures flushed { Stays (K.told sink.old).flushed (K.told sink.new).flushed }
     ensures cause { HasCause (K.told sink.old).faults (K.told sink.new).faults result }
 {
     let mut slot = first;
-    while let Some(turn) = services.turn() {
-        batch.add(plan, services, Some(turn), table, slot);
+    while let Some(turn) = services.left() {
+        batch.add(plan, services, turn, table, slot);
         slot += 1;
         batch.put_full(sink)?;
     }
@@ -57,15 +52,11 @@ pub(crate) fn put_slots<K: Sink>(
     fills: bool,
     sink: &mut K,
 ) -> Result<u64, Failed>
-    requires stand { (part : PartFields) × StandBefore (plan_fields plan.now) part 0 first services.old table.old }
+    requires stand { (part : PartFields) × StandBefore (plan_fields plan.now) part 0 first services.old table.old × IsFew part first }
     requires room { length batch.old ≤ 192512 }
-    requires few { first + (24 * packet_total services.old.packets + 1000023) < 2 ^ 64 }
-    requires count { table.old.count ≤ 23 }
     ensures written { (part : PartFields) → StandBefore (plan_fields plan.now) part 0 first services.old table.old
         → WritesSlots (plan_fields plan.now) part fills result (K.told sink.old).held (K.told sink.new).held batch.old batch.new services.new table.new }
     ensures room { OnOk result (length batch.new ≤ 192512) }
-    ensures most { IfOk result (λ slot. slot ≤ first + (24 * packet_total services.old.packets + 1000023)) }
-    ensures out { OnOk result (packet_total services.new.packets ≡ 0) }
     ensures behind { services.new.behind ≡ services.old.behind }
     ensures flushed { Stays (K.told sink.old).flushed (K.told sink.new).flushed }
     ensures cause { HasCause (K.told sink.old).faults (K.told sink.new).faults result }
@@ -87,16 +78,13 @@ fn fill_cycle<K: Sink>(
     from: u64,
     sink: &mut K,
 ) -> Result<u64, Failed>
-    requires stand { StandInPart (plan_fields plan.now) from services.old table.old }
-    requires out { packet_total services.old.packets ≡ 0 }
+    requires stand { (part : PartFields) × (place : ℕ) × StandBefore (plan_fields plan.now) part place from services.old table.old × IsOver part place }
     requires room { length batch.old ≤ 192512 }
     requires few { from + 1000000 < 2 ^ 64 }
     ensures filled { (part : PartFields) (place : ℕ) (held : Option (List ℕ)) (before : List ℕ) → StandBefore (plan_fields plan.now) part place from services.old table.old
         → AreHanded part place held (K.told sink.old).held before batch.old
         → FillsCycle (plan_fields plan.now) part place result held (K.told sink.new).held before batch.new services.new table.new }
     ensures room { OnOk result (length batch.new ≤ 192512) }
-    ensures most { IfOk result (λ slot. slot ≤ from + 1000000) }
-    ensures out { OnOk result (packet_total services.new.packets ≡ 0) }
     ensures behind { services.new.behind ≡ services.old.behind }
     ensures flushed { Stays (K.told sink.old).flushed (K.told sink.new).flushed }
     ensures cause { HasCause (K.told sink.old).faults (K.told sink.new).faults result }

@@ -8,7 +8,7 @@ ghost use Rattle.plan_spec.specs.Built.{are_sent};
 
 use plan::{Kind, Plan};
 
-/// Answers whether all services are of kinds that are sent so far: SNDUs, datagram_sections, and MPE-FEC frames without time slicing.
+/// Answers whether all services are of kinds that are sent so far: SNDUs, datagram_sections, and MPE-FEC frames, with time slicing or without.
 pub fn can_send(plan: &Plan) -> bool
     ensures read { result ≡ are_sent (plan_fields plan.now) }
 {
@@ -25,9 +25,7 @@ fn is_built(kind: &Kind) -> bool
     ensures read { result ≡ is_sent (kind_seen kind.now) }
 {
     match kind {
-        Kind::Ule { .. } => true,
-        Kind::Mpe { .. } => true,
-        Kind::Fec { window, .. } => window.is_none(),
+        Kind::Ule { .. } | Kind::Mpe { .. } | Kind::Fec { .. } => true,
         Kind::Gse { .. } => false,
     }
 }

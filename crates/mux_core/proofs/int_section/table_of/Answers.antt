@@ -6,7 +6,10 @@ use Rattle.addr_rules.specs.declared.rules.Rule.{Rule}
 use Rattle.int_spec.specs.Descriptors.{has_right_slash}
 use Rattle.std.specs.List.{list_all}
 use Rattle.int_spec.specs.Table.{IsRule, TableFields}
-use Rattle.plan_spec.specs.Plan.{ServiceFields, PlanFields, kinds}
+use Rattle.plan_spec.specs.Plan.{ServiceFields, PlanFields, kinds, sliced_of}
+use Rattle.window_law.proofs.Checks.{rate_above}
+use Rattle.mux_core.proofs.Windowed.{short_burst}
+use Rattle.mux_core.proofs.Scheduled.{kind_there}
 use Rattle.plan_spec.specs.Changes.{plan_in, service_in}
 use Rattle.plan_spec.specs.Valid.{is_valid_rule}
 use Rattle.plan_spec.specs.Signalling.{table_of, entry_of}
@@ -46,6 +49,14 @@ entry_of-requires-clause-sent c =
 pub entry_of-requires-clause-frames : goal.entry_of-requires-clause-frames
 entry_of-requires-clause-frames c = frames_at c.args.plan.now c.loop-place.place c.at.result.now c.at.ensures.read
 
+pub entry_of-requires-clause-rate : goal.entry_of-requires-clause-rate
+entry_of-requires-clause-rate c = rate_above (plan_fields c.args.plan.now) c.args.plan.now.valid
+
+-- whose bursts are short enough
+pub entry_of-requires-clause-short : goal.entry_of-requires-clause-short
+entry_of-requires-clause-short c = λ fields is.
+    short_burst (plan_fields c.args.plan.now) c.args.plan.now.valid c.loop-place.place fields (ap sliced_of (kind_there c.args.plan.now c.loop-place.place c.at.result.now c.at.ensures.read) ∙ is)
+
 pub push-requires : goal.push-requires
 push-requires c = record {
   slashes = ap (list_all has_right_slash) (c.in_ok-entry.ensures.rules ∙ c.rules_in-rules.ensures)
@@ -67,7 +78,7 @@ loop-place-preserved c =
           (map (entry_of c.args.plan.now.packet_rate) (take c.loop-place.place plan.services)) (map (entry_of c.args.plan.now.packet_rate) (take (c.loop-place.place + 1) plan.services))
           (entry_in c.in_ok-entry.entry) (entry_of c.args.plan.now.packet_rate service) c.loop-place.invariant.entries c.in-Ok.ensures.written
           (entry_is c.args.plan.now.packet_rate service (entry_in c.in_ok-entry.entry) (c.in_ok-entry.ensures.rules ∙ c.rules_in-rules.ensures) (c.in_ok-entry.ensures.service_id ∙ sym stays.service_id)
-          (c.in_ok-entry.ensures.component_tag ∙ sym stays.component_tag) (c.in_ok-entry.ensures.slices c.args.plan.now.packet_rate ∙ sym (stays.slices c.args.plan.now.packet_rate)))
+          (c.in_ok-entry.ensures.component_tag ∙ sym stays.component_tag) (c.in_ok-entry.ensures.slices ∙ sym (stays.slices c.args.plan.now.packet_rate)))
           (ap (map (entry_of c.args.plan.now.packet_rate)) (take_next plan.services c.loop-place.place service found)
           ∙ map-append (entry_of c.args.plan.now.packet_rate) (take c.loop-place.place plan.services) (service ∷ []));
       rules = subst (λ (lists : List (List Rule)). All (All IsRule) lists)

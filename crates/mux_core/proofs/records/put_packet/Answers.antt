@@ -6,7 +6,7 @@ use Rattle.mux_core.proofs.records.put_packet.Goals as goal
 
 pub returns-clause-taken : goal.returns-clause-taken
 returns-clause-taken c = λ part place stand.
-    subst (TakesSlot (plan_fields c.args.plan.now) part place c.args.slot c.args.turn c.packet_for_slot.new.services c.packet_for_slot.new.table) (sym (take_at c.packet_for_slot.new.into (drop 188 c.args.into.now) 188 c.packet_for_slot.ensures.size))
+    subst (TakesSlot (plan_fields c.args.plan.now) part place c.args.slot c.packet_for_slot.new.services c.packet_for_slot.new.table) (sym (take_at c.packet_for_slot.new.into (drop 188 c.args.into.now) 188 c.packet_for_slot.ensures.size))
     (c.packet_for_slot.ensures.taken part place stand)
 
 pub returns-clause-after : goal.returns-clause-after

@@ -10,7 +10,7 @@ write_stamp-stamp-requires-clause-rate c = omega (arith, at_least 1 1000000 (pla
 pub returns-clause-written : goal.returns-clause-written
 returns-clause-written c = λ part place stand.
     let same = stamp_is (plan_fields c.args.plan.now) part stand.of_plan place c.args.slot stand.place in
-    record_written (plan_fields c.args.plan.now) part place c.args.slot c.args.turn c.put_packet.new.services c.put_packet.new.table c.args.into.now c.write_stamp-stamp.new.into _ c.put_packet.new.into c.write_stamp-stamp.result
+    record_written (plan_fields c.args.plan.now) part place c.args.slot c.put_packet.new.services c.put_packet.new.table c.args.into.now c.write_stamp-stamp.new.into _ c.put_packet.new.into c.write_stamp-stamp.result
     (c.write_stamp-stamp.ensures.size ∙ ap (λ (stamp : List ℕ). length stamp) same) c.write_stamp-stamp.ensures.most
     (c.write_stamp-stamp.ensures.written ∙ ap (λ (stamp : List ℕ). stamp ++ drop c.write_stamp-stamp.result c.args.into.now) same) c.requires.room refl c.put_packet.ensures.after c.put_packet.ensures.size
     (c.put_packet.ensures.taken part place stand)

@@ -1,4 +1,4 @@
-use Rattle.std.proofs.Common.{◌≡◌, ◌∙◌, ℕ, ◌+◌, ◌-◌, ◌<◌, ◌≤◌, zero, suc, ltb, List, [], ◌∷◌, length, get_or, refl, ap, arith, subst, Option, Some}
+use Rattle.std.proofs.Common.{◌≡◌, ◌∙◌, ℕ, ◌+◌, ◌-◌, ◌*◌, ◌<◌, ◌≤◌, zero, suc, ltb, List, [], ◌∷◌, length, get_or, refl, ap, arith, subst, Option, Some}
 use Rattle.std.specs.Prelude.{slice_get, sum_by}
 use Rattle.std.proofs.KnownBytes.{Appends-nil}
 use Rattle.std.proofs.lemmas.Result.{err_from_is_err_and}
@@ -12,12 +12,16 @@ use Rattle.stream_spec.specs.Stream.{part_of}
 use Rattle.stream_law.proofs.Plans.{few_services}
 use Rattle.stream_law.proofs.Wholes.{few_changes}
 use Rattle.mux_core.specs.PartUnits.{MadeUnits}
-use Rattle.mux_core.specs.Services.{listed}
+use Rattle.mux_core.specs.Services.{listed, left_in}
 use Rattle.mux_core.specs.Sending.{AreDatagrams, AreUnits}
 use Rattle.mux_core.proofs.Streamed.{are_listed, services_size, is_last_of}
-use Rattle.mux_core.proofs.Parted.{IsLastOf, IsBehind, HasHanded, nothing_handed, services_stay, part_behind, part_broken, all_put, some_put, count_is}
-use Rattle.mux_core.proofs.Staged.{slots_of, each_of, unit_found, writes_some, writes_all, section_there, few_at, first_begins, stands, next_begun, next_handed, next_stands}
+use Rattle.mux_core.proofs.Parted.{IsLastOf, IsBehind, HasHanded, nothing_handed, services_stay, sliced_stay, windows_stay, part_behind, part_broken, all_put, some_put, count_is}
+use Rattle.mux_core.proofs.Staged.{slots_of, each_of, unit_found, writes_some, writes_all, section_there, few_in, few_more, all_out, first_begins, stands, next_begun, next_handed, next_stands}
 use Rattle.mux_core.proofs.sending.put_parts.Goals as goal
+
+-- a slot of the last part at most
+few_slots : (slot version : ℕ) → slot ≤ version * 400000000000000000 → version ≤ 31 → slot ≤ 31 * 400000000000000000
+few_slots slot version le le2 = omega (arith, le, le2)
 
 -- The numbers of versions and services.
 
@@ -70,22 +74,11 @@ put_slots-requires-clause-stand g c =
     let last_is = last_there plan lists units c.requires.units c.last_version-last.result c.last_version-last.ensures.within c.last_version-last.ensures.none c.last_version-last.ensures.some datagrams are in
     let found = first_unit lists units c.index-units-0.result c.requires.units.size (omega (arith, c.last_version-last.ensures.within)) c.index-units-0.is in (
       part_of (plan_fields plan) datagrams (slots_of (plan_fields plan) plan.whole datagrams) 0,
-      stands plan lists units c.requires.units datagrams are c.last_version-last.result last_is 0 (omega arith) c.index-units-0.result found 0 0 c.section.result.now c.new-table.result c.args.services.now
+      stands plan lists units c.requires.units datagrams are c.last_version-last.result last_is c.requires.built 0 (omega arith) c.index-units-0.result found 0 0 c.section.result.now c.new-table.result c.args.services.now
           c.section.ensures.read (λ int table. refl) c.new-table.ensures.at refl (first_begins plan lists units c.requires.units datagrams are c.args.services.now c.requires.begun),
+      few_in plan lists units c.requires.units datagrams are c.requires.few 0 (omega arith) c.index-units-0.result found c.args.services.now (first_begins plan lists units c.requires.units datagrams are c.args.services.now c.requires.begun)
+          c.requires.total 0 (omega arith),
     )
-
-pub put_slots-requires-clause-count : goal.put_slots-requires-clause-count
-put_slots-requires-clause-count g c =
-    let plan : Plan = c.args.plan.now in
-    let lists = c.args.lists.now in
-    let units = c.args.units.now in
-    let datagrams : ℕ → ℕ → List (List ℕ) = listed lists in
-    let are = are_listed (plan_fields plan) lists units c.requires.units in
-    let last_is = last_there plan lists units c.requires.units c.last_version-last.result c.last_version-last.ensures.within c.last_version-last.ensures.none c.last_version-last.ensures.some datagrams are in
-    let found = first_unit lists units c.index-units-0.result c.requires.units.size (omega (arith, c.last_version-last.ensures.within)) c.index-units-0.is in
-    let stand = stands plan lists units c.requires.units datagrams are c.last_version-last.result last_is 0 (omega arith) c.index-units-0.result found 0 0 c.section.result.now c.new-table.result c.args.services.now
-    c.section.ensures.read (λ int table. refl) c.new-table.ensures.at refl (first_begins plan lists units c.requires.units datagrams are c.args.services.now c.requires.begun) in
-    few_at plan lists units c.requires.units 0 (omega arith) c.index-units-0.result found (part_of (plan_fields plan) datagrams (slots_of (plan_fields plan) plan.whole datagrams) 0) c.new-table.result refl stand.table
 
 pub returns-in_err-slot-clause-written : goal.returns-in_err-slot-clause-written
 returns-in_err-slot-clause-written g c = λ datagrams are.
@@ -99,7 +92,7 @@ returns-in_err-slot-clause-written g c = λ datagrams are.
     let new : Option (List ℕ) = (g.K.Sink.told c.put_slots.new.sink).held in
     let last_is = last_there plan lists units c.requires.units last c.last_version-last.ensures.within c.last_version-last.ensures.none c.last_version-last.ensures.some datagrams are in
     let found = first_unit lists units c.index-units-0.result c.requires.units.size (omega (arith, c.last_version-last.ensures.within)) c.index-units-0.is in
-    let stand = stands plan lists units c.requires.units datagrams are last last_is 0 (omega arith) c.index-units-0.result found 0 0 c.section.result.now c.new-table.result c.args.services.now
+    let stand = stands plan lists units c.requires.units datagrams are last last_is c.requires.built 0 (omega arith) c.index-units-0.result found 0 0 c.section.result.now c.new-table.result c.args.services.now
     c.section.ensures.read (λ int table. refl) c.new-table.ensures.at refl (first_begins plan lists units c.requires.units datagrams are c.args.services.now c.requires.begun) in
     let wrote = c.in_err-slot.ensures.written (part_of fields datagrams slots 0) stand in
     let failed = err_from_is_err_and c.from_residual.result c.from_residual.ensures.1 in
@@ -125,14 +118,44 @@ loop-version-init g c = record {
       let last_is = last_there plan lists units c.requires.units last c.last_version-last.ensures.within c.last_version-last.ensures.none c.last_version-last.ensures.some datagrams are in
       let found = first_unit lists units c.index-units-0.result c.requires.units.size (omega (arith, c.last_version-last.ensures.within)) c.index-units-0.is in
       let begins = first_begins plan lists units c.requires.units datagrams are c.args.services.now c.requires.begun in
-      let stand = stands plan lists units c.requires.units datagrams are last last_is 0 (omega arith) c.index-units-0.result found 0 0 c.section.result.now c.new-table.result c.args.services.now
+      let stand = stands plan lists units c.requires.units datagrams are last last_is c.requires.built 0 (omega arith) c.index-units-0.result found 0 0 c.section.result.now c.new-table.result c.args.services.now
       c.section.ensures.read (λ int table. refl) c.new-table.ensures.at refl begins in
       let wrote = c.in_ok-slot.ensures.written (part_of fields datagrams slots 0) stand in
       part_behind fields datagrams slots plan.whole (each_of fields plan.whole datagrams) last last_is 0 0 (ltb 0 last) old old new c.args.batch.now c.put_slots.new.batch (omega arith) refl wrote.least wrote.count
       (nothing_handed fields datagrams slots 0 old c.args.batch.now refl c.requires.empty (Appends-nil old)) c.in_ok-slot.slot c.args.services.now c.put_slots.new.services c.put_slots.new.table
       wrote.passes wrote.stand begins c.in_ok-slot.ensures.behind;
-  few = omega (arith, c.in_ok-slot.ensures.most, c.requires.total);
-  out = c.in_ok-slot.ensures.out;
+  few =
+      let plan : Plan = c.args.plan.now in
+      let lists = c.args.lists.now in
+      let units = c.args.units.now in
+      let datagrams : ℕ → ℕ → List (List ℕ) = listed lists in
+      let are = are_listed (plan_fields plan) lists units c.requires.units in
+      let last_is = last_there plan lists units c.requires.units c.last_version-last.result c.last_version-last.ensures.within c.last_version-last.ensures.none c.last_version-last.ensures.some datagrams are in
+      let found = first_unit lists units c.index-units-0.result c.requires.units.size (omega (arith, c.last_version-last.ensures.within)) c.index-units-0.is in
+      let begins = first_begins plan lists units c.requires.units datagrams are c.args.services.now c.requires.begun in
+      let stand = stands plan lists units c.requires.units datagrams are c.last_version-last.result last_is c.requires.built 0 (omega arith) c.index-units-0.result found 0 0 c.section.result.now c.new-table.result c.args.services.now
+      c.section.ensures.read (λ int table. refl) c.new-table.ensures.at refl begins in
+      let wrote = c.in_ok-slot.ensures.written (part_of (plan_fields plan) datagrams (slots_of (plan_fields plan) plan.whole datagrams) 0) stand in
+      omega (
+        arith,
+        wrote.stand.place,
+        stand.place,
+        few_more plan lists units c.requires.units datagrams are c.requires.few 0 (omega arith) c.index-units-0.result found c.args.services.now begins c.requires.total (ltb 0 c.last_version-last.result) wrote.least wrote.count,
+      );
+  out =
+      let plan : Plan = c.args.plan.now in
+      let lists = c.args.lists.now in
+      let units = c.args.units.now in
+      let datagrams : ℕ → ℕ → List (List ℕ) = listed lists in
+      let are = are_listed (plan_fields plan) lists units c.requires.units in
+      let last_is = last_there plan lists units c.requires.units c.last_version-last.result c.last_version-last.ensures.within c.last_version-last.ensures.none c.last_version-last.ensures.some datagrams are in
+      let found = first_unit lists units c.index-units-0.result c.requires.units.size (omega (arith, c.last_version-last.ensures.within)) c.index-units-0.is in
+      let begins = first_begins plan lists units c.requires.units datagrams are c.args.services.now c.requires.begun in
+      let stand = stands plan lists units c.requires.units datagrams are c.last_version-last.result last_is c.requires.built 0 (omega arith) c.index-units-0.result found 0 0 c.section.result.now c.new-table.result c.args.services.now
+      c.section.ensures.read (λ int table. refl) c.new-table.ensures.at refl begins in
+      let wrote = c.in_ok-slot.ensures.written (part_of (plan_fields plan) datagrams (slots_of (plan_fields plan) plan.whole datagrams) 0) stand in
+      all_out (plan_fields plan) plan.whole (part_of (plan_fields plan) datagrams (slots_of (plan_fields plan) plan.whole datagrams) 0) (ltb 0 c.last_version-last.result) wrote.least wrote.count
+      c.in_ok-slot.slot c.put_slots.new.services c.put_slots.new.table wrote.stand;
   room = c.in_ok-slot.ensures.room;
   flushed = c.in_ok-slot.ensures.flushed;
   same = c.in_ok-slot.ensures.cause.kept;
@@ -145,6 +168,28 @@ begin-requires-clause-lists g c =
     (c.requires.units.each c.loop-version.version c.index-units-from.result
     (unit_found c.args.units.now c.from.result c.loop-version.version c.index-units-from.result c.from.ensures
     (omega (arith, c.loop-version-test.true, c.last_version-last.ensures.within, c.requires.units.size)) c.index-units-from.is)).lists_are
+
+pub begin-requires-clause-all : goal.begin-requires-clause-all
+begin-requires-clause-all g c = record {
+  versions = c.requires.units.versions;
+  services = λ version within. services_size (plan_fields c.args.plan.now) c.args.lists.now c.args.units.now c.requires.units version within;
+}
+
+pub begin-requires-clause-sliced : goal.begin-requires-clause-sliced
+begin-requires-clause-sliced g c =
+    let plan : Plan = c.args.plan.now in
+    let datagrams : ℕ → ℕ → List (List ℕ) = listed c.args.lists.now in
+    let slots : ℕ → ℕ = slots_of (plan_fields plan) plan.whole datagrams in
+    let before = c.loop-version.invariant.behind datagrams (are_listed (plan_fields plan) c.args.lists.now c.args.units.now c.requires.units) in
+    sliced_stay (plan_fields plan) datagrams slots (c.loop-version.version - 1) (slots (c.loop-version.version - 1)) c.loop-version.slot c.loop-version.services c.loop-version.table before.stand
+
+pub begin-requires-clause-windows : goal.begin-requires-clause-windows
+begin-requires-clause-windows g c =
+    let plan : Plan = c.args.plan.now in
+    let datagrams : ℕ → ℕ → List (List ℕ) = listed c.args.lists.now in
+    let slots : ℕ → ℕ = slots_of (plan_fields plan) plan.whole datagrams in
+    let before = c.loop-version.invariant.behind datagrams (are_listed (plan_fields plan) c.args.lists.now c.args.units.now c.requires.units) in
+    windows_stay (plan_fields plan) datagrams slots (c.loop-version.version - 1) (slots (c.loop-version.version - 1)) c.loop-version.slot c.loop-version.services c.loop-version.table before.stand
 
 pub begin-requires-clause-size : goal.begin-requires-clause-size
 begin-requires-clause-size g c =
@@ -181,36 +226,12 @@ put_slots-requires-in-loop-version-clause-stand g c =
           (g.K.Sink.told c.args.sink.now).held (g.K.Sink.told c.loop-version.sink).held c.loop-version.batch c.loop-version.services c.begin.new.self c.loop-version.table c.new-table-in-loop-version.result
           (c.loop-version.invariant.behind datagrams are) c.begin.ensures.begun c.index-units-from.result found c.counter.result c.section-in-loop-version.result.now c.section-in-loop-version.ensures.read
           c.counter.ensures.read c.new-table-in-loop-version.ensures.at,
+      few_in plan lists units c.requires.units datagrams are c.requires.few version (omega (arith, c.loop-version-test.true, last_is.within)) c.index-units-from.result found c.begin.new.self
+          (next_begun plan lists units c.requires.units datagrams are last last_is c.requires.built (version - 1) version (omega (arith, c.loop-version.auto.version)) (omega (arith, c.loop-version-test.true)) c.loop-version.slot
+          (g.K.Sink.told c.args.sink.now).held (g.K.Sink.told c.loop-version.sink).held c.loop-version.batch c.loop-version.services c.begin.new.self c.loop-version.table c.new-table-in-loop-version.result
+          (c.loop-version.invariant.behind datagrams are) c.begin.ensures.begun)
+          c.begin.ensures.most c.loop-version.slot (few_slots c.loop-version.slot version c.loop-version.invariant.few (omega (arith, c.loop-version-test.true, last_is.within, few_changes (plan_fields plan) plan.whole))),
     )
-
-pub put_slots-requires-in-loop-version-clause-few : goal.put_slots-requires-in-loop-version-clause-few
-put_slots-requires-in-loop-version-clause-few g c =
-    omega (
-      arith,
-      c.loop-version.invariant.few,
-      c.begin.ensures.most,
-      c.loop-version-test.true,
-      c.last_version-last.ensures.within,
-      few_lists c.args.plan.now c.args.lists.now (omega (arith, c.requires.units.versions, length-map c.args.plan.now.changes change_seen)),
-    )
-
-pub put_slots-requires-in-loop-version-clause-count : goal.put_slots-requires-in-loop-version-clause-count
-put_slots-requires-in-loop-version-clause-count g c =
-    let plan : Plan = c.args.plan.now in
-    let lists = c.args.lists.now in
-    let units = c.args.units.now in
-    let last : ℕ = c.last_version-last.result in
-    let version : ℕ = c.loop-version.version in
-    let datagrams : ℕ → ℕ → List (List ℕ) = listed lists in
-    let are = are_listed (plan_fields plan) lists units c.requires.units in
-    let last_is = last_there plan lists units c.requires.units last c.last_version-last.ensures.within c.last_version-last.ensures.none c.last_version-last.ensures.some datagrams are in
-    let found = unit_found units c.from.result version c.index-units-from.result c.from.ensures (omega (arith, c.loop-version-test.true, c.last_version-last.ensures.within, c.requires.units.size)) c.index-units-from.is in
-    let stand = next_stands plan lists units c.requires.units datagrams are last last_is c.requires.built (version - 1) version (omega (arith, c.loop-version.auto.version)) (omega (arith, c.loop-version-test.true)) c.loop-version.slot
-    (g.K.Sink.told c.args.sink.now).held (g.K.Sink.told c.loop-version.sink).held c.loop-version.batch c.loop-version.services c.begin.new.self c.loop-version.table c.new-table-in-loop-version.result
-    (c.loop-version.invariant.behind datagrams are) c.begin.ensures.begun c.index-units-from.result found c.counter.result c.section-in-loop-version.result.now c.section-in-loop-version.ensures.read
-    c.counter.ensures.read c.new-table-in-loop-version.ensures.at in
-    few_at plan lists units c.requires.units version (omega (arith, c.loop-version-test.true, last_is.within)) c.index-units-from.result found
-    (part_of (plan_fields plan) datagrams (slots_of (plan_fields plan) plan.whole datagrams) version) c.new-table-in-loop-version.result refl stand.table
 
 pub returns-in_err-slot-2-clause-written : goal.returns-in_err-slot-2-clause-written
 returns-in_err-slot-2-clause-written g c = λ datagrams are.
@@ -272,12 +293,54 @@ loop-version-preserved g c = record {
       subst (λ (v : ℕ). IsBehind fields datagrams slots v c.in_ok-slot-2.slot old new c.put_slots-in-loop-version.new.batch c.put_slots-in-loop-version.new.services c.put_slots-in-loop-version.new.table) same
       (part_behind fields datagrams slots plan.whole (each_of fields plan.whole datagrams) last last_is version c.loop-version.slot (ltb version last) old mid new c.loop-version.batch c.put_slots-in-loop-version.new.batch le refl
       wrote.least wrote.count handed c.in_ok-slot-2.slot c.begin.new.self c.put_slots-in-loop-version.new.services c.put_slots-in-loop-version.new.table wrote.passes wrote.stand begins c.in_ok-slot-2.ensures.behind);
-  few = omega (arith, c.in_ok-slot-2.ensures.most, c.begin.ensures.most, c.loop-version.invariant.few);
-  out = c.in_ok-slot-2.ensures.out;
+  few = omega (arith, (wrote_next datagrams_here are_here).0, c.loop-version.invariant.few);
+  out = (wrote_next datagrams_here are_here).1;
   room = c.in_ok-slot-2.ensures.room;
   flushed = stays-trans (g.K.Sink.told c.args.sink.now).flushed (g.K.Sink.told c.loop-version.sink).flushed (g.K.Sink.told c.put_slots-in-loop-version.new.sink).flushed c.loop-version.invariant.flushed c.in_ok-slot-2.ensures.flushed;
   same = c.in_ok-slot-2.ensures.cause.kept ∙ c.loop-version.invariant.same;
 }
+  where
+    datagrams_here : ℕ → ℕ → List (List ℕ)
+    datagrams_here = listed c.args.lists.now
+
+    are_here : AreDatagrams (plan_fields c.args.plan.now) (listed c.args.lists.now) c.args.lists.now
+    are_here = are_listed (plan_fields c.args.plan.now) c.args.lists.now c.args.units.now c.requires.units
+
+    -- the slot is not much later, and all packets are out
+    wrote_next : (datagrams : ℕ → ℕ → List (List ℕ)) → AreDatagrams (plan_fields c.args.plan.now) datagrams c.args.lists.now
+        → (c.in_ok-slot-2.slot ≤ c.loop-version.slot + 400000000000000000) × (left_in c.put_slots-in-loop-version.new.services ≡ 0)
+    wrote_next datagrams are =
+        let plan : Plan = c.args.plan.now in
+        let fields : PlanFields = plan_fields plan in
+        let lists = c.args.lists.now in
+        let units = c.args.units.now in
+        let last : ℕ = c.last_version-last.result in
+        let version : ℕ = c.loop-version.version in
+        let slots : ℕ → ℕ = slots_of fields plan.whole datagrams in
+        let old : Option (List ℕ) = (g.K.Sink.told c.args.sink.now).held in
+        let mid : Option (List ℕ) = (g.K.Sink.told c.loop-version.sink).held in
+        let last_is = last_there plan lists units c.requires.units last c.last_version-last.ensures.within c.last_version-last.ensures.none c.last_version-last.ensures.some datagrams are in
+        let found = unit_found units c.from.result version c.index-units-from.result c.from.ensures (omega (arith, c.loop-version-test.true, c.last_version-last.ensures.within, c.requires.units.size)) c.index-units-from.is in
+        let next : version ≡ version - 1 + 1 = omega (arith, c.loop-version.auto.version) in
+        let le : version ≤ last = omega (arith, c.loop-version-test.true) in
+        let before = c.loop-version.invariant.behind datagrams are in
+        let stand = next_stands plan lists units c.requires.units datagrams are last last_is c.requires.built (version - 1) version next le c.loop-version.slot
+        old mid c.loop-version.batch c.loop-version.services c.begin.new.self c.loop-version.table c.new-table-in-loop-version.result
+        before c.begin.ensures.begun c.index-units-from.result found c.counter.result c.section-in-loop-version.result.now c.section-in-loop-version.ensures.read
+        c.counter.ensures.read c.new-table-in-loop-version.ensures.at in
+        let begins = next_begun plan lists units c.requires.units datagrams are last last_is c.requires.built (version - 1) version next le c.loop-version.slot
+        old mid c.loop-version.batch c.loop-version.services c.begin.new.self c.loop-version.table c.new-table-in-loop-version.result before c.begin.ensures.begun in
+        let wrote = c.in_ok-slot-2.ensures.written (part_of fields datagrams slots version) stand in (
+          omega (
+            arith,
+            wrote.stand.place,
+            stand.place,
+            few_more plan lists units c.requires.units datagrams are c.requires.few version (omega (arith, le, last_is.within)) c.index-units-from.result found c.begin.new.self begins c.begin.ensures.most
+                (ltb version last) wrote.least wrote.count,
+          ),
+          all_out fields plan.whole (part_of fields datagrams slots version) (ltb version last) wrote.least wrote.count c.in_ok-slot-2.slot c.put_slots-in-loop-version.new.services c.put_slots-in-loop-version.new.table
+              wrote.stand,
+        )
 
 -- All parts were written.
 

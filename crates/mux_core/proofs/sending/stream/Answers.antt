@@ -11,8 +11,9 @@ use Rattle.stream_law.proofs.Plans.{few_services}
 use Rattle.stream_law.proofs.Wholes.{few_changes}
 use Rattle.mux_core.specs.declared.sending.MuxFault.{MuxFault}
 use Rattle.mux_core.specs.Sending.{WritesStream, datagram_count}
-use Rattle.mux_core.proofs.Streamed.{all_taken, are_offered, few_lists, length-offered}
+use Rattle.mux_core.proofs.Streamed.{all_taken, are_offered, few_lists, length-offered, services_size}
 use Rattle.mux_core.proofs.Staged.{unit_found}
+use Rattle.mux_core.proofs.OnPids.{on_pids}
 use Rattle.mux_core.proofs.sending.stream.Goals as goal
 
 -- out of memory: there is a stream, and none of it was written
@@ -24,19 +25,19 @@ pub returns-in_err-units-clause-written : goal.returns-in_err-units-clause-writt
 returns-in_err-units-clause-written g c = λ gives stands.
     let plan : PlanFields = plan_fields c.args.plan.now in
     let fault = err_from_is_err_and c.from_residual.result c.from_residual.ensures.1 in
-    rw fault.1 (nothing_written plan (offered_in plan gives) fault.0 (g.K.Sink.told c.args.sink.now).held (c.there_is_one_stream.ensures.is plan (offered_in plan gives) c.args.plan.now.whole c.requires.built))
+    rw fault.1 (nothing_written plan (offered_in plan gives) fault.0 (g.K.Sink.told c.args.sink.now).held (c.there_is_one_stream.ensures.is plan (offered_in plan gives) c.args.plan.now.whole (on_pids plan c.requires.built)))
 
 pub returns-in_err-services-clause-written : goal.returns-in_err-services-clause-written
 returns-in_err-services-clause-written g c = λ gives stands.
     let plan : PlanFields = plan_fields c.args.plan.now in
     let fault = err_from_is_err_and c.from_residual-in_err-services.result c.from_residual-in_err-services.ensures.1 in
-    rw fault.1 (nothing_written plan (offered_in plan gives) fault.0 (g.K.Sink.told c.args.sink.now).held (c.there_is_one_stream.ensures.is plan (offered_in plan gives) c.args.plan.now.whole c.requires.built))
+    rw fault.1 (nothing_written plan (offered_in plan gives) fault.0 (g.K.Sink.told c.args.sink.now).held (c.there_is_one_stream.ensures.is plan (offered_in plan gives) c.args.plan.now.whole (on_pids plan c.requires.built)))
 
 pub returns-in_err-batch-clause-written : goal.returns-in_err-batch-clause-written
 returns-in_err-batch-clause-written g c = λ gives stands.
     let plan : PlanFields = plan_fields c.args.plan.now in
     let fault = err_from_is_err_and c.from_residual-in_err-batch.result c.from_residual-in_err-batch.ensures.1 in
-    rw fault.1 (nothing_written plan (offered_in plan gives) fault.0 (g.K.Sink.told c.args.sink.now).held (c.there_is_one_stream.ensures.is plan (offered_in plan gives) c.args.plan.now.whole c.requires.built))
+    rw fault.1 (nothing_written plan (offered_in plan gives) fault.0 (g.K.Sink.told c.args.sink.now).held (c.there_is_one_stream.ensures.is plan (offered_in plan gives) c.args.plan.now.whole (on_pids plan c.requires.built)))
 
 pub returns-in-Ok-clause-written : goal.returns-in-Ok-clause-written
 returns-in-Ok-clause-written g c = λ gives stands.
@@ -86,6 +87,14 @@ count_datagrams-datagrams-requires-clause-few g c =
   where
     below : (n : ℕ) → n < 4294967296 → n < 4294967296
     below n less = less
+
+pub new-requires-clause-all : goal.new-requires-clause-all
+new-requires-clause-all g c =
+    let made = c.in_ok-units.ensures.made in
+    record {
+      versions = made.versions;
+      services = λ version within. services_size (plan_fields c.args.plan.now) c.args.offered.now.lists c.in_ok-units.units.items made version within;
+    }
 
 pub new-requires-clause-lists : goal.new-requires-clause-lists
 new-requires-clause-lists g c =

@@ -4,17 +4,17 @@ use Rattle.mux_core.proofs.service_packets.packets_of_datagrams.Goals as goal
 
 pub new-packets-requires-clause-least : goal.new-packets-requires-clause-least
 new-packets-requires-clause-least c =
-    least_of_sndus c.args.service.now.unicast c.args.datagrams.now c.args.service.now.kind c.args.pid c.args.counter 0 c.in-Ule.pid c.in-Ule.address c.in-Ule.packing c.in-Ule.is
+    least_of_sndus c.args.service.now.unicast c.args.datagrams.now c.args.service.now.kind c.args.pid c.args.counter c.in-Ule.pid c.in-Ule.address c.in-Ule.packing c.in-Ule.is
 
 pub new-packets-requires-in-Mpe-clause-least : goal.new-packets-requires-in-Mpe-clause-least
-new-packets-requires-in-Mpe-clause-least c = least_of_sections c.args.service.now.unicast c.args.datagrams.now c.args.service.now.kind c.args.pid c.args.counter 0 c.in-Mpe.pid c.in-Mpe.is
+new-packets-requires-in-Mpe-clause-least c = least_of_sections c.args.service.now.unicast c.args.datagrams.now c.args.service.now.kind c.args.pid c.args.counter c.in-Mpe.pid c.in-Mpe.is
 
 pub returns-in-Ule-clause-written : goal.returns-in-Ule-clause-written
-returns-in-Ule-clause-written c = λ number.
+returns-in-Ule-clause-written c = λ schedule.
     c.new-packets.ensures.written
-    ∙ packets_of_sndus c.args.service.now.unicast c.args.datagrams.now c.args.service.now.kind c.args.pid c.args.counter number c.in-Ule.pid c.in-Ule.address c.in-Ule.packing c.in-Ule.is
+    ∙ packets_of_sndus c.args.service.now.unicast c.args.datagrams.now c.args.service.now.kind c.args.pid c.args.counter c.in-Ule.pid c.in-Ule.address c.in-Ule.packing c.in-Ule.is schedule
 
 pub returns-in-Mpe-clause-written : goal.returns-in-Mpe-clause-written
-returns-in-Mpe-clause-written c = λ number.
+returns-in-Mpe-clause-written c = λ schedule.
     c.new-packets-in-Mpe.ensures.written
-    ∙ packets_of_sections c.args.service.now.unicast c.args.datagrams.now c.args.service.now.kind c.args.pid c.args.counter number c.in-Mpe.pid c.in-Mpe.is
+    ∙ packets_of_sections c.args.service.now.unicast c.args.datagrams.now c.args.service.now.kind c.args.pid c.args.counter c.in-Mpe.pid c.in-Mpe.is schedule

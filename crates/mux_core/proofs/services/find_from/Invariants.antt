@@ -2,9 +2,9 @@
 use Rattle.std.proofs.Common.{◌≡◌, ◌-◌, map}
 use Rattle.std.specs.Prelude.{find}
 use Rattle.std.specs.List.{range_with_len}
-use Rattle.mux_core.specs.Services.{packets_in, has_packets}
+use Rattle.mux_core.specs.Services.{turns_in_service, has_packets}
 use Rattle.mux_core.proofs.services.find_from.Given as goal
 
 abbrev pub invariant-loop-k : goal.invariant-loop-k
 invariant-loop-k l =
-    find (has_packets (map packets_in l.services)) (range_with_len l.from (l.to - l.from)) ≡ find (has_packets (map packets_in l.services)) (range_with_len l.k (l.to - l.k))
+    find (has_packets (map turns_in_service l.services)) (range_with_len l.from (l.to - l.from)) ≡ find (has_packets (map turns_in_service l.services)) (range_with_len l.k (l.to - l.k))

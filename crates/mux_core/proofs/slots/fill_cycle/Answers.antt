@@ -1,4 +1,4 @@
-use Rattle.std.proofs.Common.{◌≡◌, ◌+◌, ◌-◌, ◌%◌, ◌≤◌, ◌∙◌, ℕ, refl, sym, ap, arith, subst, None}
+use Rattle.std.proofs.Common.{◌≡◌, ◌+◌, ◌-◌, ◌%◌, ◌≤◌, ◌∙◌, ℕ, refl, sym, ap, arith, subst}
 use Rattle.std.proofs.lemmas.Result.{err_from_is_err_and}
 use Rattle.ipe_io.proofs.Told.{stays-refl, stays-trans}
 use Rattle.plan_spec.specs.Plan.{PlanFields}
@@ -35,7 +35,6 @@ loop-slot-init g c = record {
       subst (λ (n : ℕ). AreHanded part n held (g.K.Sink.told c.args.sink.now).held before c.args.batch.now) (no_more place c.args.from) handed;
   from = omega arith;
   most = end_from c.args.plan.now.cycle (omega (arith, some_cycle c.args.plan.now)) c.args.from;
-  out = c.requires.out;
   room = c.requires.room;
   behind = refl;
   flushed = stays-refl (g.K.Sink.told c.args.sink.now).flushed;
@@ -52,12 +51,11 @@ loop-slot-preserved g c = record {
       let at : ℕ = place + (c.loop-slot.slot - c.args.from) in
       let now = c.loop-slot.invariant.stand part place begins in
       subst (λ (n : ℕ). AreHanded part n held (g.K.Sink.told c.put_full.new.sink).held before c.put_full.new.self) (one_more place c.args.from c.loop-slot.slot c.loop-slot.invariant.from)
-      (one_handed (plan_fields c.args.plan.now) part at c.loop-slot.slot None c.add.new.services c.add.new.table held (g.K.Sink.told c.loop-slot.sink).held (g.K.Sink.told c.put_full.new.sink).held
+      (one_handed (plan_fields c.args.plan.now) part at c.loop-slot.slot c.add.new.services c.add.new.table held (g.K.Sink.told c.loop-slot.sink).held (g.K.Sink.told c.put_full.new.sink).held
       before c.loop-slot.batch c.add.new.self (c.add.ensures.added part at now) (c.loop-slot.invariant.handed part place held before begins handed) c.put_full.new.self c.in_ok-put_full.ensures.handed);
   from = omega (arith, c.loop-slot.invariant.from);
   most = goes_up c.args.plan.now.cycle (omega (arith, some_cycle c.args.plan.now)) c.args.from c.loop-slot.slot c.loop-slot.invariant.most
       (λ e. c.loop-slot-test.true (ap (λ (n : ℕ). c.loop-slot.slot % n) c.from.ensures ∙ e));
-  out = omega (arith, c.add.ensures.left, c.loop-slot.invariant.out);
   room = c.in_ok-put_full.ensures.room;
   behind = c.add.ensures.kept.1 ∙ c.loop-slot.invariant.behind;
   flushed = stays-trans (g.K.Sink.told c.args.sink.now).flushed (g.K.Sink.told c.loop-slot.sink).flushed (g.K.Sink.told c.put_full.new.sink).flushed c.loop-slot.invariant.flushed c.in_ok-put_full.ensures.flushed;
@@ -67,11 +65,15 @@ loop-slot-preserved g c = record {
 pub nonzero_rem-slot : goal.nonzero_rem-slot
 nonzero_rem-slot g c = omega (arith, c.from.ensures, some_cycle c.args.plan.now)
 
+pub add-requires-clause-stand : goal.add-requires-clause-stand
+add-requires-clause-stand g c =
+    (c.requires.stand.0, c.requires.stand.1 + (c.loop-slot.slot - c.args.from), c.loop-slot.invariant.stand c.requires.stand.0 c.requires.stand.1 c.requires.stand.2)
+
 pub add-requires-clause-turn : goal.add-requires-clause-turn
 add-requires-clause-turn g c =
     let stand = c.loop-slot.invariant.stand c.requires.stand.0 c.requires.stand.1 c.requires.stand.2 in
-    none_turns (plan_fields c.args.plan.now) c.args.plan.now.whole c.requires.stand.0 (c.requires.stand.1 + (c.loop-slot.slot - c.args.from)) c.loop-slot.slot c.loop-slot.services c.loop-slot.table stand
-    c.loop-slot.invariant.out
+    none_turns (plan_fields c.args.plan.now) c.args.plan.now.whole c.requires.stand.0 c.requires.stand.1 (c.requires.stand.1 + (c.loop-slot.slot - c.args.from)) c.loop-slot.slot c.loop-slot.services c.loop-slot.table stand
+    (omega arith) c.requires.stand.3
 
 pub overflow_add-slot : goal.overflow_add-slot
 overflow_add-slot g c = omega (
@@ -103,7 +105,7 @@ returns-in_err-put_full-clause-filled g c = λ part place held before begins han
     rw failed.1 (record {
       passes = part_handed part (whole_cycles part.plan.cycle place) (at + 1) held (g.K.Sink.told c.loop-slot.sink).held (g.K.Sink.told c.put_full.new.sink).held before so_far.front c.add.new.self
           (omega (arith, below, one_more place c.args.from c.loop-slot.slot c.loop-slot.invariant.from))
-          (added_bytes plan part at c.loop-slot.slot None c.add.new.services c.add.new.table held (g.K.Sink.told c.loop-slot.sink).held (g.K.Sink.told c.put_full.new.sink).held
+          (added_bytes plan part at c.loop-slot.slot c.add.new.services c.add.new.table held (g.K.Sink.told c.loop-slot.sink).held (g.K.Sink.told c.put_full.new.sink).held
           before c.loop-slot.batch c.add.new.self (c.add.ensures.added part at now) so_far)
           so_far.appended c.in_err-put_full.ensures.handed;
       stand = tt;
@@ -121,6 +123,3 @@ returns-clause-filled g c = λ part place held before begins handed.
       passes = (so_far.front, so_far.appended, so_far.bytes_are);
       stand = subst (λ (n : ℕ). StandBefore plan part n c.loop-slot.slot c.loop-slot.services c.loop-slot.table) end (c.loop-slot.invariant.stand part place begins);
     }
-
-pub returns-clause-most : goal.returns-clause-most
-returns-clause-most g c = omega (arith, c.loop-slot.invariant.most, end_near c.args.plan.now c.args.from)

@@ -4,7 +4,6 @@ use Rattle.wire_spec.specs.Content.{Stays}
 use Rattle.plan.specs.PlanView.{plan_fields}
 use Rattle.stream_spec.specs.Parts.{PartFields}
 use Rattle.stream_spec.specs.Stream.{whole_cycles}
-use Rattle.mux_core.specs.Services.{packet_total}
 use Rattle.mux_core.specs.Slots.{StandBefore, AreHanded}
 use Rattle.mux_core.proofs.slots.fill_cycle.Given as goal
 
@@ -16,7 +15,6 @@ invariant-loop-slot g l = record {
       → AreHanded part place held (g.K.Sink.told l.fn.sink).held before l.fn.batch → AreHanded part (place + (l.slot - l.from)) held (g.K.Sink.told l.sink).held before l.batch;
   from : l.from ≤ l.slot;
   most : l.slot ≤ whole_cycles l.plan.cycle l.from;
-  out : packet_total l.services.packets ≡ 0;
   room : length l.batch ≤ 192512;
   behind : l.services.behind ≡ l.fn.services.behind;
   flushed : Stays (g.K.Sink.told l.fn.sink).flushed (g.K.Sink.told l.sink).flushed;

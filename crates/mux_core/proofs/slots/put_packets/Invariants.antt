@@ -1,9 +1,8 @@
 -- In each part that begins so, the records of the slots so far are written or held back, and all stands before the next one.
-use Rattle.std.proofs.Common.{◌≡◌, ◌+◌, ◌-◌, ◌*◌, ◌%◌, ◌≤◌, length}
+use Rattle.std.proofs.Common.{◌≡◌, ◌-◌, ◌^◌, ◌≤◌, length}
 use Rattle.wire_spec.specs.Content.{Stays}
 use Rattle.plan.specs.PlanView.{plan_fields}
 use Rattle.stream_spec.specs.Parts.{PartFields}
-use Rattle.mux_core.specs.Services.{packet_total}
 use Rattle.mux_core.specs.Slots.{StandBefore}
 use Rattle.mux_core.proofs.Ended.{IsUnderWay}
 use Rattle.mux_core.proofs.slots.put_packets.Given as goal
@@ -13,8 +12,6 @@ invariant-loop-turn g l = record {
   under_way : (part : PartFields) → StandBefore (plan_fields l.plan) part 0 l.first l.fn.services l.fn.table
       → IsUnderWay (plan_fields l.plan) part (l.slot - l.first) l.slot (g.K.Sink.told l.fn.sink).held (g.K.Sink.told l.sink).held l.fn.batch l.batch l.services l.table;
   from : l.first ≤ l.slot;
-  few : l.table.count ≤ 23;
-  most : l.slot + (24 * packet_total l.services.packets + (l.table.count - l.slot % l.plan.cycle)) ≤ l.first + (24 * packet_total l.fn.services.packets + 23);
   room : length l.batch ≤ 192512;
   behind : l.services.behind ≡ l.fn.services.behind;
   flushed : Stays (g.K.Sink.told l.fn.sink).flushed (g.K.Sink.told l.sink).flushed;
@@ -22,4 +19,4 @@ invariant-loop-turn g l = record {
 }
 
 abbrev pub decreases-loop-turn : goal.decreases-loop-turn
-decreases-loop-turn g l = 24 * packet_total l.services.packets + (l.table.count - l.slot % l.plan.cycle)
+decreases-loop-turn g l = 2 ^ 64 - l.slot

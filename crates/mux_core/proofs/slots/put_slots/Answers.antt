@@ -1,3 +1,4 @@
+use Rattle.std.proofs.Common.{arith}
 use Rattle.std.proofs.lemmas.Result.{err_from_is_err_and}
 use Rattle.plan_spec.specs.Plan.{PlanFields}
 use Rattle.plan.specs.PlanView.{plan_fields}
@@ -8,7 +9,13 @@ use Rattle.mux_core.proofs.slots.put_slots.Goals as goal
 pub fill_cycle-requires-clause-stand : goal.fill_cycle-requires-clause-stand
 fill_cycle-requires-clause-stand g c =
     let wrote = c.in_ok-slot.ensures.written c.requires.stand.0 c.requires.stand.1 in
-    (c.requires.stand.0, wrote.least, wrote.stand)
+    (c.requires.stand.0, wrote.least, wrote.stand, wrote.count.over)
+
+-- the end of the last cycle has a number too
+pub fill_cycle-requires-clause-few : goal.fill_cycle-requires-clause-few
+fill_cycle-requires-clause-few g c =
+    let wrote = c.in_ok-slot.ensures.written c.requires.stand.0 c.requires.stand.1 in
+    omega (arith, c.requires.stand.2 wrote.least wrote.count, wrote.stand.place, c.requires.stand.1.place)
 
 pub returns-in_err-slot-clause-written : goal.returns-in_err-slot-clause-written
 returns-in_err-slot-clause-written g c = λ part begins.

@@ -24,6 +24,6 @@ returns-clause-added c = λ part place stand.
       ap length c.self.view_is,
       length-take-le fill items c.self.invariant.0,
     ) in
-    record_added plan part place c.args.slot c.args.turn c.write_record.new.services c.write_record.new.table items rest c.write_record.new.into fill c.write_record.result c.args.self.now c.self.view_is c.self.invariant.0 wrote _
+    record_added plan part place c.args.slot c.write_record.new.services c.write_record.new.table items rest c.write_record.new.into fill c.write_record.result c.args.self.now c.self.view_is c.self.invariant.0 wrote _
     (rest_written items seen rest c.write_record.new.into c.self.inside.buffer.len fill c.deref_mut.ensures.value c.self.inside.buffer.ok.0 c.self.invariant.0 refl
-    (record_kept plan part place c.args.slot c.args.turn c.write_record.new.services c.write_record.new.table rest c.write_record.new.into c.write_record.result wrote room))
+    (record_kept plan part place c.args.slot c.write_record.new.services c.write_record.new.table rest c.write_record.new.into c.write_record.result wrote room))

@@ -3,14 +3,14 @@ use Rattle.std.specs.Prelude.{slice_get}
 use Rattle.std.proofs.lemmas.List.{length-map, length-append, length-set, get_or-set_same, get_or-set_other}
 use Rattle.std.proofs.lemmas.Bool.{cases_lt}
 use Rattle.plan_spec.specs.Plan.{ServiceFields}
-use Rattle.plan.specs.Parts.{service_seen}
+use Rattle.plan.specs.Parts.{service_seen, kind_seen}
 use Rattle.plan.specs.PlanView.{plan_fields}
 use Rattle.stream_law.proofs.Plans.{few_services}
 use Rattle.mux_core.specs.ServiceUnits.{AreUnitsFor}
 use Rattle.mux_core.specs.Services.{frames_before}
 use Rattle.mux_core.specs.declared.service_units.ServiceUnits.{ServiceUnits}
 use Rattle.mux_core.proofs.Moved.{frames_at}
-use Rattle.mux_core.proofs.Numbers.{frames_next}
+use Rattle.mux_core.proofs.Numbers.{frames_next, frames_most}
 use Rattle.mux_core.proofs.Items.{map_at, each_pushed}
 use Rattle.mux_core.proofs.part_units.PartUnits.new.Goals as goal
 
@@ -35,6 +35,16 @@ units_of_service-requires-clause-few c =
 
 pub units_of_service-requires-clause-frames : goal.units_of_service-requires-clause-frames
 units_of_service-requires-clause-frames c = frames_at c.args.plan.now c.loop-k.k c.at.result.now c.at.ensures.read
+
+-- how many frames the service has
+pub frames-requires : goal.frames-requires
+frames-requires c =
+    omega (
+      arith,
+      c.in_ok-of_service.ensures.frames,
+      frames_most (kind_seen c.at.result.now.kind) c.at-list.result.now,
+      (c.requires.lists.each c.loop-k.k (service_seen c.at.result.now) c.at-list.result.now (map_at service_seen c.args.plan.now.services c.loop-k.k c.at.result.now c.at.ensures.read) c.at-list.ensures.read).few,
+    )
 
 -- the number of the service's first frame in the next part
 pub overflow_add-numbers : goal.overflow_add-numbers
