@@ -1,6 +1,6 @@
 -- A receiver that was given nothing, and what holds of its plan.
 use Rattle.std.proofs.Common.{◌≡◌, inl, inr, ℕ, zero, suc, ◌+◌, Bool, true, false, ◌&&◌, ◌||◌, eqb, Option, None, Some, List, [], ◌∷◌, ◌++◌, length, map, take, drop, get_or, refl, ap, sym, ◌∙◌, subst, arith}
-use Rattle.std.specs.Prelude.{◌==◌, not, slice_get, option_map}
+use Rattle.std.specs.Prelude.{◌==◌, not, slice_get, is_some, option_map}
 use Rattle.std.specs.List.{list_all}
 use Rattle.std.proofs.lemmas.Bool.{eqb-true}
 use Rattle.std.proofs.lemmas.List.{map_push}
@@ -109,11 +109,10 @@ right_rows plan services are valid = by_kind (is_plan_of_settings plan) refl
     by_kind false is =
         rows_in_range 0 plan services are (both (is_in_range 0 plan) _ (ap (λ (b : Bool). b || is_plan_of_pid plan) (sym is) ∙ valid)).0
 
--- a service that is received has no window
-pub no_window : (pid rows parity : ℕ) (window : Option (ℕ × ℕ)) → is_received (fec pid rows parity (option_map window_seen window)) ≡ true
-    → fec pid rows parity (option_map window_seen window) ≡ fec pid rows parity None
-no_window pid rows parity None known = refl
-no_window pid rows parity (Some w) known = absurd (cc)
+-- a service has a window in the definitions where it has one in the code
+pub window_of : (window : Option (ℕ × ℕ)) → is_some (option_map window_seen window) ≡ is_some window
+window_of None = refl
+window_of (Some w) = refl
 
 -- Services.
 

@@ -12,14 +12,13 @@ fn is_known(kind: &Kind) -> bool
     ensures { result ≡ is_received (kind_seen kind.now) }
 {
     match kind {
-        Kind::Ule { .. } | Kind::Mpe { .. } => true,
-        Kind::Fec { window, .. } => window.is_none(),
+        Kind::Ule { .. } | Kind::Mpe { .. } | Kind::Fec { .. } => true,
         Kind::Gse { .. } => false,
     }
 }
 
 /// Whether a receiver can be opened under this plan: all its services are of SNDUs, of datagram_sections, or of MPE-FEC
-/// frames without time slicing.
+/// frames, with time slicing or without.
 pub fn can_receive(plan: &Plan) -> bool
     ensures read { result ≡ are_received (plan_fields plan.now) }
 {

@@ -67,7 +67,7 @@ impl<'a> Receiver<'a> {
         ensures plan { IfOk result (λ receiver. receiver.plan ≡ plan_fields plan.now) }
     {
         let table = open_table(arena, &plan.table, plan.changes.len() as u8)?;
-        let services = open_services(arena, &plan.services)?;
+        let services = open_services(arena, &plan.services, plan.recording)?;
         Ok(Receiver {
             plan,
             is_open: true,

@@ -1,11 +1,12 @@
 //! The receiver of one service: its PID, the reception of its units there by their kind, and what was counted on PIDs before.
-ghost use Rattle.std.specs.Prelude.{◌≡◌, ℕ, ◌<◌, true, false, List, [], ◌∷◌, ◌++◌, None, Some, IfOk, OnOk, OnErr};
+ghost use Rattle.std.specs.Prelude.{◌≡◌, ℕ, ◌<◌, true, false, List, [], ◌∷◌, ◌++◌, Option, Some, is_some, IfOk, OnOk, OnErr};
 ghost use Rattle.wire_spec.specs.Causes.{HasCause};
 ghost use Rattle.ts_spec.specs.Recording.{RecordingForm, Record};
 ghost use Rattle.section_spec.specs.Mpe.{IsRows};
-ghost use Rattle.plan_spec.specs.Plan.{ServiceFields, fec, pid_of};
+ghost use Rattle.slice_spec.specs.Moments.{ten};
+ghost use Rattle.plan_spec.specs.Plan.{ServiceFields, WindowFields, fec, pid_of};
 ghost use Rattle.plan_spec.specs.Built.{is_received};
-ghost use Rattle.plan.specs.Parts.{kind_seen};
+ghost use Rattle.plan.specs.Parts.{form_of, kind_seen};
 ghost use Rattle.reception_law.specs.Words.{added_by, closed_by};
 ghost use Rattle.service_reception.specs.Reception.{packet_record};
 ghost use Rattle.service_reception.specs.Telling.{Told, StopsWithin};
@@ -24,7 +25,7 @@ use bumpalo::Bump;
 use byte_slices::zeros;
 use fec_frame::Table;
 use frame_reception::FrameReception;
-use ipe_io::{Failed, OutOfMemory, Outlet};
+use ipe_io::{Failed, OutOfMemory, Outlet, Recording};
 use plan::Kind;
 use section_codec::SectionForm;
 use service_reception::{Counts, Reception};
@@ -72,11 +73,27 @@ fn mpe_reception(arena: &Bump) -> Result<ByKind<'_>, OutOfMemory>
     Ok(ByKind::Mpe(Reception::over(buffer)))
 }
 
-/// A reception of frames with so many rows, without time slicing, that was given nothing. The table of the frame under way has 255 bytes
-/// and as many marks for each row, and 65 bytes of work.
-fn fec_reception(arena: &Bump, rows: u16) -> Result<ByKind<'_>, OutOfMemory>
+/// Ten milliseconds in the unit of the moments of a recording: microseconds, or ticks at 27 MHz.
+fn ten_milliseconds(recording: Recording) -> u64
+    ensures read { result ≡ ten (form_of recording) }
+{
+    match recording {
+        Recording::Plain | Recording::Stamped => 10_000,
+        Recording::M2ts => 270_000,
+    }
+}
+
+/// A reception of frames with so many rows, with time slicing (`sliced`) or without, that was given nothing. The table of the frame under
+/// way has 255 bytes and as many marks for each row, and 65 bytes of work.
+fn fec_reception(
+    arena: &Bump,
+    rows: u16,
+    sliced: bool,
+    recording: Recording,
+) -> Result<ByKind<'_>, OutOfMemory>
     requires rows { IsRows rows }
-    ensures received { IfOk result (λ reception. (form : RecordingForm) (it : ServiceFields) (pid parity : ℕ) → it.kind ≡ fec pid rows parity None → IsFresh form it reception) }
+    ensures received { IfOk result (λ reception. (it : ServiceFields) (pid parity : ℕ) (window : Option WindowFields) → it.kind ≡ fec pid rows parity window → is_some window ≡ sliced
+        → IsFresh (form_of recording) it reception) }
 {
     let count = usize::from(rows);
     let bytes = zeros(arena, 255 * count)?;
@@ -84,7 +101,8 @@ fn fec_reception(arena: &Bump, rows: u16) -> Result<ByKind<'_>, OutOfMemory>
     let work = zeros(arena, 65 * count)?;
     let buffer = zeros(arena, SectionForm::LONGEST)?;
     let table = Table::over(rows, bytes, marks, work);
-    Ok(ByKind::Fec(FrameReception::over(buffer, table, false, 0)))
+    let ten = ten_milliseconds(recording);
+    Ok(ByKind::Fec(FrameReception::over(buffer, table, sliced, ten)))
 }
 
 impl<'a> ByKind<'a> {
@@ -155,11 +173,15 @@ fn first_receiver(pid: u16, reception: ByKind<'_>) -> ServiceReceiver<'_>
 }
 
 impl<'a> ServiceReceiver<'a> {
-    /// The receiver of a service that was given nothing.
-    pub(crate) fn open(arena: &'a Bump, kind: &Kind) -> Result<ServiceReceiver<'a>, OutOfMemory>
+    /// The receiver of a service that was given nothing of a recording.
+    pub(crate) fn open(
+        arena: &'a Bump,
+        kind: &Kind,
+        recording: Recording,
+    ) -> Result<ServiceReceiver<'a>, OutOfMemory>
         requires received { is_received (kind_seen kind.now) ≡ true }
         requires rows { has_right_rows (kind_seen kind.now) ≡ true }
-        ensures opened { IfOk result (λ receiver. (form : RecordingForm) (it : ServiceFields) → it.kind ≡ kind_seen kind.now → IsOpened form it receiver) }
+        ensures opened { IfOk result (λ receiver. (it : ServiceFields) → it.kind ≡ kind_seen kind.now → IsOpened (form_of recording) it receiver) }
     {
         match *kind {
             Kind::Ule { pid, .. } => match ule_reception(arena) {
@@ -170,7 +192,12 @@ impl<'a> ServiceReceiver<'a> {
                 Ok(reception) => Ok(first_receiver(pid, reception)),
                 Err(error) => Err(error),
             },
-            Kind::Fec { pid, rows, .. } => match fec_reception(arena, rows) {
+            Kind::Fec {
+                pid,
+                rows,
+                window,
+                ..
+            } => match fec_reception(arena, rows, window.is_some(), recording) {
                 Ok(reception) => Ok(first_receiver(pid, reception)),
                 Err(error) => Err(error),
             },

@@ -1,8 +1,7 @@
 //! The receivers of all services of a plan, in its order, and the place of each by its PID.
-ghost use Rattle.std.specs.Prelude.{◌≡◌, ◌==◌, ℕ, ◌≤◌, true, map, IfOk, length};
+ghost use Rattle.std.specs.Prelude.{◌≡◌, ◌==◌, ◌≤◌, true, map, IfOk, length};
 ghost use Rattle.std.specs.List.{list_all, position};
-ghost use Rattle.ts_spec.specs.Recording.{RecordingForm};
-ghost use Rattle.plan.specs.Parts.{kind_seen, service_seen};
+ghost use Rattle.plan.specs.Parts.{form_of, kind_seen, service_seen};
 ghost use Rattle.plan.specs.declared.service.Service.{Service};
 ghost use Rattle.plan_spec.specs.Built.{is_received};
 ghost use Rattle.demux_core.specs.Opening.{AreOpened, has_right_rows};
@@ -11,7 +10,7 @@ ghost use Rattle.demux_core.specs.Places.{AreFound};
 use crate::places::{NO_SERVICE, open_places};
 use crate::service::ServiceReceiver;
 use bumpalo::Bump;
-use ipe_io::OutOfMemory;
+use ipe_io::{OutOfMemory, Recording};
 use plan::ServiceList;
 
 /// The receivers of all services in the plan's order, and for each PID the place of its service.
@@ -25,14 +24,15 @@ pub(crate) struct Services<'a> {
 fn open_receivers<'a>(
     arena: &'a Bump,
     list: &ServiceList,
+    recording: Recording,
 ) -> Result<Vec<ServiceReceiver<'a>, &'a Bump>, OutOfMemory>
     requires known { list_all (λ (it : Service). is_received (kind_seen it.kind)) list.now ≡ true }
     requires rows { list_all (λ (it : Service). has_right_rows (kind_seen it.kind)) list.now ≡ true }
-    ensures opened { IfOk result (λ receivers. (form : RecordingForm) → AreOpened form (map service_seen list.now) receivers.items) }
+    ensures opened { IfOk result (λ receivers. AreOpened (form_of recording) (map service_seen list.now) receivers.items) }
 {
     let mut receivers = Vec::with_capacity(arena, list.len())?;
     for at in 0..list.len() {
-        let receiver = ServiceReceiver::open(arena, &list.at(at).kind)?;
+        let receiver = ServiceReceiver::open(arena, &list.at(at).kind, recording)?;
         receivers.push(receiver)?;
     }
     Ok(receivers)
@@ -42,14 +42,15 @@ fn open_receivers<'a>(
 pub(crate) fn open_services<'a>(
     arena: &'a Bump,
     list: &ServiceList,
+    recording: Recording,
 ) -> Result<Services<'a>, OutOfMemory>
     requires known { list_all (λ (it : Service). is_received (kind_seen it.kind)) list.now ≡ true }
     requires rows { list_all (λ (it : Service). has_right_rows (kind_seen it.kind)) list.now ≡ true }
     requires few { length list.now ≤ 64 }
-    ensures opened { IfOk result (λ services. (form : RecordingForm) → AreOpened form (map service_seen list.now) services.receivers.items) }
+    ensures opened { IfOk result (λ services. AreOpened (form_of recording) (map service_seen list.now) services.receivers.items) }
     ensures found { IfOk result (λ services. AreFound services) }
 {
-    let receivers = open_receivers(arena, list)?;
+    let receivers = open_receivers(arena, list, recording)?;
     let places = open_places(arena, receivers.as_slice())?;
     Ok(Services { receivers, places })
 }

@@ -47,8 +47,7 @@ pub built_both : (kinds : List KindFields) → list_all is_sent kinds ≡ true �
 built_both [] all = refl
 built_both (ule pid address packing ∷ kinds) all = built_both kinds all
 built_both (mpe pid ∷ kinds) all = built_both kinds all
-built_both (fec pid rows parity None ∷ kinds) all = built_both kinds all
-built_both (fec pid rows parity (Some window) ∷ kinds) all = absurd (cc)
+built_both (fec pid rows parity window ∷ kinds) all = built_both kinds all
 built_both (gse isi address ∷ kinds) all = absurd (cc)
 
 -- what is told of the settings file of a job is what is told of that name

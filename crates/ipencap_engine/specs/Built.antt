@@ -5,7 +5,7 @@ use Rattle.settings_spec.specs.Keys.{SettingsFault, out_of_range}
 use Rattle.settings_load.specs.Settings.{Refusal, refused, IsAcceptedFile, IsRefusedFile}
 use Rattle.plan_spec.specs.Built.{are_sent}
 
--- what of a plan is not built yet: baseband frames, or a kind of service: MPE-FEC frames with time slicing, or GSE packets
+-- what of a plan is not built yet: baseband frames, or a kind of service: GSE packets
 abbrev pub unbuilt_fault : PlanFields → Option SettingsFault
 unbuilt_fault plan =
     if is_baseband plan then Some (out_of_range (codes "carrier")) else

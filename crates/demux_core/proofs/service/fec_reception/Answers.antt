@@ -1,12 +1,17 @@
-use Rattle.std.proofs.Common.{ℕ, [], None, subst}
-use Rattle.slice_spec.specs.Sections.{indexed}
+use Rattle.std.proofs.Common.{ℕ, [], ap, sym, ◌∙◌, subst}
+use Rattle.slice_spec.specs.Sections.{Timing}
+use Rattle.time_slice.specs.Views.{timing_of}
+use Rattle.plan.specs.Parts.{form_of}
+use Rattle.frame_spec.specs.Groups.{timing_in}
 use Rattle.frame_reception.specs.Reception as framed
 use Rattle.demux_core.proofs.KindWords.{fresh_kind}
 use Rattle.demux_core.proofs.service.fec_reception.Goals as goal
 
 pub returns : goal.returns
 returns c = record {
-  received = λ form it pid parity is.
-      fresh_kind form it pid c.args.rows parity None _ is
-      (subst (λ (rows : ℕ). framed.HasTaken indexed rows pid c.over.result []) c.over-table.ensures.rows (c.over.ensures.received pid));
+  received = λ it pid parity window is sliced.
+      let timing = ap (timing_of c.args.sliced) c.ten_milliseconds-ten.ensures.read ∙ ap (timing_in (form_of c.args.recording)) (sym sliced) in
+      fresh_kind (form_of c.args.recording) it pid c.args.rows parity window _ is
+      (subst (λ (timing : Timing). framed.HasTaken timing c.args.rows pid c.over.result []) timing
+      (subst (λ (rows : ℕ). framed.HasTaken (timing_of c.args.sliced c.ten_milliseconds-ten.result) rows pid c.over.result []) c.over-table.ensures.rows (c.over.ensures.received pid)));
 }

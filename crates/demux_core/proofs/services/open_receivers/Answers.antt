@@ -1,5 +1,5 @@
 use Rattle.std.proofs.Common.{◌+◌, List, map, take, refl, sym, subst}
-use Rattle.plan.specs.Parts.{service_seen}
+use Rattle.plan.specs.Parts.{form_of, service_seen}
 use Rattle.plan_spec.specs.Built.{is_received}
 use Rattle.demux_core.specs.Opening.{AreOpened, has_right_rows}
 use Rattle.demux_core.specs.declared.service.ServiceReceiver.{ServiceReceiver}
@@ -13,7 +13,7 @@ open-requires c = record {
 }
 
 pub loop-at-preserved : goal.loop-at-preserved
-loop-at-preserved c = λ form.
-    subst (λ (t : List ServiceReceiver). AreOpened form (map service_seen (take (c.loop-at.at + 1) c.args.list.now)) t) (sym c.in_ok-push.ensures.items)
-    (opened_next form c.args.list.now c.loop-at.receivers.items c.loop-at.at c.at.result.now c.in_ok-receiver.receiver c.at.ensures.read (c.loop-at.invariant form)
-    (c.in_ok-receiver.ensures.opened form (service_seen c.at.result.now) refl))
+loop-at-preserved c =
+    subst (λ (t : List ServiceReceiver). AreOpened (form_of c.args.recording) (map service_seen (take (c.loop-at.at + 1) c.args.list.now)) t) (sym c.in_ok-push.ensures.items)
+    (opened_next (form_of c.args.recording) c.args.list.now c.loop-at.receivers.items c.loop-at.at c.at.result.now c.in_ok-receiver.receiver c.at.ensures.read c.loop-at.invariant
+    (c.in_ok-receiver.ensures.opened (service_seen c.at.result.now) refl))

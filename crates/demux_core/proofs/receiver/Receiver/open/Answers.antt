@@ -1,6 +1,5 @@
 use Rattle.std.proofs.Common.{ℕ, ◌≤◌, ◌∙◌, false, [], map, refl, ap, sym, subst, arith}
 use Rattle.std.proofs.lemmas.List.{length-map}
-use Rattle.ts_spec.specs.Recording.{plain}
 use Rattle.plan.specs.Parts.{service_seen, change_seen}
 use Rattle.plan.specs.PlanView.{plan_fields}
 use Rattle.plan.proofs.RouteLemmas.{plans_are_small}
@@ -27,7 +26,7 @@ open_services-requires-clause-few c = subst (λ (n : ℕ). n ≤ 64) (length-map
 pub invariant_of-result : goal.invariant_of-result
 invariant_of-result c = (
   record {
-    count_is = as_many plain (map service_seen c.args.plan.now.services) c.in_ok-services.services.receivers.items (c.in_ok-services.ensures.opened plain);
+    count_is = as_many (plan_fields c.args.plan.now).recording (map service_seen c.args.plan.now.services) c.in_ok-services.services.receivers.items c.in_ok-services.ensures.opened;
     few = plans_are_small (plan_fields c.args.plan.now) c.args.plan.now.valid;
     right_changes = right_changes (plan_fields c.args.plan.now) c.args.plan.now.whole;
     few_changes = changes_are_few (plan_fields c.args.plan.now) c.args.plan.now.whole;
@@ -44,7 +43,7 @@ returns-clause-received c = record {
   all = record {
     services = subst (λ (v : ℕ). HaveReceived false (plan_fields c.args.plan.now) v c.in_ok-services.services.receivers.items []) (sym (first (plan_fields c.args.plan.now)))
         (received_nothing (plan_fields c.args.plan.now) c.in_ok-services.services.receivers.items (before_none (plan_fields c.args.plan.now)) (units_before_none (plan_fields c.args.plan.now))
-        (frames_before_none (plan_fields c.args.plan.now)) (c.in_ok-services.ensures.opened (plan_fields c.args.plan.now).recording));
+        (frames_before_none (plan_fields c.args.plan.now)) c.in_ok-services.ensures.opened);
     int = c.in_ok-table.ensures.received (plan_fields c.args.plan.now) refl (length-map c.args.plan.now.changes change_seen ∙ sym c.len.ensures.read);
   };
 }

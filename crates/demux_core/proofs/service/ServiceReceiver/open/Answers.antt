@@ -1,25 +1,24 @@
-use Rattle.std.proofs.Common.{◌≡◌, ap, sym, ◌∙◌, subst, None}
+use Rattle.std.proofs.Common.{◌≡◌, ap, sym, ◌∙◌, subst}
 use Rattle.std.specs.Prelude.{option_map}
 use Rattle.plan_spec.specs.Plan.{KindFields, ule, mpe, fec, pid_of}
-use Rattle.plan_spec.specs.Built.{is_received}
-use Rattle.plan.specs.Parts.{window_seen, kind_seen}
+use Rattle.plan.specs.Parts.{form_of, window_seen, kind_seen}
 use Rattle.service_reception.specs.Services.{IsUle, IsMpe}
 use Rattle.demux_core.specs.Opening.{has_right_rows}
-use Rattle.demux_core.proofs.Opened.{are_rows, no_window}
+use Rattle.demux_core.proofs.Opened.{are_rows, window_of}
 use Rattle.demux_core.proofs.service.ServiceReceiver.open.Goals as goal
 
 pub returns-in-Ok : goal.returns-in-Ok
 returns-in-Ok c = record {
-  opened = λ form it is.
+  opened = λ it is.
       let kind : it.kind ≡ ule c.in-Ule.pid c.in-Ule.address c.in-Ule.packing = is ∙ ap kind_seen c.in-Ule.is in
-      c.first_receiver.ensures.opened form it (ap pid_of kind) (c.in-Ok.ensures.received form it (subst (λ (k : KindFields). IsUle k) (sym kind) tt));
+      c.first_receiver.ensures.opened (form_of c.args.recording) it (ap pid_of kind) (c.in-Ok.ensures.received (form_of c.args.recording) it (subst (λ (k : KindFields). IsUle k) (sym kind) tt));
 }
 
 pub returns-in-Ok-mpe_reception : goal.returns-in-Ok-mpe_reception
 returns-in-Ok-mpe_reception c = record {
-  opened = λ form it is.
+  opened = λ it is.
       let kind : it.kind ≡ mpe c.in-Mpe.pid = is ∙ ap kind_seen c.in-Mpe.is in
-      c.first_receiver-in-Ok-mpe_reception.ensures.opened form it (ap pid_of kind) (c.in-Ok-mpe_reception.ensures.received form it (subst (λ (k : KindFields). IsMpe k) (sym kind) tt));
+      c.first_receiver-in-Ok-mpe_reception.ensures.opened (form_of c.args.recording) it (ap pid_of kind) (c.in-Ok-mpe_reception.ensures.received (form_of c.args.recording) it (subst (λ (k : KindFields). IsMpe k) (sym kind) tt));
 }
 
 pub fec_reception-requires : goal.fec_reception-requires
@@ -29,9 +28,9 @@ fec_reception-requires c = record {
 
 pub returns-in-Ok-fec_reception : goal.returns-in-Ok-fec_reception
 returns-in-Ok-fec_reception c = record {
-  opened = λ form it is.
-      let seen : kind_seen c.args.kind.now ≡ fec c.in-Fec.pid c.in-Fec.rows c.in-Fec.parity (option_map window_seen c.in-Fec.window) = ap kind_seen c.in-Fec.is in
-      let kind : it.kind ≡ fec c.in-Fec.pid c.in-Fec.rows c.in-Fec.parity None = is ∙ seen
-      ∙ no_window c.in-Fec.pid c.in-Fec.rows c.in-Fec.parity c.in-Fec.window (sym (ap is_received seen) ∙ c.requires.received) in
-      c.first_receiver-in-Ok-fec_reception.ensures.opened form it (ap pid_of kind) (c.in-Ok-fec_reception.ensures.received form it c.in-Fec.pid c.in-Fec.parity kind);
+  opened = λ it is.
+      let kind : it.kind ≡ fec c.in-Fec.pid c.in-Fec.rows c.in-Fec.parity (option_map window_seen c.in-Fec.window) = is ∙ ap kind_seen c.in-Fec.is in
+      let sliced = window_of c.in-Fec.window ∙ sym c.is_some.ensures in
+      c.first_receiver-in-Ok-fec_reception.ensures.opened (form_of c.args.recording) it (ap pid_of kind)
+      (c.in-Ok-fec_reception.ensures.received it c.in-Fec.pid c.in-Fec.parity (option_map window_seen c.in-Fec.window) kind sliced);
 }
