@@ -36,7 +36,7 @@ pub struct Due<'a> {
 }
 
 /// How many bytes the output and the files take.
-const ROOM: usize = 200_000;
+const ROOM: usize = 5_000_000;
 
 /// The stream of all datagrams.
 pub fn stream_of(alloc: Global, cast: &Cast<'_>) -> Result<Vec<u8>, Fail> {

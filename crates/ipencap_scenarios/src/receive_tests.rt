@@ -1,8 +1,8 @@
 //! What no clause says of `receive SETTINGS`: that a run over objects in memory ends so, with ample memory.
+use crate::send_tests::BASEBAND;
 use ipencap_engine::Status;
 use scenario_runs::expect;
 use std::test::Fail;
-use test_recordings::settings::BURSTS;
 use test_recordings::{
     Failing, FileLeft, Given, Left, Numbers, Report, ServiceReport, faultless, mixed_recording,
     report_of, small_capture,
@@ -156,8 +156,8 @@ static CASES: [Case; 11] = [
         ..REFUSED
     },
     Case {
-        settings: BURSTS,
-        line: "ipencap: settings 4 kind\n",
+        settings: BASEBAND,
+        line: "ipencap: settings 4 carrier\n",
         ..REFUSED
     },
     Case {

@@ -3,11 +3,11 @@
 use ipencap_engine::Status;
 use scenario_runs::expect;
 use std::test::Fail;
-use test_recordings::settings::{BURSTS, FILES};
+use test_recordings::settings::FILES;
 use test_recordings::{Failing, Given, Left, capture_of_files, faultless, packet_of_files};
 
-/// A service in baseband frames, which are not sent so far.
-const BASEBAND: &str = "carrier = \"bb\"
+/// A service in baseband frames, which are neither sent nor received so far.
+pub const BASEBAND: &str = "carrier = \"bb\"
 frame_bytes = 300
 [[service]]
 name = \"files\"
@@ -75,7 +75,7 @@ const NOTHING: Case = Case {
 
 /// The third record begins at byte 112, and has a head of 16 bytes and 10 others; the whole capture has 182 bytes. The input's
 /// calls are a head, two parts of the records, and the end; the output's are all packets and a flush.
-static CASES: [Case; 14] = [
+static CASES: [Case; 13] = [
     Case {
         name: "one datagram",
         datagrams: 1,
@@ -133,13 +133,6 @@ static CASES: [Case; 14] = [
         shelved: "b.toml",
         status: Status::ShelfFault,
         line: "ipencap: fault of the settings file\n",
-        ..NOTHING
-    },
-    Case {
-        name: "a kind that is not built",
-        settings: BURSTS,
-        status: Status::Settings,
-        line: "ipencap: settings 4 kind\n",
         ..NOTHING
     },
     Case {

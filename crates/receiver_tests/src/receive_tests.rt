@@ -315,6 +315,17 @@ fn difference(
     })
 }
 
+/// A difference fails as a text: the case, and what differs.
+fn expect_none(alloc: Global, case: &str, difference: &str) -> Result<(), Fail> {
+    if difference.is_empty() {
+        return Ok(());
+    }
+    let mut text = String::from_str(alloc, case)?;
+    text.push_str(": ")?;
+    text.push_str(difference)?;
+    Err(Fail::new(text))
+}
+
 /// The files of both services, as far as they are added and hold their capture.
 fn files_of<'a>(
     alloc: Global,
@@ -363,17 +374,19 @@ fn two_received(alloc: Global, plan: &Plan, case: &Case<'_>) -> Result<Ended, Fa
     )
 }
 
+/// Receives the recording of a case, and compares what is left.
+fn comes(alloc: Global, plan: &Plan, case: &Case<'_>) -> Result<(), Fail>
+    requires { are_received (plan_fields plan.now) ≡ true }
+{
+    let ended = two_received(alloc, plan, case)?;
+    expect_none(alloc, case.name, difference_of_two(alloc, &ended, case)?)
+}
+
 #[test]
 fn recordings_are_received_and_each_failing_call_ends_it(rt: HostRuntime) -> Result<(), Fail> {
     let plan = plan_of(rt.alloc(), &[INT, ONE_AND_TWO])?;
     for case in &CASES {
-        let ended = two_received(rt.alloc(), &plan, case)?;
-        assert_eq!(rt;
-            difference_of_two(rt.alloc(), &ended, case)?,
-            "",
-            "{}",
-            case.name
-        );
+        comes(rt.alloc(), &plan, case)?;
     }
     Ok(())
 }
@@ -391,8 +404,10 @@ const NO_RECORD: Report = Report {
     table: None,
 };
 
-/// What differs from what must be left of an empty recording.
-fn difference_of_none(alloc: Global, ended: &Ended) -> Result<&'static str, Fail> {
+/// Receives an empty recording, and compares what is left.
+fn none_comes(alloc: Global) -> Result<(), Fail> {
+    let plan = ule_plan(alloc, 256)?;
+    let ended = received(alloc, &plan, &faultless(&[], &[], &[]))?;
     let report = report_of(alloc, &NO_RECORD)?;
     let head = small_capture(alloc, 0)?;
     let files = [FileLeft {
@@ -400,15 +415,16 @@ fn difference_of_none(alloc: Global, ended: &Ended) -> Result<&'static str, Fail
         bytes: &head,
         flushed: 24,
     }];
-    Ok(difference(ended, Ok(()), &report, &files))
+    expect_none(
+        alloc,
+        "no record",
+        difference(&ended, Ok(()), &report, &files),
+    )
 }
 
 #[test]
 fn an_empty_recording_has_a_report(rt: HostRuntime) -> Result<(), Fail> {
-    let plan = ule_plan(rt.alloc(), 256)?;
-    let ended = received(rt.alloc(), &plan, &faultless(&[], &[], &[]))?;
-    assert_eq!(rt; difference_of_none(rt.alloc(), &ended)?, "");
-    Ok(())
+    none_comes(rt.alloc())
 }
 
 /// A call that fails, and what is left of the reception of one service.
@@ -466,31 +482,34 @@ fn difference_of_one(
     Ok(difference(ended, end, report, &files))
 }
 
-/// What differs from what must be left of PID 256.
-fn difference_of_ule(
+/// Compares what is left of PID 256.
+fn expect_ule(
     alloc: Global,
     ended: &Ended,
     end: Result<(), ReceiveFault>,
     file: Held,
-) -> Result<&'static str, Fail> {
+) -> Result<(), Fail> {
     let capture = small_capture(alloc, 1)?;
-    difference_of_one(ended, end, "", "ule.pcap", &capture, file)
+    let difference = difference_of_one(ended, end, "", "ule.pcap", &capture, file)?;
+    expect_none(alloc, "PID 256", difference)
+}
+
+/// Receives PID 256 where a call fails, and compares what is left.
+fn ule_comes(alloc: Global, input: &[u8], case: &OneCase) -> Result<(), Fail> {
+    let fails = [case.fails];
+    let given = Given {
+        fails: &fails,
+        ..faultless(&[], &[], input)
+    };
+    let ended = ule_received(alloc, &given)?;
+    expect_ule(alloc, &ended, case.end, case.file)
 }
 
 #[test]
 fn one_pid_is_received_alone(rt: HostRuntime) -> Result<(), Fail> {
     let input = recording_of_two(rt.alloc(), &INT_OF_TWO, 100)?;
     for case in &ULE_CASES {
-        let fails = [case.fails];
-        let given = Given {
-            fails: &fails,
-            ..faultless(&[], &[], &input)
-        };
-        let ended = ule_received(rt.alloc(), &given)?;
-        assert_eq!(rt;
-            difference_of_ule(rt.alloc(), &ended, case.end, case.file)?,
-            ""
-        );
+        ule_comes(rt.alloc(), &input, case)?;
     }
     Ok(())
 }
@@ -504,12 +523,16 @@ fn received_from_lent(alloc: Global) -> Result<Ended, Fail> {
     Ok(Ended { end, outside })
 }
 
+/// Compares what is left of it.
+fn lent_comes(alloc: Global) -> Result<(), Fail> {
+    let ended = received_from_lent(alloc)?;
+    expect_ule(alloc, &ended, Ok(()), FLUSHED)
+}
+
 /// Records that are lent out of the input's buffer are received as those that are read.
 #[test]
 fn a_recording_is_received_from_a_source_that_lends(rt: HostRuntime) -> Result<(), Fail> {
-    let ended = received_from_lent(rt.alloc())?;
-    assert_eq!(rt; difference_of_ule(rt.alloc(), &ended, Ok(()), FLUSHED)?, "");
-    Ok(())
+    lent_comes(rt.alloc())
 }
 
 /// The file's head, two records, and the head of the third.
@@ -590,37 +613,42 @@ const FRAME_REPORT: Report = Report {
     ..NO_RECORD
 };
 
-/// What differs from what must be left of the frame.
-fn difference_of_frame(
+/// Compares what is left of the frame.
+fn expect_frame(
     alloc: Global,
     ended: &Ended,
     end: Result<(), ReceiveFault>,
     file: Held,
-) -> Result<&'static str, Fail> {
+) -> Result<(), Fail> {
     let capture = small_capture(alloc, 3)?;
     let report = match end {
         Ok(()) => Some(FRAME_REPORT),
         Err(_) => None,
     };
     let report = text_of(alloc, &report)?;
-    difference_of_one(ended, end, &report, "lecture.pcap", &capture, file)
+    let difference = difference_of_one(ended, end, &report, "lecture.pcap", &capture, file)?;
+    expect_none(alloc, "a frame under way", difference)
+}
+
+/// Receives the frame where a call fails, and compares what is left.
+fn frame_comes(alloc: Global, plan: &Plan, case: &OneCase) -> Result<(), Fail>
+    requires { are_received (plan_fields plan.now) ≡ true }
+{
+    let input = packet_of_frame();
+    let fails = [case.fails];
+    let given = Given {
+        fails: &fails,
+        ..faultless(&[], &[], &input)
+    };
+    let ended = received(alloc, plan, &given)?;
+    expect_frame(alloc, &ended, case.end, case.file)
 }
 
 #[test]
 fn a_frame_under_way_at_the_end_is_written(rt: HostRuntime) -> Result<(), Fail> {
     let plan = plan_of(rt.alloc(), &[FRAMES])?;
-    let input = packet_of_frame();
     for case in &FRAME_CASES {
-        let fails = [case.fails];
-        let given = Given {
-            fails: &fails,
-            ..faultless(&[], &[], &input)
-        };
-        let ended = received(rt.alloc(), &plan, &given)?;
-        assert_eq!(rt;
-            difference_of_frame(rt.alloc(), &ended, case.end, case.file)?,
-            ""
-        );
+        frame_comes(rt.alloc(), &plan, case)?;
     }
     Ok(())
 }

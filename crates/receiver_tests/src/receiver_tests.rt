@@ -485,8 +485,22 @@ fn services_do_not_disturb_each_other(rt: HostRuntime) -> Result<(), Fail> {
     Ok(())
 }
 
-/// The plan of one PID: no INT, and the packets of all other PIDs are other. Frames with time slicing and GSE packets are not
-/// known yet.
+/// A service of GSE packets in baseband frames.
+const BASEBAND: &str = "carrier = \"bb\"
+[[service]]
+name = \"files\"
+kind = \"gse\"
+isi = 1
+rules = [\"239.2.0.0/16\"]
+";
+
+/// Whether a receiver knows all services of the settings.
+fn is_known(alloc: Global, settings: &str) -> Result<bool, Fail> {
+    let plan = read_plan(alloc, settings.as_bytes()).map_err(|_| "settings")?;
+    Ok(can_receive(&plan))
+}
+
+/// The plan of one PID: no INT, and the packets of all other PIDs are other. GSE packets are not known yet.
 #[test]
 fn one_pid_is_received_by_itself(rt: HostRuntime) -> Result<(), Fail> {
     let plan = ule_plan(rt.alloc(), 256)?;
@@ -517,8 +531,8 @@ fn one_pid_is_received_by_itself(rt: HostRuntime) -> Result<(), Fail> {
     };
     let ended = ran(rt.alloc(), &plan, &parts, 100)?;
     assert_eq!(rt; difference(&ended, &case), "");
-    let bursts = read_plan(rt.alloc(), BURSTS.as_bytes()).map_err(|_| "settings")?;
-    assert_eq!(rt; can_receive(&bursts), false);
+    assert_eq!(rt; is_known(rt.alloc(), BURSTS)?, true);
+    assert_eq!(rt; is_known(rt.alloc(), BASEBAND)?, false);
     Ok(())
 }
 

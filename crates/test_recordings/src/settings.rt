@@ -57,7 +57,7 @@ rows = 256
 rules = [\"239.1.0.0/16\"]
 ";
 
-/// Settings of a service of MPE-FEC frames with time slicing, which is neither sent nor received so far.
+/// Settings of a service of MPE-FEC frames of 1,024 rows with time slicing.
 pub const BURSTS: &str = "recording = \"stamped\"
 [[service]]
 name = \"lecture\"
