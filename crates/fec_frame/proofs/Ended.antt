@@ -33,8 +33,8 @@ module _ (rows : ℕ) (bytes marks new mid_marks : List ℕ) (mended left : ℕ)
     (sections : List FrameSection) (stands : IsOf rows bytes marks state sections) where
   pub solved_is : 0 < rows → (new_marks : List ℕ) → ((place : ℕ) → is_known_mark (get_or new_marks place 0) ≡ is_known_mark (get_or mid_marks place 0))
       → (AreEdgesMarked rows mid_marks (data_of sections) → AreStartsMarked rows new new_marks (data_of sections))
-      → IsSolved (record { rows = rows; bytes = new; marks = new_marks; state = state }) sections
-  solved_is some new_marks known marked = record {
+      → (now : State) → now.empty ≡ state.empty → IsSolved (record { rows = rows; bytes = new; marks = new_marks; state = now }) sections
+  solved_is some new_marks known marked now empty = record {
     byte = λ place below.
         let at : place / rows * rows + place % rows ≡ place = div-add-mod' place rows in
         marked_same new new_marks mid_marks known place
@@ -43,7 +43,7 @@ module _ (rows : ℕ) (bytes marks new mid_marks : List ℕ) (mended left : ℕ)
         ∙ ap (corrected_byte rows (marked_byte bytes marks)) at
         ∙ byte_same rows (marked_byte bytes marks) (known_byte rows sections) stands.byte place;
     starts = marked (edges_same rows marks mid_marks (data_of sections) solved.start stands.starts);
-    empty = stands.empty;
+    empty = stands.empty ∙ sym empty;
   }
 
   pub mended_is : mended ≡ mended_rows rows (known_byte rows sections)

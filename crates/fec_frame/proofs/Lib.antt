@@ -7,3 +7,4 @@ pub mod Patterns
 pub mod Counting
 pub mod RunsSolved
 pub mod Ended
+pub mod Told

@@ -1,6 +1,6 @@
 -- Marking the starts, place by place.
 use Rattle.std.proofs.Common.{◌≡◌, ◌⊎◌, inl, inr, ℕ, zero, suc, ◌+◌, ◌-◌, ◌*◌, ◌<◌, ◌≤◌, Bool, true, false, ◌||◌, cond, eqb, ltb, List, [], ◌∷◌, ◌++◌, length, get_or, set, take, drop, bit_or, Option, Some, None, refl, ap, ap₂, sym, ◌∙◌, subst, arith, length-set}
-use Rattle.std.proofs.lemmas.Bool.{cases_lt, cases_eq, agree_below_at}
+use Rattle.std.proofs.lemmas.Bool.{cases_lt, cases_eq, agree_below_at, cond-false, ne_eqb}
 use Rattle.std.proofs.lemmas.List.{get_or-set_same, get_or-set_other}
 use Rattle.wire_spec.specs.Bytes.{u16_at}
 use Rattle.wire_spec.specs.Datagram.{version, header_length, total_length, ipv6_length}
@@ -164,6 +164,45 @@ module _ (bytes old marks : List ℕ) (limit place next : ℕ) (up_to : AreMarke
           → (is_start_mark (get_or old q 0) ≡ true) ⊎ ((p : ℕ) × (p < next) × (is_start_mark (get_or marks p 0) ≡ true) × IsEndTold bytes old limit p q)
       by_only q (inl first) = inl first
       by_only q (inr found) = inr (found.0, omega (arith, found.1, order), found.2, found.3)
+
+-- Known zeros tell nothing.
+
+zero_hint : (run : List ℕ) → hint_of (0 ∷ run) ≡ Padding
+zero_hint run = cond-false (eqb (length (0 ∷ run)) 0) More Padding (ne_eqb (length (0 ∷ run)) 0 (λ none. omega (arith, none)))
+
+zero_run : (f : ℕ → Option ℕ) (most place : ℕ) → f place ≡ Some 0 → run_within f (suc most) place ≡ 0 ∷ run_within f most (place + 1)
+unfolding run_within
+zero_run f most place zero_there = ap (λ (o : Option ℕ). run_on o (run_within f most (place + 1))) zero_there
+
+no_end_told : (bytes marks : List ℕ) (limit p q : ℕ) → p < limit → marked_byte bytes marks p ≡ Some 0 → IsEndTold bytes marks limit p q → ⊥
+unfolding marked_run
+no_end_told bytes marks limit p q below zero_there end =
+    let size : limit - p ≡ suc (limit - (p + 1)) = omega (arith, below) in
+    clash end.size
+    (sym end.told ∙ ap (λ (n : ℕ). hint_of (run_within (marked_byte bytes marks) n p)) size ∙ ap hint_of (zero_run (marked_byte bytes marks) (limit - (p + 1)) p zero_there)
+    ∙ zero_hint (run_within (marked_byte bytes marks) (limit - (p + 1)) (p + 1)))
+  where
+    clash : (n : ℕ) → Length n ≡ Padding → ⊥
+    clash n e = cc
+
+pub marked_rest : (bytes old marks : List ℕ) (limit from : ℕ) → from ≤ limit → ((p : ℕ) → from ≤ p → p < limit → marked_byte bytes old p ≡ Some 0)
+    → AreMarkedUpTo bytes old marks limit from → AreMarkedUpTo bytes old marks limit limit
+marked_rest bytes old marks limit from order zeros up_to = record {
+  long = up_to.long;
+  known = up_to.known;
+  kept = up_to.kept;
+  told = λ p q below low start told. by_place p q below low start told (cases_lt p from);
+  only = λ q low start. by_only q (up_to.only q low start);
+}
+  where
+    by_place : (p q : ℕ) → p < limit → q < limit → is_start_mark (get_or marks p 0) ≡ true → IsEndTold bytes old limit p q → (p < from) ⊎ (from ≤ p) → is_start_mark (get_or marks q 0) ≡ true
+    by_place p q below low start told (inl before) = up_to.told p q before low start told
+    by_place p q below low start told (inr after) = absurd (no_end_told bytes old limit p q below (zeros p after below) told)
+
+    by_only : (q : ℕ) → (is_start_mark (get_or old q 0) ≡ true) ⊎ ((p : ℕ) × (p < from) × (is_start_mark (get_or marks p 0) ≡ true) × IsEndTold bytes old limit p q)
+        → (is_start_mark (get_or old q 0) ≡ true) ⊎ ((p : ℕ) × (p < limit) × (is_start_mark (get_or marks p 0) ≡ true) × IsEndTold bytes old limit p q)
+    by_only q (inl first) = inl first
+    by_only q (inr found) = inr (found.0, omega (arith, found.1, order), found.2, found.3)
 
 -- nothing is marked yet
 pub marked_none : (bytes marks : List ℕ) (limit : ℕ) → AreMarkedUpTo bytes marks marks limit 0

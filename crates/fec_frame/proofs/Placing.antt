@@ -200,9 +200,9 @@ unknown_byte bytes marks place unknown = ap (λ (t : Bool). cond t (Some (get_or
 both_tests : {X : Type 0} → true ≡ false → X
 both_tests e = absurd (cc)
 
-pub begun : (rows : ℕ) (bytes marks : List ℕ) (mark : ℕ) → 0 < length marks → ((place : ℕ) → ◌≡◌ {A = ℕ} (get_or marks place 0) 0) → is_start_mark mark ≡ true → is_known_mark mark ≡ is_known_mark 0
-    → IsOf rows bytes (set marks 0 mark) (record { empty = true; frame_ended = false; table_ended = false; end = 0; covered = 0; column = None }) []
-begun rows bytes marks mark some zeros start known = record {
+pub begun : (rows : ℕ) (bytes marks : List ℕ) (mark zeros_from : ℕ) → 0 < length marks → ((place : ℕ) → ◌≡◌ {A = ℕ} (get_or marks place 0) 0) → is_start_mark mark ≡ true → is_known_mark mark ≡ is_known_mark 0
+    → IsOf rows bytes (set marks 0 mark) (record { empty = true; frame_ended = false; table_ended = false; end = 0; covered = 0; column = None; known_to = 0; zeros_from = zeros_from }) []
+begun rows bytes marks mark zeros_from some zeros start known = record {
   byte = λ place. unknown_byte bytes (set marks 0 mark) place (by_known place (cases_eq place 0));
   starts = record { marked = λ place below is. by_edge place is; edge = λ place below is. by_start place is (cases_eq place 0) };
   summary = summary_none;

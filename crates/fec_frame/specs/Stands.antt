@@ -1,11 +1,11 @@
 -- A table stands for the sections that were placed in it.
-use Rattle.std.specs.Prelude.{◌≡◌, ℕ, ◌*◌, ◌<◌, Bool, false, List, [], ◌++◌, length, ◌==◌, Option, option_map, is_some}
+use Rattle.std.specs.Prelude.{◌≡◌, ℕ, ◌*◌, ◌<◌, ◌≤◌, Bool, false, true, List, [], ◌++◌, length, slice_index, ◌==◌, Option, Some, option_map, is_some}
 use Rattle.section_spec.specs.Mpe.{MpeFields, FecFields}
 use Rattle.frame_spec.specs.Sections.{FrameSection, data_of, data_part}
 use Rattle.frame_spec.specs.Known.{first_told, told_byte, known_byte}
 use Rattle.frame_spec.specs.Corrected.{corrected_byte}
 use Rattle.frame_law.specs.Summary.{Summary, is_apart, IsSummaryOf}
-use Rattle.fec_frame.specs.Marks.{marked_byte, AreEdgesMarked, AreStartsMarked}
+use Rattle.fec_frame.specs.Marks.{is_known_mark, marked_byte, AreEdgesMarked, AreStartsMarked}
 use Rattle.fec_frame.specs.declared.place.Column.{Column}
 use Rattle.fec_frame.specs.declared.place.State.{State}
 
@@ -39,6 +39,12 @@ pub record IsOf (rows : ℕ) (bytes marks : List ℕ) (state : State) (sections 
   pub starts : AreEdgesMarked rows marks (data_of sections)
   pub summary : IsSummaryOf sections (summary_of state)
   pub empty : (length sections == 0) ≡ state.empty
+
+-- every byte before `known_to` is known, and every byte of the application data table from `zeros_from` on is known, and 0
+pub record TellsKnown (rows : ℕ) (bytes marks : List ℕ) (state : State) : Type 0 where
+  pub most : state.zeros_from ≤ 191 * rows
+  pub known : (place : ℕ) → place < state.known_to → is_known_mark (slice_index marks place) ≡ true
+  pub zeros : (place : ℕ) → state.zeros_from ≤ place → place < 191 * rows → marked_byte bytes marks place ≡ Some 0
 
 -- the table stands for these sections: it knows the bytes that they tell, and no others
 abbrev pub Stands : TableState → List FrameSection → Type 0

@@ -1,9 +1,9 @@
 //! Datagram_sections placed in a table.
-ghost use Rattle.std.specs.Prelude.{◌≡◌, ◌≢◌, ◌↔◌, ◌+◌, ◌*◌, ◌<◌, ◌≤◌, ◌∷◌, ◌++◌, [], ◌==◌, Bool, List, length, if◌then◌else◌, false, true, ℕ};
+ghost use Rattle.std.specs.Prelude.{◌≡◌, ◌≢◌, ◌↔◌, ◌⊎◌, ◌+◌, ◌-◌, ◌*◌, ◌<◌, ◌≤◌, ◌∷◌, ◌++◌, [], ◌==◌, Bool, List, length, if◌then◌else◌, false, true, ℕ};
 ghost use Rattle.frame_spec.specs.Sections.{FrameSection, data_section};
 ghost use Rattle.frame_spec.specs.Groups.{is_cut_by_table};
 ghost use Rattle.frame_law.specs.Summary.{is_cut_by_summary, summary_more};
-ghost use Rattle.fec_frame.specs.Stands.{IsOf, IsSameSummary, TakesIn, data_fields, summary_of};
+ghost use Rattle.fec_frame.specs.Stands.{IsOf, IsSameSummary, TakesIn, TellsKnown, data_fields, summary_of};
 
 use crate::fill::fill_piece;
 use crate::place::{State, TableAnswer, fill_after, mark_start};
@@ -45,11 +45,32 @@ fn covered_with(covered: usize, end: usize, size: usize) -> usize
     if size == 0 { covered } else { end }
 }
 
+/// Up to where every byte is known, with a datagram more.
+fn known_with(known_to: usize, address: usize, end: usize) -> usize
+    ensures known { (place : ℕ) → place < result → (place < known_to) ⊎ ((address ≤ place) × (place < end)) }
+{
+    if known_to < address || end < known_to {
+        known_to
+    } else {
+        end
+    }
+}
+
 /// What is kept with a datagram_section more.
-fn with_data(state: &State, end: usize, size: usize, is_end: bool, ends: bool) -> State
+fn with_data(
+    state: &State,
+    limit: usize,
+    end: usize,
+    size: usize,
+    is_end: bool,
+    ends: bool,
+) -> State
+    requires size { size ≤ end }
     ensures summary { (delta address : ℕ) (mac datagram : List ℕ) → address + length datagram ≡ end → length datagram ≡ size
         → IsSameSummary (summary_more (summary_of state.now) (data_section (data_fields mac delta address is_end ends datagram))) (summary_of result) }
     ensures some { result.empty ≡ false }
+    ensures known { (place : ℕ) → place < result.known_to → (place < state.now.known_to) ⊎ ((end - size ≤ place) × (place < end)) }
+    ensures zeros { result.zeros_from ≡ (if is_end then end else limit) }
 {
     State {
         empty: false,
@@ -58,6 +79,8 @@ fn with_data(state: &State, end: usize, size: usize, is_end: bool, ends: bool) -
         end,
         covered: covered_with(state.covered, end, size),
         column: state.column,
+        known_to: known_with(state.known_to, end - size, end),
+        zeros_from: if is_end { end } else { limit },
     }
 }
 
@@ -76,6 +99,8 @@ pub fn place_data(
     requires rows_most { rows ≤ 1024 }
     requires bytes_long { length bytes.old ≡ 255 * rows }
     requires marks_long { length marks.old ≡ 255 * rows }
+    requires told { TellsKnown rows bytes.old marks.old state.old }
+    ensures told { TellsKnown rows bytes.new marks.new state.new }
     ensures out_of_table { result ≡ TableAnswer.OutOfTable ↔ (191 * rows < address + length datagram.now) }
     ensures new_frame { (sections : List FrameSection) (mac : List ℕ) (delta : ℕ) → IsOf rows bytes.old marks.old state.old sections → result ≢ TableAnswer.OutOfTable
         → (result ≡ TableAnswer.NewFrame ↔ (is_cut_by_table rows sections (data_section (data_fields mac delta address is_end ends datagram.now)) ≡ true)) }
@@ -92,6 +117,7 @@ pub fn place_data(
     fill_data(bytes, marks, rows, address, is_end, datagram);
     *state = with_data(
         state,
+        191 * rows,
         address + datagram.len(),
         datagram.len(),
         is_end,

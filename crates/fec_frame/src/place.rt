@@ -1,5 +1,5 @@
 //! What is kept of the sections placed in a table, and what a section does to it.
-ghost use Rattle.std.specs.Prelude.{◌≡◌, ◌&&◌, ◌<◌, ◌≤◌, Some, length, slice_index, if◌then◌else◌, ℕ};
+ghost use Rattle.std.specs.Prelude.{◌≡◌, ◌&&◌, ◌<◌, ◌≤◌, Some, length, slice_index, true, if◌then◌else◌, ℕ};
 ghost use Rattle.frame_spec.specs.Known.{is_in};
 ghost use Rattle.fec_frame.specs.Marks.{IsStartSet, is_start_mark, marked_byte};
 
@@ -35,6 +35,17 @@ pub struct State {
     /// Where the last datagram that has bytes ends.
     pub covered: usize,
     pub column: Option<Column>,
+    /// Every byte of the table before this place is known.
+    pub known_to: usize,
+    /// Every byte of the application data table from this place on is known, and 0.
+    pub zeros_from: usize,
+}
+
+/// Answers whether the state tells that every byte of the application data table is known.
+pub fn has_all_data(state: &State) -> bool
+    ensures yes { result ≡ true → state.now.zeros_from ≤ state.now.known_to }
+{
+    state.known_to >= state.zeros_from
 }
 
 /// Marks that a datagram can start at a place.

@@ -3,12 +3,13 @@ ghost use Rattle.std.specs.Prelude.{◌≡◌, ◌+◌, ◌*◌, ◌-◌, ◌<�
 ghost use Rattle.std.specs.List.{range_with_len};
 ghost use Rattle.frame_spec.specs.Sections.{FrameSection};
 ghost use Rattle.fec_frame.specs.Marks.{is_known_mark, is_start_mark};
+ghost use Rattle.fec_frame.specs.Stands.{TellsKnown};
 ghost use Rattle.fec_frame.specs.Runs.{AreRowsSolved, IsColumnMarked, IsMarked, IsPattern, is_good};
 ghost use Rattle.rs_erasure.specs.Values.{HasValues};
 
 use crate::fill::{is_known, with_known};
 use crate::pattern::{pattern_end, unknown_in};
-use crate::run::run_end;
+use crate::place::{State, has_all_data};
 use rs_erasure::{decode_run_with_values, find_run_values};
 
 /// Rows that lacked a byte of the application data table.
@@ -218,21 +219,31 @@ fn solve_lacking(
     RowCounts { mended, left }
 }
 
-/// Answers whether every byte of the application data table is known.
-fn has_all_data(marks: &[u8], rows: usize) -> bool
+/// The state, that tells of no byte that it is known.
+fn without_known(state: &State, rows: usize) -> State
     requires rows_most { rows ≤ 1024 }
-    requires long { length marks.now ≡ 255 * rows }
-    ensures yes { result ≡ true → (place : ℕ) → place < 191 * rows → is_known_mark (slice_index marks.now place) ≡ true }
+    ensures told { (bytes marks : List ℕ) → TellsKnown rows bytes marks result }
+    ensures empty { result.empty ≡ state.now.empty }
 {
-    run_end(marks, 0, 191 * rows) == 191 * rows
+    State {
+        empty: state.empty,
+        frame_ended: state.frame_ended,
+        table_ended: state.table_ended,
+        end: state.end,
+        covered: state.covered,
+        column: state.column,
+        known_to: 0,
+        zeros_from: 191 * rows,
+    }
 }
 
-/// Corrects all rows. Where none lacks application data the columns are not looked at one by one.
+/// Corrects all rows. Where the state tells that none lacks application data, no mark is looked at.
 pub fn solve_rows(
     bytes: &mut [u8],
     marks: &mut [u8],
     work: &mut [u8],
     bad: &mut [u8],
+    state: &mut State,
     rows: usize,
 ) -> RowCounts
     requires rows_most { rows ≤ 1024 }
@@ -240,11 +251,15 @@ pub fn solve_rows(
     requires marks_long { length marks.old ≡ 255 * rows }
     requires work_long { length work.old ≡ 64 * rows }
     requires bad_long { length bad.old ≡ rows }
+    requires told { TellsKnown rows bytes.old marks.old state.old }
     ensures solved { AreRowsSolved rows 0 rows bytes.old marks.old bytes.new marks.new result.mended result.left }
+    ensures told { TellsKnown rows bytes.new marks.new state.new }
+    ensures empty { state.new.empty ≡ state.old.empty }
 {
-    if has_all_data(marks, rows) {
+    if has_all_data(state) {
         RowCounts { mended: 0, left: 0 }
     } else {
+        *state = without_known(state, rows);
         solve_lacking(bytes, marks, work, bad, rows)
     }
 }

@@ -3,8 +3,10 @@ ghost use Rattle.std.specs.Prelude.{◌≡◌, ◌<◌, ◌≤◌, ◌+◌, ◌*
 ghost use Rattle.section_spec.specs.Mpe.{MpeFields};
 ghost use Rattle.fec_frame.specs.Marks.{AreEdgesMarked, AreStartsMarked, IsRun, is_known_mark, is_start_mark};
 ghost use Rattle.fec_frame.specs.Marking.{AreMarkedUpTo};
+ghost use Rattle.fec_frame.specs.Stands.{TellsKnown};
 
 use crate::fill::with_start;
+use crate::place::{State, has_all_data};
 use crate::run::{next_start, run_end};
 use ip_datagram::{Hint, length_hint};
 
@@ -54,17 +56,29 @@ fn mark_at(bytes: &[u8], marks: &mut [u8], place: usize, end: usize, limit: usiz
     run
 }
 
-/// Marks all starts before `limit`.
-pub fn mark_starts(bytes: &[u8], marks: &mut [u8], limit: usize)
-    requires bytes_long { limit ≤ length bytes.now }
-    requires marks_long { limit ≤ length marks.old }
-    ensures known { (place : ℕ) → is_known_mark (slice_index marks.new place) ≡ is_known_mark (slice_index marks.old place) }
-    ensures marked { (rows : ℕ) (sections : List MpeFields) → limit ≡ 191 * rows → AreEdgesMarked rows marks.old sections → AreStartsMarked rows bytes.now marks.new sections }
+/// Where the known bytes end that begin at place 0, if the state tells that they are all before `limit`; else 0.
+fn told_end(state: &State, rows: usize) -> usize
+    requires rows_most { rows ≤ 1024 }
+    ensures run { (bytes marks : List ℕ) → TellsKnown rows bytes marks state.now → 0 < result → IsRun marks (191 * rows) 0 result }
 {
-    let mut end = 0;
-    let mut place = next_start(marks, 0, limit);
-    while place < limit {
+    if has_all_data(state) { 191 * rows } else { 0 }
+}
+
+/// Marks all starts of the application data table. Known zeros at its end tell none.
+pub fn mark_starts(bytes: &[u8], marks: &mut [u8], state: &State, rows: usize)
+    requires rows_most { rows ≤ 1024 }
+    requires bytes_long { 191 * rows ≤ length bytes.now }
+    requires marks_long { 191 * rows ≤ length marks.old }
+    requires told { TellsKnown rows bytes.now marks.old state.now }
+    ensures known { (place : ℕ) → is_known_mark (slice_index marks.new place) ≡ is_known_mark (slice_index marks.old place) }
+    ensures marked { (sections : List MpeFields) → AreEdgesMarked rows marks.old sections → AreStartsMarked rows bytes.now marks.new sections }
+{
+    let limit = 191 * rows;
+    let zeros_from = state.zeros_from;
+    let mut end = told_end(state, rows);
+    let mut place = next_start(marks, 0, zeros_from);
+    while place < zeros_from {
         end = mark_at(bytes, marks, place, end, limit);
-        place = next_start(marks, place + 1, limit);
+        place = next_start(marks, place + 1, zeros_from);
     }
 }

@@ -4,7 +4,7 @@ use crate::data::place_data;
 use crate::fill::is_known;
 use crate::finish::solve_table;
 use crate::parity::place_parity;
-use crate::place::{Column, State, TableAnswer};
+use crate::place::{Column, State, TableAnswer, has_all_data};
 use crate::solving::RowCounts;
 use std::alloc::Allocator;
 use std::marker::Model;
@@ -23,22 +23,23 @@ pub struct Table<A: Allocator> {
 
 impl<A: Allocator> Model for Table<A> {
     ghost use Rattle.std.specs.Prelude.{◌≡◌, ◌*◌, ◌<◌, ◌≤◌, vec_len};
-    ghost use Rattle.fec_frame.specs.Stands.{TableState};
+    ghost use Rattle.fec_frame.specs.Stands.{TableState, TellsKnown};
 
     ghost Value = { TableState };
 
     ghost view = { λ table. record { rows = table.rows; bytes = table.bytes.items; marks = table.marks.items; state = table.state } };
 
-    ghost invariant = { λ table. (vec_len table.bytes ≡ 255 * table.rows) × (vec_len table.marks ≡ 255 * table.rows) × (vec_len table.work ≡ 65 * table.rows) × (0 < table.rows) × (table.rows ≤ 1024) };
+    ghost invariant = { λ table. (vec_len table.bytes ≡ 255 * table.rows) × (vec_len table.marks ≡ 255 * table.rows) × (vec_len table.work ≡ 65 * table.rows) × (0 < table.rows) × (table.rows ≤ 1024) × TellsKnown table.rows table.bytes.items table.marks.items table.state };
 }
 
 impl<A: Allocator> Table<A> {
-    ghost use Rattle.std.specs.Prelude.{◌≡◌, ◌≢◌, ◌↔◌, ◌+◌, ◌*◌, ◌<◌, ◌≤◌, ◌∷◌, ◌++◌, [], Bool, List, length, vec_len, is_some, true, ℕ};
+    ghost use Rattle.std.specs.Prelude.{◌≡◌, ◌≢◌, ◌↔◌, ◌+◌, ◌*◌, ◌<◌, ◌≤◌, ◌∷◌, ◌++◌, [], Bool, List, Some, length, slice_index, vec_len, is_some, true, ℕ};
     ghost use Rattle.section_spec.specs.Mpe.{IsRows};
     ghost use Rattle.frame_spec.specs.Sections.{FrameSection, data_section, parity_section};
     ghost use Rattle.frame_spec.specs.Groups.{is_cut_by_table};
     ghost use Rattle.frame_spec.specs.Known.{known_byte};
     ghost use Rattle.frame_spec.specs.Corrected.{left_rows, mended_rows};
+    ghost use Rattle.fec_frame.specs.Marks.{is_known_mark};
     ghost use Rattle.fec_frame.specs.Stands.{IsSolved, Stands, column_of, data_fields, table_byte};
 
     /// A table without sections. `bytes` and `marks` have 255 bytes for each row, `work` has 65.
@@ -51,9 +52,10 @@ impl<A: Allocator> Table<A> {
         ensures rows { result.rows ≡ rows }
     {
         let mut marks = marks;
-        let state = clear(marks.as_mut_slice());
+        let count = usize::from(rows);
+        let state = clear(marks.as_mut_slice(), count);
         Table {
-            rows: usize::from(rows),
+            rows: count,
             bytes,
             marks,
             work,
@@ -144,6 +146,7 @@ impl<A: Allocator> Table<A> {
             self.bytes.as_mut_slice(),
             self.marks.as_mut_slice(),
             self.work.as_mut_slice(),
+            &mut self.state,
             rows,
         )
     }
@@ -154,6 +157,21 @@ impl<A: Allocator> Table<A> {
         ensures { result ≡ is_some (table_byte self.now at) }
     {
         is_known(self.marks.as_slice()[at])
+    }
+
+    /// Answers whether every byte of the application data table is known, as far as that shows without a look at each.
+    pub fn has_all_data(&self) -> bool
+        ensures { result ≡ true → (place : ℕ) → place < 191 * self.now.rows → is_known_mark (slice_index self.now.marks place) ≡ true }
+    {
+        has_all_data(&self.state)
+    }
+
+    /// From where on every byte of the application data table is known, and 0.
+    pub fn zeros_from(&self) -> usize
+        ensures most { result ≤ 191 * self.now.rows }
+        ensures zeros { (place : ℕ) → result ≤ place → place < 191 * self.now.rows → table_byte self.now place ≡ Some 0 }
+    {
+        self.state.zeros_from
     }
 
     /// Answers whether no section was placed since `over` or the last `clear`.
@@ -169,7 +187,8 @@ impl<A: Allocator> Table<A> {
         ensures stands { Stands self.new [] }
         ensures rows { self.new.rows ≡ self.old.rows }
     {
-        self.state = clear(self.marks.as_mut_slice());
+        let rows = self.rows;
+        self.state = clear(self.marks.as_mut_slice(), rows);
     }
 
     /// The bytes of the table, column by column, for a walk.

@@ -1,7 +1,7 @@
 //! The walk over a table: an iterator of the datagrams in it, in rising places.
-ghost use Rattle.std.specs.Prelude.{◌≡◌, ◌<◌, ◌≤◌, [], ◌∷◌, IfNone, IfSome, length};
+ghost use Rattle.std.specs.Prelude.{◌≡◌, ◌*◌, ◌<◌, ◌≤◌, [], ◌∷◌, Some, IfNone, IfSome, length, ℕ};
 ghost use Rattle.frame_walk.specs.Found.{front_list};
-ghost use Rattle.fec_frame.specs.Marks.{IsRun};
+ghost use Rattle.fec_frame.specs.Marks.{IsRun, marked_byte};
 
 use fec_frame::{Table, next_start, run_end};
 use ip_datagram::front;
@@ -18,17 +18,29 @@ fn front_of(run: &[u8]) -> Option<&[u8]>
     }
 }
 
+/// Where the known bytes end that begin at place 0, if they are known to be all of the application data table; else 0.
+fn first_run<A: Allocator>(table: &Table<A>, limit: usize) -> usize
+    requires limit { limit ≡ 191 * table.now.rows }
+    ensures run { 0 < result → IsRun table.now.marks limit 0 result }
+{
+    if table.has_all_data() { limit } else { 0 }
+}
+
 /// Lends the datagrams of a table out of its bytes.
 #[derive(Drop)]
 pub struct Walk<'t> {
     bytes: &'t [u8],
     marks: &'t [u8],
     limit: usize,
+    /// From here on known zeros stand, with which no datagram begins.
+    zeros_from: usize,
     at: usize,
     run: usize,
     ghost bytes_long: { limit ≤ length bytes.now },
     ghost marks_long: { limit ≤ length marks.now },
     ghost known: { at < run → IsRun marks.now limit at run },
+    ghost zeros_most: { zeros_from ≤ limit },
+    ghost zeros: { (place : ℕ) → zeros_from ≤ place → place < limit → marked_byte bytes.now marks.now place ≡ Some 0 },
 }
 
 impl<'t> Walk<'t> {
@@ -48,8 +60,9 @@ impl<'t> Walk<'t> {
             bytes: table.bytes(),
             marks: table.marks(),
             limit: 191 * table.rows(),
+            zeros_from: table.zeros_from(),
             at: 0,
-            run: 0,
+            run: first_run(table, 191 * table.rows()),
         }
     }
 
@@ -68,14 +81,14 @@ impl<'t> Walk<'t> {
 
     /// Goes past the next start, and answers the datagram that stands there.
     fn step(&mut self) -> Option<&'t [u8]>
-        requires before { self.old.at < self.old.limit }
+        requires before { self.old.at < self.old.zeros_from }
         ensures some { IfSome result (λ d. left_of self.old ≡ d.now ∷ left_of self.new) }
         ensures none { IfNone result (left_of self.old ≡ left_of self.new) }
         ensures at { self.old.at < self.new.at }
-        ensures limit { self.new.limit ≡ self.old.limit }
+        ensures zeros_from { self.new.zeros_from ≡ self.old.zeros_from }
     {
         let bytes = self.bytes;
-        let limit = self.limit;
+        let limit = self.zeros_from;
         let start = next_start(self.marks, self.at, limit);
         if start == limit {
             self.at = limit;
@@ -99,7 +112,7 @@ impl<'t> Iterator for Walk<'t> {
     ghost remaining = { item_count left_of };
 
     fn next(&mut self) -> Option<&'t [u8]> {
-        while self.at < self.limit {
+        while self.at < self.zeros_from {
             if let Some(datagram) = self.step() {
                 return Some(datagram);
             }

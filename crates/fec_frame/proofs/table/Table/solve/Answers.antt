@@ -14,12 +14,12 @@ returns-clause-solved g c = λ sections stands.
     take_at c.solve_table.new.bytes (drop (length c.solve_table.new.bytes) c.self.inside.bytes.items) c.self.inside.bytes.len (omega arith) in
     let marks : take c.self.inside.marks.len (c.solve_table.new.marks ++ drop (length c.solve_table.new.marks) c.self.inside.marks.items) ≡ c.solve_table.new.marks =
     take_at c.solve_table.new.marks (drop (length c.solve_table.new.marks) c.self.inside.marks.items) c.self.inside.marks.len (omega arith) in
-    let solved : IsSolved (record { rows = c.self.inside.rows; bytes = c.solve_table.new.bytes; marks = c.solve_table.new.marks; state = c.self.inside.state }) sections =
-    c.solve_table.ensures.solved c.self.inside.state sections at_slices in
+    let solved : IsSolved (record { rows = c.self.inside.rows; bytes = c.solve_table.new.bytes; marks = c.solve_table.new.marks; state = c.solve_table.new.state }) sections =
+    c.solve_table.ensures.solved sections at_slices in
     subst (λ (l : List ℕ). IsSolved (record {
       rows = c.self.inside.rows;
       bytes = l;
       marks = take c.self.inside.marks.len (c.solve_table.new.marks ++ drop (length c.solve_table.new.marks) c.self.inside.marks.items);
-      state = c.self.inside.state;
+      state = c.solve_table.new.state;
     }) sections) (sym bytes)
-    (subst (λ (l : List ℕ). IsSolved (record { rows = c.self.inside.rows; bytes = c.solve_table.new.bytes; marks = l; state = c.self.inside.state }) sections) (sym marks) solved)
+    (subst (λ (l : List ℕ). IsSolved (record { rows = c.self.inside.rows; bytes = c.solve_table.new.bytes; marks = l; state = c.solve_table.new.state }) sections) (sym marks) solved)
