@@ -1,0 +1,14 @@
+//! The sender's stream in baseband frames: the frames of all services in rotation, one frame each.
+//!
+//! Sending: capture -> pcap_file -> datagram_routing -> [bb_mux] -> Sink.
+//! Begin with `stream_frames`.
+#![tactic(auto)]
+
+mod batch;
+mod rotation;
+mod sending;
+mod service_frames;
+#[cfg(test)]
+mod tests;
+
+pub use sending::{StreamFault, stream_frames};

@@ -1,0 +1,108 @@
+//! Frames of two services in rotation; the bytes are found by hand.
+ghost use Rattle.std.specs.Prelude.{◌≡◌, ◌≤◌, ◌+◌, length, All, IfOk, OnOk};
+ghost use Rattle.gse_pack.specs.Offered.{IsShortDatagram, AreShortDatagrams};
+
+use crate::batch::Batch;
+use crate::rotation::put_in_rotation;
+use crate::service_frames::frames_of;
+use gse_pack::Frames;
+use ip_datagram::{DatagramList, front};
+use ipe_io::MemSink;
+use std::alloc::Global;
+use std::test::Fail;
+
+/// An IPv4 datagram of 280 bytes to 239.1.2.3 (RFC 791 section 3.1).
+fn datagram(alloc: Global) -> Result<Vec<u8>, Fail>
+    ensures { IfOk result (λ bytes. IsShortDatagram bytes.items) }
+{
+    let mut bytes = Vec::from_slice(alloc, &[0x45, 0, 1, 24])?;
+    bytes.extend_from_slice(&[0, 0, 0, 0, 64, 17, 0, 0, 10, 0, 0, 1, 239, 1, 2, 3])?;
+    for _ in bytes.len()..280 {
+        bytes.push(0)?;
+    }
+    match front(&bytes) {
+        Ok(length) => {
+            if length != bytes.len() || length > 65_527 {
+                return Err(Fail::new("a datagram of another length"));
+            }
+            Ok(bytes)
+        }
+        Err(_) => Err(Fail::new("no datagram")),
+    }
+}
+
+/// Puts a datagram after the others of a list.
+#[tactic(auto, using(crate::proofs::Listed::short_pushed))]
+fn add(list: &mut DatagramList, datagram: &[u8]) -> Result<(), Fail>
+    requires datagram { IsShortDatagram datagram.now }
+    requires others { AreShortDatagrams list.old }
+    ensures all { OnOk result (AreShortDatagrams list.new) }
+    ensures count { OnOk result (length list.new ≡ length list.old + 1) }
+{
+    list.push(datagram)?;
+    Ok(())
+}
+
+/// The frames of a list on an ISI, of 300 bytes: each has one datagram, and no room for another.
+fn frames_on(alloc: Global, isi: u8, list: &DatagramList) -> Result<Frames, Fail>
+    requires datagrams { AreShortDatagrams list.now }
+    requires few { length list.now ≤ 3 }
+    ensures fit { IfOk result (λ frames. All (λ frame. length frame ≤ 7274) frames) }
+    ensures few { IfOk result (λ frames. length frames ≤ 393176) }
+{
+    Ok(frames_of(alloc, list, false, [0xFF; 6], isi, 300)?)
+}
+
+/// Whether a frame at the front of the bytes is on this ISI and has one datagram: DFL 2,272 bits, a head of 4 bytes and the datagram.
+fn begins_on(isi: u8, bytes: &[u8]) -> bool {
+    match bytes {
+        [
+            0x50,
+            own,
+            0,
+            0,
+            0x08,
+            0xE0,
+            0,
+            0,
+            0,
+            _,
+            0xE1,
+            0x1A,
+            0x08,
+            0,
+            0x45,
+            ..
+        ] => *own == isi,
+        _ => false,
+    }
+}
+
+/// One frame of ISI 3, none of 4, three of 5: the rest of 5 comes after the last of 3.
+#[test]
+fn frames_go_out_in_rotation(rt: HostRuntime) -> Result<(), Fail> {
+    let alloc = rt.alloc();
+    let bytes = datagram(alloc)?;
+    let none = DatagramList::new(alloc);
+    let mut one = DatagramList::new(alloc);
+    add(&mut one, &bytes)?;
+    let mut three = DatagramList::new(alloc);
+    add(&mut three, &bytes)?;
+    add(&mut three, &bytes)?;
+    add(&mut three, &bytes)?;
+    let services = [
+        frames_on(alloc, 3, &one)?,
+        frames_on(alloc, 4, &none)?,
+        frames_on(alloc, 5, &three)?,
+    ];
+    let mut sink = MemSink::new(alloc, 2_000, &[])?;
+    let mut batch = Batch::new(alloc)?;
+    assert!(rt; put_in_rotation(&services, &mut batch, &mut sink) == Ok(4));
+    let bytes = sink.bytes();
+    assert!(rt; bytes.len() == 1_200);
+    assert!(rt; begins_on(3, bytes));
+    assert!(rt; begins_on(5, &bytes[300..]));
+    assert!(rt; begins_on(5, &bytes[600..]));
+    assert!(rt; begins_on(5, &bytes[900..]));
+    Ok(())
+}
