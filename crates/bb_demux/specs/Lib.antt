@@ -1,0 +1,4 @@
+pub mod Outlets
+pub mod Counts
+pub mod Receiving
+pub mod Finding

@@ -1,0 +1,5 @@
+pub mod Handling
+pub mod Counting
+pub mod Steps
+pub mod Outlets
+pub mod Reception
