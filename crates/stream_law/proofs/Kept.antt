@@ -3,7 +3,6 @@ use Rattle.std.proofs.Common.{◌≡◌, ℕ, zero, suc, get_or, List, [], ◌�
 use Rattle.std.proofs.Math.ListN.{get_or-map}
 use Rattle.plan_spec.specs.Plan.{WindowFields, KindFields, ule, mpe, fec, gse, ServiceFields, MovedFields, PlanFields, pid_of, sliced_of}
 use Rattle.plan_spec.specs.Changes.{with_pid, no_service, services_in, plan_in, service_in, pid_in}
-use Rattle.plan_spec.specs.Built.{is_sent}
 use Rattle.plan_law.proofs.Kept.{kept}
 use Rattle.stream_spec.specs.Units.{FrameSchedule, burst_sizes, frame_count, units_of_kind}
 use Rattle.stream_spec.specs.Services.{kind_at, form_of_kind, carried_by_unit}
@@ -52,16 +51,6 @@ carried_kept plan version k unit = part_kept (λ kind. carried_by_unit kind unit
     stays (ule old address packing) pid = refl
     stays (mpe old) pid = refl
     stays (fec old rows parity window) pid = refl
-    stays (gse isi address) pid = refl
-
-pub sent_kept : (plan : PlanFields) (version k : ℕ) → is_sent (kind_at (plan_in plan version) k) ≡ is_sent (kind_at plan k)
-sent_kept plan version k = part_kept is_sent stays plan version k
-  where
-    stays : (kind : KindFields) (pid : ℕ) → is_sent (with_pid kind pid) ≡ is_sent kind
-    stays (ule old address packing) pid = refl
-    stays (mpe old) pid = refl
-    stays (fec old rows parity None) pid = refl
-    stays (fec old rows parity (Some window)) pid = refl
     stays (gse isi address) pid = refl
 
 pub single_kept : (plan : PlanFields) (version k : ℕ) → is_single (kind_at (plan_in plan version) k) ≡ is_single (kind_at plan k)
