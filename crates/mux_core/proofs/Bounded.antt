@@ -83,7 +83,7 @@ fits_listed plan whole lists datagrams are taken version within k fields is c =
     own = ap sliced_of (sym kind_is) ∙ sym (sliced_kept plan version k) ∙ is
 
     short : AreShort (datagrams version k)
-    short = short_all (datagrams version k) (are_sendable (service.0).kind (datagrams version k) takes.built (is_framed (service.0).kind fields own) takes.datagrams_are)
+    short = short_all (datagrams version k) (are_sendable (service.0).kind (datagrams version k) takes.on_pid (is_framed (service.0).kind fields own) takes.datagrams_are)
 
 -- Slots.
 

@@ -4,7 +4,7 @@ use Rattle.std.proofs.lemmas.List.Elements.{All-head, All-tail}
 use Rattle.section_spec.specs.Mpe.{IsRows}
 use Rattle.unit_stream.specs.Packing.{byte_count}
 use Rattle.plan_spec.specs.Plan.{KindFields, ule, mpe, fec, gse, sliced_of}
-use Rattle.plan_spec.specs.Built.{is_sent}
+use Rattle.mux_core.specs.OnPids.{is_on_pid}
 use Rattle.plan.specs.Parts.{kind_seen}
 use Rattle.plan.specs.declared.service.Kind.{Kind}
 use Rattle.plan.specs.declared.service.Kind.TheVariants.{Fec}
@@ -21,7 +21,7 @@ use Rattle.mux_core.specs.ServiceUnits.{AreOfFrames, AreOfBursts, HasFrames}
 use Rattle.mux_core.proofs.Held.{count_joined}
 
 -- the datagrams of such a service
-pub are_sendable : (kind : KindFields) (ds : List (List ℕ)) → is_sent kind ≡ true → is_single kind ≡ false → AreFor kind ds → AreSendable ds
+pub are_sendable : (kind : KindFields) (ds : List (List ℕ)) → is_on_pid kind ≡ true → is_single kind ≡ false → AreFor kind ds → AreSendable ds
 are_sendable (ule pid address packing) ds sent framed are = absurd (cc)
 are_sendable (mpe pid) ds sent framed are = absurd (cc)
 are_sendable (fec pid rows parity window) ds sent framed are = λ n d less. record { is = (are n d less).is; size = (are n d less).short }
@@ -36,11 +36,11 @@ bytes_most [] are = omega arith
 bytes_most (d ∷ ds) are = omega (arith, are.0, bytes_most ds are.1)
 
 module _ (unicast : List ℕ) (number : ℕ) (ds : List (List ℕ)) (rows parity : ℕ) where
-  made_of : (kind : KindFields) (made : FrameUnits) → is_sent kind ≡ true → is_single kind ≡ false → sliced_of kind ≡ None → HasFrames kind → AreFor kind ds → length ds < 2 ^ 32
+  made_of : (kind : KindFields) (made : FrameUnits) → is_on_pid kind ≡ true → is_single kind ≡ false → sliced_of kind ≡ None → HasFrames kind → AreFor kind ds → length ds < 2 ^ 32
       → ((schedule : FrameSchedule) → units_of_kind kind unicast schedule ds ≡ units_of_frames rows parity unicast schedule.first (datagrams_by_frame rows ds)) → IsRows rows → parity ≤ 64
       → Holds made (units_of_frames rows parity unicast number (datagrams_by_frame rows ds)) → AreOfFrames kind unicast number ds made
   made_of kind made sent framed unsliced has are few same is_rows most held = record {
-    built = sent;
+    on_pid = sent;
     framed = framed;
     unsliced = unsliced;
     held = λ schedule first.
@@ -56,7 +56,7 @@ module _ (unicast : List ℕ) (number : ℕ) (ds : List (List ℕ)) (rows parity
   }
 
 -- of a service without a window
-module _ (unicast : List ℕ) (number : ℕ) (ds : List (List ℕ)) (kind : Kind) (own rows parity : ℕ) (is : kind ≡ Fec own rows parity None) (sent : is_sent (kind_seen kind) ≡ true) where
+module _ (unicast : List ℕ) (number : ℕ) (ds : List (List ℕ)) (kind : Kind) (own rows parity : ℕ) (is : kind ≡ Fec own rows parity None) (sent : is_on_pid (kind_seen kind) ≡ true) where
   pub is_framed : is_single (kind_seen kind) ≡ false
   is_framed = ap (λ (k : Kind). is_single (kind_seen k)) is
 
@@ -73,7 +73,7 @@ module _ (unicast : List ℕ) (number : ℕ) (ds : List (List ℕ)) (kind : Kind
       (λ schedule. ap (λ (k : Kind). units_of_kind (kind_seen k) unicast schedule ds) is) (has_rows has).0 (let it = has_rows has in it.2) held
 
 -- and of one with it
-module _ (ds : List (List ℕ)) (kind : Kind) (own rows parity : ℕ) (window : ℕ × ℕ) (is : kind ≡ Fec own rows parity (Some window)) (sent : is_sent (kind_seen kind) ≡ true) where
+module _ (ds : List (List ℕ)) (kind : Kind) (own rows parity : ℕ) (window : ℕ × ℕ) (is : kind ≡ Fec own rows parity (Some window)) (sent : is_on_pid (kind_seen kind) ≡ true) where
   pub has_burst_rows : HasFrames (kind_seen kind) → IsRows rows × (1 ≤ parity) × (parity ≤ 64)
   has_burst_rows has = subst (λ (k : Kind). HasFrames (kind_seen k)) is has
 

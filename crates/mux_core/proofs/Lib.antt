@@ -6,7 +6,6 @@ pub mod Served
 pub mod Serviced
 pub mod Moved
 pub mod Signalled
-pub mod OnPids
 pub mod Windowed
 pub mod Rotation
 pub mod Bursting
@@ -25,3 +24,4 @@ pub mod Bounded
 pub mod Recorded
 pub mod Streamed
 pub mod Staged
+pub mod ByCarrier

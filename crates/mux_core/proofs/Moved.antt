@@ -5,7 +5,7 @@ use Rattle.std.proofs.lemmas.List.{length-map}
 use Rattle.std.proofs.lemmas.Option.{slice_get_within}
 use Rattle.plan_spec.specs.Plan.{KindFields, ule, mpe, fec, gse, ServiceFields, MovedFields, kinds, pid_of}
 use Rattle.plan_spec.specs.Changes.{with_pid, no_service, services_in, service_in, pid_in, plan_in}
-use Rattle.plan_spec.specs.Built.{is_sent}
+use Rattle.mux_core.specs.OnPids.{is_on_pid}
 use Rattle.plan_spec.specs.Signalling.{slices_of}
 use Rattle.plan_spec.specs.Checks.{is_between, is_row_count}
 use Rattle.plan_spec.specs.Valid.{is_valid_window, is_valid_kind, is_valid_service, is_plan}
@@ -27,14 +27,14 @@ pub record Stays (old new : ServiceFields) : Type 0 where
   pub service_id : new.service_id ≡ old.service_id
   pub component_tag : new.component_tag ≡ old.component_tag
   pub unicast : new.unicast ≡ old.unicast
-  pub sent : is_sent new.kind ≡ is_sent old.kind
+  pub on_pid : is_on_pid new.kind ≡ is_on_pid old.kind
   pub slices : (rate : ℕ) → slices_of rate new.kind ≡ slices_of rate old.kind
 
-sent_moved : (kind : KindFields) (pid : ℕ) → is_sent (with_pid kind pid) ≡ is_sent kind
-sent_moved (ule old address packing) pid = refl
-sent_moved (mpe old) pid = refl
-sent_moved (fec old rows parity window) pid = refl
-sent_moved (gse isi address) pid = refl
+on_pid_moved : (kind : KindFields) (pid : ℕ) → is_on_pid (with_pid kind pid) ≡ is_on_pid kind
+on_pid_moved (ule old address packing) pid = refl
+on_pid_moved (mpe old) pid = refl
+on_pid_moved (fec old rows parity window) pid = refl
+on_pid_moved (gse isi address) pid = refl
 
 slices_moved : (kind : KindFields) (pid rate : ℕ) → slices_of rate (with_pid kind pid) ≡ slices_of rate kind
 slices_moved (ule old address packing) pid rate = refl
@@ -43,8 +43,8 @@ slices_moved (fec old rows parity window) pid rate = refl
 slices_moved (gse isi address) pid rate = refl
 
 stays_moved : (service : ServiceFields) (found : Option MovedFields) → Stays service (moved_so service found)
-stays_moved service None = record { service_id = refl; component_tag = refl; unicast = refl; sent = refl; slices = λ rate. refl }
-stays_moved service (Some moved) = record { service_id = refl; component_tag = refl; unicast = refl; sent = sent_moved service.kind moved.pid; slices = slices_moved service.kind moved.pid }
+stays_moved service None = record { service_id = refl; component_tag = refl; unicast = refl; on_pid = refl; slices = λ rate. refl }
+stays_moved service (Some moved) = record { service_id = refl; component_tag = refl; unicast = refl; on_pid = on_pid_moved service.kind moved.pid; slices = slices_moved service.kind moved.pid }
 
 -- on its own PID a kind is as it was
 own_pid : (kind : KindFields) (pid : ℕ) → pid_of kind ≡ Some pid → kind ≡ with_pid kind pid
@@ -63,7 +63,7 @@ kind_so : (service : ServiceFields) (found : Option MovedFields) (pid : ℕ) →
 kind_so service None pid e = own_pid service.kind pid e
 kind_so service (Some moved) pid e = kind_moved service.kind moved.pid pid e
 
-some_pid : (kind : KindFields) → is_sent kind ≡ true → pid_of kind ≡ None → ⊥
+some_pid : (kind : KindFields) → is_on_pid kind ≡ true → pid_of kind ≡ None → ⊥
 some_pid (ule own address packing) sent e = absurd (cc)
 some_pid (mpe own) sent e = absurd (cc)
 some_pid (fec own rows parity window) sent e = absurd (cc)
@@ -117,10 +117,10 @@ module _ (plan : Plan) (version k : ℕ) (service : Service) (found : slice_get 
       (has_ranges least (service_in (plan_fields plan) version k)
       (list_all_at (is_valid_service least) (services_in (plan_fields plan) version) k (service_in (plan_fields plan) version k) found_in (ranges (plan_in (plan_fields plan) version) accepted).services)).kind e
 
-  -- a service that is sent has one
-  pub has_pid_in : is_sent (kind_seen service.kind) ≡ true → pid_in (plan_fields plan) version k ≡ None → ⊥
+  -- a service on PIDs has one
+  pub has_pid_in : is_on_pid (kind_seen service.kind) ≡ true → pid_in (plan_fields plan) version k ≡ None → ⊥
   unfolding pid_in
-  has_pid_in sent e = some_pid (service_in (plan_fields plan) version k).kind (stays_in.sent ∙ sent) e
+  has_pid_in sent e = some_pid (service_in (plan_fields plan) version k).kind (stays_in.on_pid ∙ sent) e
 
 -- a version of the code's plan
 pub version_within : (plan : Plan) (version : ℕ) → version ≤ length plan.changes → version ≤ length (plan_fields plan).changes

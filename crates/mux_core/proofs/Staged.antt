@@ -7,7 +7,7 @@ use Rattle.int_spec.specs.Table.{table_bytes}
 use Rattle.plan_spec.specs.Plan.{IntFields, PlanFields}
 use Rattle.plan_spec.specs.Changes.{plan_in, versions}
 use Rattle.plan_spec.specs.Signalling.{table_of, table_packets}
-use Rattle.plan_spec.specs.Built.{are_sent}
+use Rattle.stream_spec.specs.Stream.{are_on_pids}
 use Rattle.plan_spec.specs.Wholes.{is_whole_plan}
 use Rattle.plan.specs.PlanView.{plan_fields}
 use Rattle.plan.specs.declared.plan.Plan.{Plan}
@@ -26,7 +26,6 @@ use Rattle.mux_core.proofs.Signalled.{section_some, few_packets, part_accepted, 
 use Rattle.mux_core.proofs.Again.{counter_is}
 use Rattle.mux_core.proofs.Parted.{Fits, pieces, HasHanded, IsBehind, IsLastOf, part_is, part_begins, counter_behind}
 use Rattle.mux_core.proofs.Streamed.{has_lists, has_pids, units_at, list_most, version_most}
-use Rattle.mux_core.proofs.OnPids.{on_pids}
 use Rattle.mux_core.proofs.Bounded.{fits_listed, slots_few, few_there}
 use Rattle.mux_core.proofs.Ended.{left_none}
 use Rattle.mux_core.proofs.Filled.{end_most, slots_more}
@@ -50,12 +49,12 @@ unit_found units i version made same less is =
     there_is_item units version made less ∙ ap (λ (m : MadeUnits). Some m) (sym (is ∙ ap (λ (j : ℕ). get_or units j made) same))
 
 -- What is written.
-module _ (plan : PlanFields) (whole : is_whole_plan plan ≡ true) (built : are_sent plan ≡ true) (datagrams : ℕ → ℕ → List (List ℕ)) (old new : Option (List ℕ)) where
+module _ (plan : PlanFields) (whole : is_whole_plan plan ≡ true) (on_pids : are_on_pids plan ≡ true) (datagrams : ℕ → ℕ → List (List ℕ)) (old new : Option (List ℕ)) where
   abbrev all : List (List ℕ)
   all = flat_map (pieces plan datagrams (slots_of plan whole datagrams)) (versions plan)
 
   stream : IsStream plan datagrams all
-  stream = is_stream plan datagrams whole (on_pids plan built)
+  stream = is_stream plan datagrams whole on_pids
 
   pub writes_some : {E : Type 0} (e : E) → (m : ℕ) × Appends old new (take m (joined all)) → WritesRecords plan datagrams (Err e) old new
   writes_some e some = record {
@@ -107,13 +106,13 @@ module _ (plan : Plan) (lists : List (List (List (List ℕ)))) (units : List Mad
     pub fits_all : Fits fields datagrams
     fits_all = fits_listed fields plan.whole lists datagrams listed (λ version within. (units_at fields lists units are version within).2.lists_are.taken)
 
-    pub next_begins : (built : are_sent fields ≡ true) (before version slot : ℕ) → version ≡ before + 1 → version ≤ length fields.changes → slot ≡ sum_by slots (earlier version) → (behind : List ℕ)
+    pub next_begins : (on_pids : are_on_pids fields ≡ true) (before version slot : ℕ) → version ≡ before + 1 → version ≤ length fields.changes → slot ≡ sum_by slots (earlier version) → (behind : List ℕ)
         → ((k : ℕ) → k < length fields.services → slice_index behind k ≡ ((part before).packets_before k + length (slice_index_or (service_packets (part before)) k [])) % 16)
         → (serving : Serving) → ((p : PartFields) → HasLists fields version lists (counter_at fields version behind) slot p → Begins p serving) → Begins (part version) serving
-    next_begins built before version slot next within slot_is behind behind_is serving begun =
+    next_begins on_pids before version slot next within slot_is behind behind_is serving begun =
         begun (part version) (has_lists fields datagrams lists listed slots version slot (counter_at fields version behind) within slot_is
         (λ k known. subst (λ (v : ℕ). counter_at fields v behind k ≡ (part v).packets_before k % 16) (sym next)
-        (counter_is fields plan.whole datagrams slots k known (has_pids plan built k known) before (omega (arith, within, next)) behind (behind_is k known))))
+        (counter_is fields plan.whole datagrams slots k known (has_pids plan on_pids k known) before (omega (arith, within, next)) behind (behind_is k known))))
 
     -- the slots of a part are few
     module _ (few : datagram_count lists < 2 ^ 32) (version : ℕ) (within : version ≤ length (plan_fields plan).changes) (made : MadeUnits) (is : slice_get units version ≡ Some made)
@@ -160,16 +159,16 @@ module _ (plan : Plan) (lists : List (List (List (List ℕ)))) (units : List Mad
 
     -- the INT
     module _ (last : ℕ) (last_is : IsLastOf (plan_fields plan) datagrams last) where
-      pub it_is : are_sent fields ≡ true → (version : ℕ) → version ≤ last → IsPartOf fields (part version)
-      it_is built version le = part_is fields datagrams slots plan.whole (each_of fields plan.whole datagrams) last last_is fits_all version le
+      pub it_is : are_on_pids fields ≡ true → (version : ℕ) → version ≤ last → IsPartOf fields (part version)
+      it_is on_pids version le = part_is fields datagrams slots plan.whole (each_of fields plan.whole datagrams) last last_is fits_all version le
 
-      pub table_begins : are_sent fields ≡ true → (version : ℕ) (le : version ≤ last) (made : MadeUnits) → slice_get units version ≡ Some made → (counter : ℕ) (signals : IntPackets)
+      pub table_begins : are_on_pids fields ≡ true → (version : ℕ) (le : version ≤ last) (made : MadeUnits) → slice_get units version ≡ Some made → (counter : ℕ) (signals : IntPackets)
           → ((int : IntFields) → fields.table ≡ Some int → counter ≡ (part version).table_before % 16)
           → ((p : PartFields) → IsPartOf fields p → ((int : IntFields) → p.plan.table ≡ Some int → counter ≡ p.table_before % 16)
           → ((int : IntFields) → p.plan.table ≡ Some int → made.section ≡ table_bytes (table_of p.plan int)) → IsTableAt p 0 signals)
           → IsTableAt (part version) 0 signals
-      table_begins built version le made is counter signals counter_so at =
-          at (part version) (it_is built version le) counter_so (λ int table. (are.each version made is).section_is int table)
+      table_begins on_pids version le made is counter signals counter_so at =
+          at (part version) (it_is on_pids version le) counter_so (λ int table. (are.each version made is).section_is int table)
 
       pub next_counter : (before version : ℕ) → version ≡ before + 1 → version ≤ last → (counter : ℕ)
           → counter ≡ ((part before).table_before + (slots before / fields.cycle * table_packets (plan_in fields before) + min (slots before % fields.cycle) (table_packets (plan_in fields before)))) % 16
@@ -179,17 +178,17 @@ module _ (plan : Plan) (lists : List (List (List (List ℕ)))) (units : List Mad
           ∙ ap (λ (v : ℕ). (part v).table_before % 16) (sym next)
 
       -- all stands before the first slot of a part
-      pub stands : are_sent fields ≡ true → (version : ℕ) (le : version ≤ last) (made : MadeUnits) → slice_get units version ≡ Some made → (counter slot : ℕ) (section : List ℕ) (signals : IntPackets) (serving : Serving)
+      pub stands : are_on_pids fields ≡ true → (version : ℕ) (le : version ≤ last) (made : MadeUnits) → slice_get units version ≡ Some made → (counter slot : ℕ) (section : List ℕ) (signals : IntPackets) (serving : Serving)
           → section ≡ made.section → ((int : IntFields) → fields.table ≡ Some int → counter ≡ (part version).table_before % 16)
           → ((p : PartFields) → IsPartOf fields p → ((int : IntFields) → p.plan.table ≡ Some int → counter ≡ p.table_before % 16)
           → ((int : IntFields) → p.plan.table ≡ Some int → section ≡ table_bytes (table_of p.plan int)) → IsTableAt p 0 signals)
           → slot ≡ sum_by slots (earlier version) → Begins (part version) serving → StandBefore fields (part version) 0 slot serving signals
-      stands built version le made is counter slot section signals serving section_is counter_so at slot_is begins =
+      stands on_pids version le made is counter slot section signals serving section_is counter_so at slot_is begins =
           part_begins fields datagrams slots plan.whole (each_of fields plan.whole datagrams) last last_is fits_all version slot serving signals le slot_is begins
-          (table_begins built version le made is counter signals counter_so (λ p of_plan counted sections. at p of_plan counted (λ int table. section_is ∙ sections int table)))
+          (table_begins on_pids version le made is counter signals counter_so (λ p of_plan counted sections. at p of_plan counted (λ int table. section_is ∙ sections int table)))
 
       -- and before that of the next
-      module _ (built : are_sent (plan_fields plan) ≡ true) (before version : ℕ) (next : version ≡ before + 1) (le : version ≤ last) (slot : ℕ) (old new : Option (List ℕ)) (back : List ℕ)
+      module _ (on_pids : are_on_pids (plan_fields plan) ≡ true) (before version : ℕ) (next : version ≡ before + 1) (le : version ≤ last) (slot : ℕ) (old new : Option (List ℕ)) (back : List ℕ)
           (old_serving serving : Serving) (old_signals signals : IntPackets)
           (behind : IsBehind (plan_fields plan) datagrams (slots_of (plan_fields plan) plan.whole datagrams) before slot old new back old_serving old_signals)
           (begun : (p : PartFields) → HasLists (plan_fields plan) version lists (counter_at (plan_fields plan) version old_serving.behind) slot p → Begins p serving) where
@@ -197,7 +196,7 @@ module _ (plan : Plan) (lists : List (List (List (List ℕ)))) (units : List Mad
         next_handed = subst (λ (v : ℕ). HasHanded fields datagrams slots v slot old new back) (sym next) behind.handed
 
         pub next_begun : Begins (part version) serving
-        next_begun = next_begins built before version slot next (omega (arith, le, last_is.within)) next_handed.slot_is old_serving.behind behind.behind serving begun
+        next_begun = next_begins on_pids before version slot next (omega (arith, le, last_is.within)) next_handed.slot_is old_serving.behind behind.behind serving begun
 
         pub next_stands : (made : MadeUnits) → slice_get units version ≡ Some made → (counter : ℕ) (section : List ℕ) → section ≡ made.section
             → ((p : PartFields) (place : ℕ) (int : IntFields) → p.plan.table ≡ Some int → IsTableAt p place old_signals
@@ -206,5 +205,5 @@ module _ (plan : Plan) (lists : List (List (List (List ℕ)))) (units : List Mad
             → ((int : IntFields) → p.plan.table ≡ Some int → section ≡ table_bytes (table_of p.plan int)) → IsTableAt p 0 signals)
             → StandBefore fields (part version) 0 slot serving signals
         next_stands made is counter section section_is read at =
-            stands built version le made is counter slot section signals serving section_is
+            stands on_pids version le made is counter slot section signals serving section_is
             (λ int table. next_counter before version next le counter (read (part before) (slots before) int table behind.stand.table)) at next_handed.slot_is next_begun

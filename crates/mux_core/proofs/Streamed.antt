@@ -11,7 +11,8 @@ use Rattle.plan_spec.specs.Plan.{KindFields, ule, mpe, fec, gse, ServiceFields, 
 use Rattle.plan_spec.specs.Changes.{with_pid, plan_in, pid_in, service_in}
 use Rattle.plan_spec.specs.Route.{longest_of}
 use Rattle.plan_spec.specs.Offered.{Records, offered_in}
-use Rattle.plan_spec.specs.Built.{is_sent, are_sent}
+use Rattle.mux_core.specs.OnPids.{is_on_pid}
+use Rattle.stream_spec.specs.Stream.{are_on_pids}
 use Rattle.plan.specs.Parts.{service_seen}
 use Rattle.plan.specs.PlanView.{plan_fields}
 use Rattle.plan.specs.declared.plan.Plan.{Plan}
@@ -159,17 +160,17 @@ module _ (plan : PlanFields) (datagrams : ℕ → ℕ → List (List ℕ)) (list
       is_some : (n : ℕ) → 0 < n → ltb 0 n ≡ true
       is_some n less = grind (arith, less)
 
--- each service that is sent has a PID in each version
-pub has_pids : (plan : Plan) → are_sent (plan_fields plan) ≡ true → (k : ℕ) → k < length (plan_fields plan).services → (version : ℕ) → (pid : ℕ) × (pid_in (plan_fields plan) version k ≡ Some pid)
-has_pids plan built k known version = by_pid (pid_in (plan_fields plan) version k) refl
+-- each service has a PID in each version
+pub has_pids : (plan : Plan) → are_on_pids (plan_fields plan) ≡ true → (k : ℕ) → k < length (plan_fields plan).services → (version : ℕ) → (pid : ℕ) × (pid_in (plan_fields plan) version k ≡ Some pid)
+has_pids plan on_pids k known version = by_pid (pid_in (plan_fields plan) version k) refl
   where
     by_pid : (o : Option ℕ) → pid_in (plan_fields plan) version k ≡ o → (pid : ℕ) × (pid_in (plan_fields plan) version k ≡ Some pid)
     by_pid (Some pid) e = (pid, e)
     by_pid None e =
         let service = some_item plan.services k (omega (arith, known, length-map plan.services service_seen)) in
         absurd (has_pid_in plan version k service.0 service.1
-        (list_all_at is_sent (kinds (plan_fields plan)) k (service_seen service.0).kind
-        (map_at (λ (s : ServiceFields). s.kind) (plan_fields plan).services k (service_seen service.0) (map_at service_seen plan.services k service.0 service.1)) built) e)
+        (list_all_at is_on_pid (kinds (plan_fields plan)) k (service_seen service.0).kind
+        (map_at (λ (s : ServiceFields). s.kind) (plan_fields plan).services k (service_seen service.0) (map_at service_seen plan.services k service.0 service.1)) on_pids) e)
 
 -- What was offered.
 
@@ -211,7 +212,7 @@ module _ (plan : PlanFields) (records : Records) (offer : Offered) (stands : IsO
         few,
       )
 
-  module _ (built : are_sent plan ≡ true) (are : (version k : ℕ) → All IsDatagram (offered_in plan records version k))
+  module _ (on_pids : are_on_pids plan ≡ true) (are : (version k : ℕ) → All IsDatagram (offered_in plan records version k))
       (short : (version k : ℕ) → All (λ (datagram : List ℕ). length datagram ≤ longest_of (slice_index_or (kinds (plan_in plan version)) k (mpe 0))) (offered_in plan records version k))
       (few : (version k : ℕ) → length (offered_in plan records version k) ≤ length records) (below : length records < 2 ^ 32) where
     taken_of : (version : ℕ) → AreTaken plan (lists_in plan records version)
@@ -228,7 +229,7 @@ module _ (plan : PlanFields) (records : Records) (offer : Offered) (stands : IsO
             let list_is : datagrams ≡ offered_in plan records version k
             = some_eq datagrams (offered_in plan records version k) (sym there ∙ list_at version k (slice_get_within plan.services k service found)) in
             record {
-              built = list_all_at is_sent (kinds plan) k service.kind kind built;
+              on_pid = list_all_at is_on_pid (kinds plan) k service.kind kind on_pids;
               datagrams_are = subst (λ (ds : List (List ℕ)). AreFor service.kind ds) (sym list_is)
                   (λ n d less. record { is = are version k n d less; short = omega (arith, short version k n d less, kind_is) });
               few = omega (arith, ap (λ (ds : List (List ℕ)). length ds) list_is, few version k, below);

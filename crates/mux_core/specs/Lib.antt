@@ -1,3 +1,4 @@
+pub mod OnPids
 pub mod Sending
 pub mod Units
 pub mod Reading

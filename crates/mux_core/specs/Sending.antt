@@ -7,6 +7,7 @@ use Rattle.plan_spec.specs.Offered.{Records}
 use Rattle.datagram_routing.specs.Offering.{HoldDatagrams, IsOffered}
 use Rattle.datagram_routing.specs.declared.offered.Offered.{Offered}
 use Rattle.stream_spec.specs.Stream.{IsStream}
+use Rattle.carrier_spec.specs.Stream.{IsSentStream}
 use Rattle.mux_core.specs.PartUnits.{MadeUnits, AreUnitsOf}
 use Rattle.mux_core.specs.Services.{frames_before}
 use Rattle.mux_core.specs.declared.sending.Sent.{Sent}
@@ -19,8 +20,16 @@ pub record IsUnderPlan (plan : PlanFields) (offer : Offered) : Type 0 where
   pub datagrams : HoldDatagrams records
   pub few : length records < 2 ^ 32
 
--- a call wrote the stream of these datagrams, by version and service: all of it at Ok, with the number of its packets, and a prefix at Err
+-- a call wrote the stream of these datagrams, by version and service: all of it at Ok, with the number of its packets or frames, and a
+-- prefix at Err
 pub record WritesStream (plan : PlanFields) (datagrams : ℕ → ℕ → List (List ℕ)) (result : Result Sent MuxFault) (old new : Option (List ℕ)) : Type 0 where
+  pub pieces : List (List ℕ)
+  pub stream : IsSentStream plan datagrams pieces
+  pub written : Puts result old new (joined pieces)
+  pub packets : IfOk result (λ sent. sent.packets ≡ length pieces)
+
+-- a call wrote the stream of transport packets
+pub record WritesPackets (plan : PlanFields) (datagrams : ℕ → ℕ → List (List ℕ)) (result : Result Sent MuxFault) (old new : Option (List ℕ)) : Type 0 where
   pub records : List (List ℕ)
   pub stream : IsStream plan datagrams records
   pub written : Puts result old new (joined records)

@@ -3,7 +3,7 @@ use Rattle.std.specs.Prelude.{◌≡◌, ℕ, ◌≤◌, ◌^◌, true, false, L
 use Rattle.section_spec.specs.Mpe.{IsRows}
 use Rattle.plan_spec.specs.Plan.{KindFields, ule, mpe, fec, gse, SlicedFields, sliced_of}
 use Rattle.plan_spec.specs.Signalling.{burst_duration}
-use Rattle.plan_spec.specs.Built.{is_sent}
+use Rattle.mux_core.specs.OnPids.{is_on_pid}
 use Rattle.stream_law.specs.Words.{is_single}
 use Rattle.stream_spec.specs.Units.{FrameSchedule, units_of_kind}
 use Rattle.frame_units.specs.Held.{Holds}
@@ -21,7 +21,7 @@ pub record AreSingle (kind : KindFields) (unicast : List ℕ) (datagrams : List 
 -- the datagrams stand in frames without time slicing, of which the first has this number, and their units were made: these are the same
 -- whenever they go out
 pub record AreOfFrames (kind : KindFields) (unicast : List ℕ) (number : ℕ) (datagrams : List (List ℕ)) (made : FrameUnits) : Type 0 where
-  pub built : is_sent kind ≡ true
+  pub on_pid : is_on_pid kind ≡ true
   pub framed : is_single kind ≡ false
   pub unsliced : sliced_of kind ≡ None
   pub held : (schedule : FrameSchedule) → schedule.first ≡ number → Holds made (units_of_kind kind unicast schedule datagrams)

@@ -10,7 +10,7 @@ use Rattle.plan_spec.specs.Changes.{plan_in, pid_in, service_in, with_pid}
 use Rattle.plan.specs.Parts.{form_of}
 use Rattle.burst_packets.specs.declared.timing.Timing.{Timing}
 use Rattle.stream_spec.specs.Units.{FrameSchedule, burst_sizes, packets_of_kind, packets_of}
-use Rattle.plan_spec.specs.Built.{is_sent}
+use Rattle.mux_core.specs.OnPids.{is_on_pid}
 use Rattle.stream_spec.specs.Parts.{PartFields, service_packets, sizes_in, written, packet_counts}
 use Rattle.stream_spec.specs.Services.{kind_at}
 use Rattle.stream_spec.specs.Stream.{shares_pid, frame_count_before, schedule_of}
@@ -183,9 +183,9 @@ rotation part = in_rotation (kinds part.plan) (service_packets part)
 abbrev pub shapes_of : PlanFields → List (Option (ℕ × ℕ))
 shapes_of plan = map (λ (kind : KindFields). shape_of (sliced_of kind)) (kinds plan)
 
--- a service that is built, with datagrams that it takes
+-- a service that has a PID, with datagrams that it takes
 pub record Takes (service : ServiceFields) (datagrams : List (List ℕ)) : Type 0 where
-  pub built : is_sent service.kind ≡ true
+  pub on_pid : is_on_pid service.kind ≡ true
   pub datagrams_are : AreFor service.kind datagrams
   pub few : length datagrams < 2 ^ 32
 

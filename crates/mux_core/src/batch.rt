@@ -48,6 +48,9 @@ impl Batch {
     }
 
     /// Writes the record of a slot after the others.
+    ///
+    /// It is inlined, so that no packet pays for a call with all of these.
+    #[inline(always)]
     pub(crate) fn add(
         &mut self,
         plan: &Plan,

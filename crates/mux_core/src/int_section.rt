@@ -4,7 +4,6 @@ ghost use Rattle.std.specs.List.{list_all};
 ghost use Rattle.int_spec.specs.Table.{IsRule, table_bytes};
 ghost use Rattle.plan_spec.specs.Signalling.{burst_duration, slices_of as slices_of_kind, table_of as table_of_plan};
 ghost use Rattle.plan_spec.specs.Valid.{is_valid_rule};
-ghost use Rattle.plan_spec.specs.Built.{is_sent, are_sent};
 ghost use Rattle.plan_spec.specs.Changes.{plan_in};
 ghost use Rattle.plan.specs.Parts.{int_seen, kind_seen};
 ghost use Rattle.plan.specs.PlanView.{plan_fields};
@@ -62,9 +61,8 @@ fn duration_of(packet_rate: u32, slots: u32) -> u8
     ((micros.max(1) - 1) / DURATION_UNIT) as u8
 }
 
-/// The first bytes of the time_slice_fec_identifier_descriptor of a service that is sent, where it has frames (EN 301 192 clause 9.5).
+/// The first bytes of the time_slice_fec_identifier_descriptor of a service that has frames (EN 301 192 clause 9.5).
 fn slices_of(packet_rate: u32, kind: &Kind) -> Option<[u8; 3]>
-    requires sent { is_sent (kind_seen kind.now) ≡ true }
     requires frames { HasFrames (kind_seen kind.now) }
     requires rate { 0 < packet_rate }
     requires short { HasShortBursts packet_rate (kind_seen kind.now) }
@@ -94,7 +92,6 @@ fn entry_of(
 ) -> Result<IntEntry, OutOfMemory>
     requires rate { 0 < packet_rate }
     requires rules { list_all is_valid_rule rules.now ≡ true }
-    requires sent { is_sent (kind_seen service.now.kind) ≡ true }
     requires frames { HasFrames (kind_seen service.now.kind) }
     requires short { HasShortBursts packet_rate (kind_seen service.now.kind) }
     ensures rules { IfOk result (λ entry. entry.rules ≡ rules.now) }
@@ -113,7 +110,6 @@ fn entry_of(
 
 /// The INT of a version of a plan.
 fn table_of(alloc: Global, plan: &Plan, version: u8, int: &IntPlan) -> Result<IntTable, OutOfMemory>
-    requires built { are_sent (plan_fields plan.now) ≡ true }
     requires version { version ≤ length plan.now.changes }
     requires int { (plan_fields plan.now).table ≡ Some (int_seen int.now) }
     ensures written { IfOk result (λ table. table ≡ table_of_plan (plan_in (plan_fields plan.now) version) (int_seen int.now)) }
@@ -144,7 +140,6 @@ pub(crate) fn section_of(
     version: u8,
     int: &IntPlan,
 ) -> Result<Vec<u8>, OutOfMemory>
-    requires built { are_sent (plan_fields plan.now) ≡ true }
     requires version { version ≤ length plan.now.changes }
     requires int { (plan_fields plan.now).table ≡ Some (int_seen int.now) }
     ensures written { IfOk result (λ section. section.items ≡ table_bytes (table_of_plan (plan_in (plan_fields plan.now) version) (int_seen int.now))) }

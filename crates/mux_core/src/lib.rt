@@ -1,10 +1,11 @@
-//! The sender's stream: the packets of all services and of the INT, slot by slot.
+//! The sender's stream: the packets of all services and of the INT, slot by slot, or the baseband frames of all services in rotation.
 //!
 //! Sending: capture -> pcap_file -> datagram_routing -> [mux_core] -> Sink.
 //! Begin with `stream`.
 #![tactic(auto)]
 
 mod batch;
+mod carriers;
 mod int_packets;
 mod int_section;
 mod part_units;
@@ -18,5 +19,6 @@ mod stamps;
 mod unit_bytes;
 mod units;
 
+pub use carriers::stream;
 pub use datagram_routing::{Lists, Offered};
-pub use sending::{MuxFault, Sent, stream};
+pub use sending::{MuxFault, Sent};

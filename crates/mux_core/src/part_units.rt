@@ -1,10 +1,9 @@
 //! What a part is sent from: the units of each service, and the section of its INT.
 //!
 //! It is made for all parts before the first packet goes out, so that no memory is wanted later.
-ghost use Rattle.std.specs.Prelude.{◌≡◌, ◌≤◌, true, length, Some, IfOk};
+ghost use Rattle.std.specs.Prelude.{◌≡◌, ◌≤◌, length, Some, IfOk};
 ghost use Rattle.int_spec.specs.Table.{table_bytes};
 ghost use Rattle.plan_spec.specs.Plan.{IntFields};
-ghost use Rattle.plan_spec.specs.Built.{are_sent};
 ghost use Rattle.plan_spec.specs.Changes.{plan_in};
 ghost use Rattle.plan_spec.specs.Signalling.{table_of};
 ghost use Rattle.plan.specs.PlanView.{plan_fields};
@@ -35,7 +34,6 @@ impl Model for PartUnits {
 
 /// The section of the INT of a version, of no bytes without one.
 fn section_in(alloc: Global, plan: &Plan, version: u8) -> Result<Vec<u8>, OutOfMemory>
-    requires built { are_sent (plan_fields plan.now) ≡ true }
     requires version { version ≤ length plan.now.changes }
     ensures written { IfOk result (λ section. (int : IntFields) → (plan_fields plan.now).table ≡ Some int → section.items ≡ table_bytes (table_of (plan_in (plan_fields plan.now) version) int)) }
     ensures most { IfOk result (λ section. length section.items ≤ 4096) }
@@ -47,8 +45,7 @@ fn section_in(alloc: Global, plan: &Plan, version: u8) -> Result<Vec<u8>, OutOfM
 }
 
 impl PartUnits {
-    ghost use Rattle.std.specs.Prelude.{◌≡◌, ◌≤◌, ◌<◌, ◌+◌, [], true, length, get_or, slice_get, Some, IfOk, OnOk};
-    ghost use Rattle.plan_spec.specs.Built.{are_sent};
+    ghost use Rattle.std.specs.Prelude.{◌≡◌, ◌≤◌, ◌<◌, ◌+◌, [], length, get_or, slice_get, Some, IfOk, OnOk};
     ghost use Rattle.plan.specs.PlanView.{plan_fields};
     ghost use Rattle.mux_core.specs.Services.{AreTaken, frames_before};
     ghost use Rattle.mux_core.specs.PartUnits.{AreUnitsOf, AreNumbers, FewFrames};
@@ -61,7 +58,6 @@ impl PartUnits {
         lists: &Lists,
         numbers: &mut [u32],
     ) -> Result<PartUnits, OutOfMemory>
-        requires built { are_sent (plan_fields plan.now) ≡ true }
         requires version { version ≤ length plan.now.changes }
         requires versions { length lists.now ≡ length plan.now.changes + 1 }
         requires lists { AreTaken (plan_fields plan.now) (get_or lists.now version []) }

@@ -1,4 +1,4 @@
-//! What was offered to the services of a plan -> the records of their stream.
+//! What was offered to the services of a plan of transport packets -> the records of their stream.
 ghost use Rattle.std.specs.Prelude.{◌≡◌, ℕ, ◌≤◌, ◌<◌, ◌^◌, ◌+◌, ◌*◌, List, [], get_or, All, OnOk, true, length, sum_by, IfOk, IsErrOf};
 ghost use Rattle.wire_spec.specs.Causes.{Rose};
 ghost use Rattle.wire_spec.specs.Content.{Stays};
@@ -9,8 +9,8 @@ ghost use Rattle.wire_spec.specs.Causes.{HasCause};
 ghost use Rattle.stream_spec.specs.Parts.{PartFields};
 ghost use Rattle.mux_core.specs.Services.{packet_total, AreTaken, HasLists, Begins};
 ghost use Rattle.mux_core.specs.PartUnits.{MadeUnits};
-ghost use Rattle.mux_core.specs.Sending.{IsUnderPlan, WritesStream, WritesRecords, AreUnits, AreDatagrams, datagram_count};
-ghost use Rattle.plan_spec.specs.Built.{are_sent};
+ghost use Rattle.mux_core.specs.Sending.{IsUnderPlan, WritesPackets, WritesRecords, AreUnits, AreDatagrams, datagram_count};
+ghost use Rattle.stream_spec.specs.Stream.{are_on_pids};
 ghost use Rattle.mux_core.specs.declared.sending.MuxFault.TheVariants.{Sink as SinkFault, OutOfMemory as NoMemory};
 
 use crate::batch::Batch;
@@ -27,7 +27,7 @@ use stream_law::there_is_one_stream;
 /// How much was sent.
 #[derive(Clone, Copy, Debug, PartialEq, Eq)]
 pub struct Sent {
-    /// The packets of the stream: one in each slot, null packets among them.
+    /// The packets of the stream: one in each slot, null packets among them. Of a stream in baseband frames its frames.
     pub packets: u64,
     /// The datagrams of all services.
     pub datagrams: u32,
@@ -68,7 +68,7 @@ fn count_in(lists: &Lists, version: u8) -> u32
 }
 
 /// How many datagrams all services have in all versions.
-fn count_datagrams(lists: &Lists) -> u32
+pub(crate) fn count_datagrams(lists: &Lists) -> u32
     requires versions { length lists.now ≤ 32 }
     requires services { All (λ (services : List (List (List ℕ))). length services ≤ 64) lists.now }
     requires few { datagram_count lists.now < 2 ^ 32 }
@@ -101,7 +101,6 @@ fn last_version(lists: &Lists) -> u8
 
 /// What each part is sent from.
 fn units_of(alloc: Global, plan: &Plan, lists: &Lists) -> Result<Vec<PartUnits>, OutOfMemory>
-    requires built { are_sent (plan_fields plan.now) ≡ true }
     requires versions { length lists.now ≡ length plan.now.changes + 1 }
     requires lists { All (AreTaken (plan_fields plan.now)) lists.now }
     requires few { datagram_count lists.now < 2 ^ 32 }
@@ -124,7 +123,7 @@ fn put_parts<'a, K: Sink>(
     batch: &mut Batch,
     sink: &mut K,
 ) -> Result<u64, Failed>
-    requires built { are_sent (plan_fields plan.now) ≡ true }
+    requires on_pids { are_on_pids (plan_fields plan.now) ≡ true }
     requires units { AreUnits (plan_fields plan.now) lists.now units.now }
     requires begun { (part : PartFields) → HasLists (plan_fields plan.now) 0 lists.now (λ k. 0) 0 part → Begins part services.old }
     requires total { packet_total services.old.turns ≤ 2 ^ 54 }
@@ -156,21 +155,21 @@ fn put_parts<'a, K: Sink>(
     Ok(slot)
 }
 
-/// Writes the stream of what was offered under the plan: the packets of its services in rotation or, with time slicing, in bursts, and in each
-/// cycle of slots those of the INT first.
+/// Writes the stream of what was offered under a plan of transport packets: those of its services in rotation or, with time slicing, in
+/// bursts, and in each cycle of slots those of the INT first.
 ///
 /// The services are of SNDUs, of datagram_sections and of MPE-FEC frames, and fewer than 2^32 records were offered.
 /// On an Err a prefix of the stream was written, and nothing when out of memory. Nothing is flushed.
-pub fn stream<K: Sink>(
+pub(crate) fn stream_packets<K: Sink>(
     alloc: Global,
     plan: &Plan,
     offered: &Offered,
     sink: &mut K,
 ) -> Result<Sent, MuxFault>
-    requires built { are_sent (plan_fields plan.now) ≡ true }
+    requires on_pids { are_on_pids (plan_fields plan.now) ≡ true }
     requires offered { IsUnderPlan (plan_fields plan.now) offered.now }
     ensures written { (gives : Records) → IsOffered (plan_fields plan.now) gives offered.now
-        → WritesStream (plan_fields plan.now) (offered_in (plan_fields plan.now) gives) result (K.told sink.old).held (K.told sink.new).held }
+        → WritesPackets (plan_fields plan.now) (offered_in (plan_fields plan.now) gives) result (K.told sink.old).held (K.told sink.new).held }
     ensures datagrams { IfOk result (λ sent. sent.datagrams ≡ datagram_count offered.now.lists) }
     ensures sink { IsErrOf result SinkFault → Rose (K.told sink.old).faults (K.told sink.new).faults }
     ensures memory { IsErrOf result NoMemory → sink.new ≡ sink.old }

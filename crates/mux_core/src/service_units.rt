@@ -1,6 +1,6 @@
 //! The datagrams of a service in one part -> its units, held until they are sent, or where its bursts end.
 ghost use Rattle.std.specs.Prelude.{◌≡◌, ◌<◌, ◌^◌, true, length, IfOk};
-ghost use Rattle.plan_spec.specs.Built.{is_sent};
+ghost use Rattle.mux_core.specs.OnPids.{is_on_pid};
 ghost use Rattle.plan.specs.Parts.{kind_seen};
 ghost use Rattle.stream_spec.specs.Units.{frame_count};
 ghost use Rattle.mux_core.specs.Units.{AreFor};
@@ -30,7 +30,7 @@ pub(crate) fn units_of_service(
     datagrams: &DatagramList,
     first: u32,
 ) -> Result<ServiceUnits, OutOfMemory>
-    requires built { is_sent (kind_seen service.now.kind) ≡ true }
+    requires on_pid { is_on_pid (kind_seen service.now.kind) ≡ true }
     requires frames { HasFrames (kind_seen service.now.kind) }
     requires datagrams { AreFor (kind_seen service.now.kind) datagrams.now }
     requires few { length datagrams.now < 2 ^ 32 }

@@ -2,6 +2,5 @@ pub mod Puts
 pub mod Given
 pub mod Intakes
 pub mod Taking
-pub mod Built
 pub mod Counts
 pub mod Standing

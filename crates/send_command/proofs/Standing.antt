@@ -32,9 +32,9 @@ sends_all plan bytes g sent tally a b c gathered none writes kept offered_is not
     let wrote = writes (given_by bytes gathered.captured) gathered.offered in
     record {
       captured = gathered.captured;
-      stream = wrote.records;
+      stream = wrote.pieces;
       is = record { told = told_as bytes gathered.captured g.fault None none gathered.told; stream_is = wrote.stream };
-      written = Appends-kept a b c (joined wrote.records) wrote.written kept;
+      written = Appends-kept a b c (joined wrote.pieces) wrote.written kept;
       numbers = tally_is plan (given_by bytes gathered.captured) g.offered tally gathered.offered offered_is not_ip unrouted too_long;
     }
 
@@ -44,12 +44,12 @@ pub sends_unflushed : (plan : PlanFields) (bytes : List ℕ) (g : Gathered) (sen
     → SendsFront plan bytes a c
 sends_unflushed plan bytes g sent a b c gathered writes kept =
     let wrote = writes (given_by bytes gathered.captured) gathered.offered in
-    let n : ℕ = length (joined wrote.records) in
+    let n : ℕ = length (joined wrote.pieces) in
     record {
       captured = gathered.captured;
       fault = option_map (λ (found : PlacedFault). found.fault) g.fault;
-      stream = wrote.records;
+      stream = wrote.pieces;
       is = record { told = gathered.told; stream_is = wrote.stream };
       count = n;
-      written = subst (λ (t : List ℕ). Appends a c t) (sym (take_all n (joined wrote.records) (omega arith))) (Appends-kept a b c (joined wrote.records) wrote.written kept);
+      written = subst (λ (t : List ℕ). Appends a c t) (sym (take_all n (joined wrote.pieces) (omega arith))) (Appends-kept a b c (joined wrote.pieces) wrote.written kept);
     }

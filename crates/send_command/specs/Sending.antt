@@ -8,7 +8,7 @@ use Rattle.pcap_file.specs.Reader.{Takes, ShowsNoFault, IsReadAhead}
 use Rattle.pcap_file.specs.declared.faults.CaptureFault.{CaptureFault}
 use Rattle.plan_spec.specs.Plan.{PlanFields}
 use Rattle.plan_spec.specs.Offered.{offered_in}
-use Rattle.stream_spec.specs.Stream.{IsStream}
+use Rattle.carrier_spec.specs.Stream.{IsSentStream}
 use Rattle.stream_law.specs.Captures.{given_by}
 use Rattle.send_command.specs.Tally.{IsTally}
 use Rattle.send_command.specs.declared.ends.Tally.{Tally}
@@ -19,7 +19,7 @@ use Rattle.send_command.specs.declared.ends.SendEnd.TheVariants as ends
 -- the version of its record
 pub record IsSendOf (plan : PlanFields) (bytes : List ℕ) (captured : List (List ℕ)) (fault : Option CaptureFault) (stream : List (List ℕ)) : Type 0 where
   pub told : Tells bytes captured fault
-  pub stream_is : IsStream plan (offered_in plan (given_by bytes captured)) stream
+  pub stream_is : IsSentStream plan (offered_in plan (given_by bytes captured)) stream
 
 -- a capture without fault: all of its stream was written, and these are the numbers
 pub record SendsAll (plan : PlanFields) (bytes : List ℕ) (tally : Tally) (old new : Option (List ℕ)) : Type 0 where

@@ -3,11 +3,9 @@ ghost use Rattle.std.specs.Prelude.{◌≡◌, ◌≢◌, ℕ, ◌≤◌, List, 
 ghost use Rattle.wire_spec.specs.Causes.{Rose};
 ghost use Rattle.wire_spec.specs.Content.{Stays};
 ghost use Rattle.ipe_io.specs.Counts.{IsFlushed};
-ghost use Rattle.plan_spec.specs.Plan.{kinds};
 ghost use Rattle.pcap_file.specs.Reader.{is_cut};
 ghost use Rattle.plan.specs.PlanView.{plan_fields};
 ghost use Rattle.mux_core.specs.Sending.{IsUnderPlan};
-ghost use Rattle.plan_spec.specs.Built.{are_sent};
 ghost use Rattle.send_command.specs.Gathering.{IsGathered};
 ghost use Rattle.send_command.specs.Sending.{Sends, Reads, OnCapture, is_done, is_whole, is_begun};
 
@@ -20,15 +18,14 @@ use std::alloc::Global;
 
 /// Writes the stream of what the services of a plan take of the capture that is read from `input`, and flushes it.
 ///
-/// The services are of SNDUs, datagram_sections, and MPE-FEC frames without time slicing. Where the capture has a fault, the stream of the
-/// records before it is written and flushed, and then the fault is answered. Where the input fails or memory runs out nothing is written.
+/// The stream is one of transport packets or of baseband frames, as the plan says. Where the capture has a fault, the stream of the records
+/// before it is written and flushed, and then the fault is answered. Where the input fails or memory runs out nothing is written.
 pub fn send<I: Source, O: Sink>(
     alloc: Global,
     plan: &Plan,
     input: &mut I,
     output: &mut O,
 ) -> SendEnd
-    requires built { are_sent (plan_fields plan.now) ≡ true }
 
     // What stands, where the input tells its bytes.
     ensures sent { (bytes : List ℕ) → (I.told input.old).left ≡ Some bytes → Sends (plan_fields plan.now) bytes result (O.told output.old).held (O.told output.new).held }
@@ -57,7 +54,6 @@ pub fn send<I: Source, O: Sink>(
 
 /// Writes the stream of what was gathered, and flushes it.
 fn write_stream<O: Sink>(alloc: Global, plan: &Plan, gathered: &Gathered, output: &mut O) -> SendEnd
-    requires built { are_sent (plan_fields plan.now) ≡ true }
     requires offered { IsUnderPlan (plan_fields plan.now) gathered.now.offered }
     ensures sent { (bytes : List ℕ) → IsGathered (plan_fields plan.now) bytes gathered.now → Sends (plan_fields plan.now) bytes result (O.told output.old).held (O.told output.new).held }
     ensures flushed { is_whole result ≡ true → IsFlushed (O.told output.new).held (O.told output.new).flushed }

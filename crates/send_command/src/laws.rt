@@ -6,8 +6,8 @@ ghost use Rattle.plan_spec.specs.Plan.{PlanFields};
 ghost use Rattle.send_command.specs.Sending.{IsSendOf, Sends, is_done, is_whole};
 ghost use Rattle.send_command.specs.declared.ends.SendEnd.{SendEnd};
 
+use carrier_law::there_is_one_sent_stream;
 use pcap_file::a_capture_tells_one_thing;
-use stream_law::there_is_one_stream;
 
 /// There is one send of a capture, and that of a capture without fault ends Done where its whole stream was written.
 pub fn a_capture_is_sent_in_one_way()
@@ -17,5 +17,5 @@ pub fn a_capture_is_sent_in_one_way()
         → Sends plan bytes end old new → Tells bytes captured None → is_whole end ≡ true → is_done end ≡ true }
 {
     a_capture_tells_one_thing();
-    there_is_one_stream();
+    there_is_one_sent_stream();
 }

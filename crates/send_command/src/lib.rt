@@ -7,12 +7,10 @@
 mod command;
 mod ends;
 mod gather;
-mod kinds;
 mod laws;
 mod lines;
 
 pub use command::send;
 pub use ends::{SendEnd, Tally};
-pub use kinds::can_send;
 pub use laws::a_capture_is_sent_in_one_way;
 pub use lines::{tell_fault, tell_tally};

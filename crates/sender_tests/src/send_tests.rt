@@ -1,7 +1,7 @@
 //! Small captures, and the streams that are sent of them; packets by hand from RFC 4326 and ISO/IEC 13818-1.
 use ipe_io::{MemSink, MemSource};
 use pcap_file::CaptureFault;
-use send_command::{SendEnd, Tally, can_send, send, tell_fault, tell_tally};
+use send_command::{SendEnd, Tally, send, tell_fault, tell_tally};
 use service_plan::{Plan, read_plan};
 use std::alloc::Global;
 use std::test::Fail;
@@ -18,9 +18,6 @@ fn sent(
     let Ok(plan) = read_plan(alloc, FILES.as_bytes()) else {
         return Err(Fail::new("settings"));
     };
-    if !can_send(&plan) {
-        return Err(Fail::new("a kind that is not sent"));
-    }
     let mut input = MemSource::new(alloc, bytes, 7, source_fails)?;
     let mut output = MemSink::new(alloc, 1000, sink_fails)?;
     let end = send(alloc, &plan, &mut input, &mut output);

@@ -1,7 +1,6 @@
-//! Small streams, packet by packet by hand.
+//! Small streams, packet by packet and frame by frame by hand.
 use ipe_io::MemSink;
 use mux_core::{MuxFault, Offered, Sent, stream};
-use send_command::can_send;
 use service_plan::{Plan, read_plan};
 use std::alloc::Global;
 use std::test::Fail;
@@ -10,6 +9,21 @@ use test_recordings::{Datagram, datagram_of, is_piece};
 
 /// Cycles of 100 slots.
 const CYCLE: &str = "cycle = 100\n";
+
+/// A lecture and files in GSE packets on ISIs 7 and 9, in baseband frames of 300 bytes.
+const BASEBAND: &str = "carrier = \"bb\"
+frame_bytes = 300
+[[service]]
+name = \"lecture\"
+kind = \"gse\"
+isi = 7
+rules = [\"239.1.0.0/16\"]
+[[service]]
+name = \"files\"
+kind = \"gse\"
+isi = 9
+rules = [\"239.2.0.0/16\"]
+";
 
 /// The lecture moves to PID 700 with the second record.
 const MOVED: &str = "[[change]]
@@ -27,9 +41,6 @@ fn send(
     sink: &mut MemSink,
 ) -> Result<Result<Sent, MuxFault>, Fail> {
     let [first, second] = datagrams;
-    if !can_send(plan) {
-        return Err(Fail::new("a kind that is not built"));
-    }
     let mut offered = Offered::new(alloc, plan)?;
     offered.offer(plan, Some(&datagram_of(alloc, &first)?))?;
     offered.offer(plan, Some(&datagram_of(alloc, &second)?))?;
@@ -62,7 +73,7 @@ const A: [u8; 4] = [239, 1, 0, 1];
 
 const B: [u8; 4] = [239, 2, 0, 1];
 
-static CASES: [Case; 10] = [
+static CASES: [Case; 12] = [
     Case {
         name: "a section ends before the last byte of a packet",
         settings: &[LECTURE],
@@ -355,6 +366,69 @@ static CASES: [Case; 10] = [
             Piece {
                 place: 188,
                 bytes: &[0x47, 2, 0, 0x11],
+            },
+        ],
+    },
+    Case {
+        name: "three frames of one ISI, and one of another after the first",
+        settings: &[BASEBAND],
+        datagrams: [Datagram { size: 800, to: A }, Datagram { size: 100, to: B }],
+        room: 65536,
+        sent: Ok(Sent {
+            packets: 4,
+            datagrams: 2,
+        }),
+        bytes: 1200,
+        pieces: &[
+            Piece {
+                place: 0,
+                bytes: &[0x50, 7, 0, 0, 9, 0x10, 0, 0, 0],
+            },
+            Piece {
+                place: 10,
+                bytes: &[0x81, 0x20, 0, 3, 0x28, 8, 0, 1, 0, 0x5E, 1, 0, 1, 0x45],
+            },
+            Piece {
+                place: 300,
+                bytes: &[0x50, 9, 0, 0, 3, 0x70, 0, 0, 0],
+            },
+            Piece {
+                place: 310,
+                bytes: &[0xC0, 0x6C, 8, 0, 1, 0, 0x5E, 2, 0, 1, 0x45],
+            },
+            Piece {
+                place: 600,
+                bytes: &[0x50, 7, 0, 0, 9, 0x10, 0, 0, 0],
+            },
+            Piece {
+                place: 610,
+                bytes: &[0x31, 0x20, 0],
+            },
+            Piece {
+                place: 900,
+                bytes: &[0x50, 7, 0, 0, 7, 0x98, 0, 0, 0],
+            },
+            Piece {
+                place: 910,
+                bytes: &[0x70, 0xF1, 0],
+            },
+        ],
+    },
+    Case {
+        name: "baseband frames, and a sink that is full",
+        settings: &[BASEBAND],
+        datagrams: [Datagram { size: 800, to: A }, Datagram { size: 100, to: B }],
+        room: 310,
+        sent: Err(MuxFault::Sink),
+        bytes: 310,
+        pieces: &[
+            Piece {
+                place: 0,
+                bytes: &[0x50, 7, 0, 0, 9, 0x10, 0, 0, 0],
+            },
+            Piece {
+                place: 300,
+                bytes: &[0x50, 9, 0, 0, 3, 0x70, 0, 0, 0],
             },
         ],
     },

@@ -6,7 +6,7 @@ use Rattle.addr_rules.specs.declared.rules.Rule.{Rule}
 use Rattle.int_spec.specs.Descriptors.{has_right_slash}
 use Rattle.std.specs.List.{list_all}
 use Rattle.int_spec.specs.Table.{IsRule, TableFields}
-use Rattle.plan_spec.specs.Plan.{ServiceFields, PlanFields, kinds, sliced_of}
+use Rattle.plan_spec.specs.Plan.{ServiceFields, PlanFields, sliced_of}
 use Rattle.window_law.proofs.Checks.{rate_above}
 use Rattle.mux_core.proofs.Windowed.{short_burst}
 use Rattle.mux_core.proofs.Scheduled.{kind_there}
@@ -15,12 +15,11 @@ use Rattle.plan_spec.specs.Valid.{is_valid_rule}
 use Rattle.plan_spec.specs.Signalling.{table_of, entry_of}
 use Rattle.plan.specs.Parts.{int_seen, service_seen}
 use Rattle.plan.specs.PlanView.{plan_fields}
-use Rattle.plan_spec.specs.Built.{is_sent}
 use Rattle.plan.proofs.VersionLemmas.{length-services_in}
 use Rattle.stream_law.proofs.Wholes.{few_changes, version_accepted}
 use Rattle.stream_law.proofs.Plans.{few_services}
 use Rattle.int_table.specs.Views.{entry_in}
-use Rattle.mux_core.proofs.Items.{map_at, list_all_at, take_next}
+use Rattle.mux_core.proofs.Items.{take_next}
 use Rattle.mux_core.proofs.Moved.{Stays, stays_in, found_in, version_within, frames_at}
 use Rattle.mux_core.proofs.Signalled.{platform_below, rules_valid, slashes_right, entry_is, with_entry, table_fits}
 use Rattle.mux_core.proofs.int_section.table_of.Goals as goal
@@ -38,14 +37,7 @@ entry_of-requires-clause-rules c =
     (version_accepted (plan_fields c.args.plan.now) c.args.plan.now.whole c.args.version (version_within c.args.plan.now c.args.version c.requires.version))
     (found_in c.args.plan.now c.args.version c.loop-place.place c.at.result.now c.at.ensures.read)
 
--- a service that is sent, with frames as there are
-pub entry_of-requires-clause-sent : goal.entry_of-requires-clause-sent
-entry_of-requires-clause-sent c =
-    let base : ServiceFields = service_seen c.at.result.now in
-    list_all_at is_sent (kinds (plan_fields c.args.plan.now)) c.loop-place.place base.kind
-    (map_at (λ (s : ServiceFields). s.kind) (plan_fields c.args.plan.now).services c.loop-place.place base
-    (map_at service_seen c.args.plan.now.services c.loop-place.place c.at.result.now c.at.ensures.read)) c.requires.built
-
+-- with frames as there are
 pub entry_of-requires-clause-frames : goal.entry_of-requires-clause-frames
 entry_of-requires-clause-frames c = frames_at c.args.plan.now c.loop-place.place c.at.result.now c.at.ensures.read
 

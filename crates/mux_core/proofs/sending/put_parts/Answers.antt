@@ -74,7 +74,7 @@ put_slots-requires-clause-stand g c =
     let last_is = last_there plan lists units c.requires.units c.last_version-last.result c.last_version-last.ensures.within c.last_version-last.ensures.none c.last_version-last.ensures.some datagrams are in
     let found = first_unit lists units c.index-units-0.result c.requires.units.size (omega (arith, c.last_version-last.ensures.within)) c.index-units-0.is in (
       part_of (plan_fields plan) datagrams (slots_of (plan_fields plan) plan.whole datagrams) 0,
-      stands plan lists units c.requires.units datagrams are c.last_version-last.result last_is c.requires.built 0 (omega arith) c.index-units-0.result found 0 0 c.section.result.now c.new-table.result c.args.services.now
+      stands plan lists units c.requires.units datagrams are c.last_version-last.result last_is c.requires.on_pids 0 (omega arith) c.index-units-0.result found 0 0 c.section.result.now c.new-table.result c.args.services.now
           c.section.ensures.read (λ int table. refl) c.new-table.ensures.at refl (first_begins plan lists units c.requires.units datagrams are c.args.services.now c.requires.begun),
       few_in plan lists units c.requires.units datagrams are c.requires.few 0 (omega arith) c.index-units-0.result found c.args.services.now (first_begins plan lists units c.requires.units datagrams are c.args.services.now c.requires.begun)
           c.requires.total 0 (omega arith),
@@ -92,11 +92,11 @@ returns-in_err-slot-clause-written g c = λ datagrams are.
     let new : Option (List ℕ) = (g.K.Sink.told c.put_slots.new.sink).held in
     let last_is = last_there plan lists units c.requires.units last c.last_version-last.ensures.within c.last_version-last.ensures.none c.last_version-last.ensures.some datagrams are in
     let found = first_unit lists units c.index-units-0.result c.requires.units.size (omega (arith, c.last_version-last.ensures.within)) c.index-units-0.is in
-    let stand = stands plan lists units c.requires.units datagrams are last last_is c.requires.built 0 (omega arith) c.index-units-0.result found 0 0 c.section.result.now c.new-table.result c.args.services.now
+    let stand = stands plan lists units c.requires.units datagrams are last last_is c.requires.on_pids 0 (omega arith) c.index-units-0.result found 0 0 c.section.result.now c.new-table.result c.args.services.now
     c.section.ensures.read (λ int table. refl) c.new-table.ensures.at refl (first_begins plan lists units c.requires.units datagrams are c.args.services.now c.requires.begun) in
     let wrote = c.in_err-slot.ensures.written (part_of fields datagrams slots 0) stand in
     let failed = err_from_is_err_and c.from_residual.result c.from_residual.ensures.1 in
-    rw failed.1 (writes_some fields plan.whole c.requires.built datagrams old new failed.0
+    rw failed.1 (writes_some fields plan.whole c.requires.on_pids datagrams old new failed.0
     (part_broken fields datagrams slots plan.whole (each_of fields plan.whole datagrams) last last_is 0 0 (ltb 0 last) old old new c.args.batch.now [] (omega arith) refl wrote.least wrote.count
     (nothing_handed fields datagrams slots 0 old c.args.batch.now refl c.requires.empty (Appends-nil old)) wrote.passes))
 
@@ -118,7 +118,7 @@ loop-version-init g c = record {
       let last_is = last_there plan lists units c.requires.units last c.last_version-last.ensures.within c.last_version-last.ensures.none c.last_version-last.ensures.some datagrams are in
       let found = first_unit lists units c.index-units-0.result c.requires.units.size (omega (arith, c.last_version-last.ensures.within)) c.index-units-0.is in
       let begins = first_begins plan lists units c.requires.units datagrams are c.args.services.now c.requires.begun in
-      let stand = stands plan lists units c.requires.units datagrams are last last_is c.requires.built 0 (omega arith) c.index-units-0.result found 0 0 c.section.result.now c.new-table.result c.args.services.now
+      let stand = stands plan lists units c.requires.units datagrams are last last_is c.requires.on_pids 0 (omega arith) c.index-units-0.result found 0 0 c.section.result.now c.new-table.result c.args.services.now
       c.section.ensures.read (λ int table. refl) c.new-table.ensures.at refl begins in
       let wrote = c.in_ok-slot.ensures.written (part_of fields datagrams slots 0) stand in
       part_behind fields datagrams slots plan.whole (each_of fields plan.whole datagrams) last last_is 0 0 (ltb 0 last) old old new c.args.batch.now c.put_slots.new.batch (omega arith) refl wrote.least wrote.count
@@ -133,7 +133,7 @@ loop-version-init g c = record {
       let last_is = last_there plan lists units c.requires.units c.last_version-last.result c.last_version-last.ensures.within c.last_version-last.ensures.none c.last_version-last.ensures.some datagrams are in
       let found = first_unit lists units c.index-units-0.result c.requires.units.size (omega (arith, c.last_version-last.ensures.within)) c.index-units-0.is in
       let begins = first_begins plan lists units c.requires.units datagrams are c.args.services.now c.requires.begun in
-      let stand = stands plan lists units c.requires.units datagrams are c.last_version-last.result last_is c.requires.built 0 (omega arith) c.index-units-0.result found 0 0 c.section.result.now c.new-table.result c.args.services.now
+      let stand = stands plan lists units c.requires.units datagrams are c.last_version-last.result last_is c.requires.on_pids 0 (omega arith) c.index-units-0.result found 0 0 c.section.result.now c.new-table.result c.args.services.now
       c.section.ensures.read (λ int table. refl) c.new-table.ensures.at refl begins in
       let wrote = c.in_ok-slot.ensures.written (part_of (plan_fields plan) datagrams (slots_of (plan_fields plan) plan.whole datagrams) 0) stand in
       omega (
@@ -151,7 +151,7 @@ loop-version-init g c = record {
       let last_is = last_there plan lists units c.requires.units c.last_version-last.result c.last_version-last.ensures.within c.last_version-last.ensures.none c.last_version-last.ensures.some datagrams are in
       let found = first_unit lists units c.index-units-0.result c.requires.units.size (omega (arith, c.last_version-last.ensures.within)) c.index-units-0.is in
       let begins = first_begins plan lists units c.requires.units datagrams are c.args.services.now c.requires.begun in
-      let stand = stands plan lists units c.requires.units datagrams are c.last_version-last.result last_is c.requires.built 0 (omega arith) c.index-units-0.result found 0 0 c.section.result.now c.new-table.result c.args.services.now
+      let stand = stands plan lists units c.requires.units datagrams are c.last_version-last.result last_is c.requires.on_pids 0 (omega arith) c.index-units-0.result found 0 0 c.section.result.now c.new-table.result c.args.services.now
       c.section.ensures.read (λ int table. refl) c.new-table.ensures.at refl begins in
       let wrote = c.in_ok-slot.ensures.written (part_of (plan_fields plan) datagrams (slots_of (plan_fields plan) plan.whole datagrams) 0) stand in
       all_out (plan_fields plan) plan.whole (part_of (plan_fields plan) datagrams (slots_of (plan_fields plan) plan.whole datagrams) 0) (ltb 0 c.last_version-last.result) wrote.least wrote.count
@@ -222,12 +222,12 @@ put_slots-requires-in-loop-version-clause-stand g c =
     let last_is = last_there plan lists units c.requires.units last c.last_version-last.ensures.within c.last_version-last.ensures.none c.last_version-last.ensures.some datagrams are in
     let found = unit_found units c.from.result version c.index-units-from.result c.from.ensures (omega (arith, c.loop-version-test.true, c.last_version-last.ensures.within, c.requires.units.size)) c.index-units-from.is in (
       part_of (plan_fields plan) datagrams (slots_of (plan_fields plan) plan.whole datagrams) version,
-      next_stands plan lists units c.requires.units datagrams are last last_is c.requires.built (version - 1) version (omega (arith, c.loop-version.auto.version)) (omega (arith, c.loop-version-test.true)) c.loop-version.slot
+      next_stands plan lists units c.requires.units datagrams are last last_is c.requires.on_pids (version - 1) version (omega (arith, c.loop-version.auto.version)) (omega (arith, c.loop-version-test.true)) c.loop-version.slot
           (g.K.Sink.told c.args.sink.now).held (g.K.Sink.told c.loop-version.sink).held c.loop-version.batch c.loop-version.services c.begin.new.self c.loop-version.table c.new-table-in-loop-version.result
           (c.loop-version.invariant.behind datagrams are) c.begin.ensures.begun c.index-units-from.result found c.counter.result c.section-in-loop-version.result.now c.section-in-loop-version.ensures.read
           c.counter.ensures.read c.new-table-in-loop-version.ensures.at,
       few_in plan lists units c.requires.units datagrams are c.requires.few version (omega (arith, c.loop-version-test.true, last_is.within)) c.index-units-from.result found c.begin.new.self
-          (next_begun plan lists units c.requires.units datagrams are last last_is c.requires.built (version - 1) version (omega (arith, c.loop-version.auto.version)) (omega (arith, c.loop-version-test.true)) c.loop-version.slot
+          (next_begun plan lists units c.requires.units datagrams are last last_is c.requires.on_pids (version - 1) version (omega (arith, c.loop-version.auto.version)) (omega (arith, c.loop-version-test.true)) c.loop-version.slot
           (g.K.Sink.told c.args.sink.now).held (g.K.Sink.told c.loop-version.sink).held c.loop-version.batch c.loop-version.services c.begin.new.self c.loop-version.table c.new-table-in-loop-version.result
           (c.loop-version.invariant.behind datagrams are) c.begin.ensures.begun)
           c.begin.ensures.most c.loop-version.slot (few_slots c.loop-version.slot version c.loop-version.invariant.few (omega (arith, c.loop-version-test.true, last_is.within, few_changes (plan_fields plan) plan.whole))),
@@ -250,15 +250,15 @@ returns-in_err-slot-2-clause-written g c = λ datagrams are.
     let next : version ≡ version - 1 + 1 = omega (arith, c.loop-version.auto.version) in
     let le : version ≤ last = omega (arith, c.loop-version-test.true) in
     let before = c.loop-version.invariant.behind datagrams are in
-    let stand = next_stands plan lists units c.requires.units datagrams are last last_is c.requires.built (version - 1) version next le c.loop-version.slot
+    let stand = next_stands plan lists units c.requires.units datagrams are last last_is c.requires.on_pids (version - 1) version next le c.loop-version.slot
     old mid c.loop-version.batch c.loop-version.services c.begin.new.self c.loop-version.table c.new-table-in-loop-version.result
     before c.begin.ensures.begun c.index-units-from.result found c.counter.result c.section-in-loop-version.result.now c.section-in-loop-version.ensures.read
     c.counter.ensures.read c.new-table-in-loop-version.ensures.at in
-    let handed = next_handed plan lists units c.requires.units datagrams are last last_is c.requires.built (version - 1) version next le c.loop-version.slot
+    let handed = next_handed plan lists units c.requires.units datagrams are last last_is c.requires.on_pids (version - 1) version next le c.loop-version.slot
     old mid c.loop-version.batch c.loop-version.services c.begin.new.self c.loop-version.table c.new-table-in-loop-version.result before c.begin.ensures.begun in
     let wrote = c.in_err-slot-2.ensures.written (part_of fields datagrams slots version) stand in
     let failed = err_from_is_err_and c.from_residual-in_err-slot-2.result c.from_residual-in_err-slot-2.ensures.1 in
-    rw failed.1 (writes_some fields plan.whole c.requires.built datagrams old new failed.0
+    rw failed.1 (writes_some fields plan.whole c.requires.on_pids datagrams old new failed.0
     (part_broken fields datagrams slots plan.whole (each_of fields plan.whole datagrams) last last_is version c.loop-version.slot (ltb version last) old mid new c.loop-version.batch [] le refl wrote.least wrote.count
     handed wrote.passes))
 
@@ -280,13 +280,13 @@ loop-version-preserved g c = record {
       let next : version ≡ version - 1 + 1 = omega (arith, c.loop-version.auto.version) in
       let le : version ≤ last = omega (arith, c.loop-version-test.true) in
       let before = c.loop-version.invariant.behind datagrams are in
-      let stand = next_stands plan lists units c.requires.units datagrams are last last_is c.requires.built (version - 1) version next le c.loop-version.slot
+      let stand = next_stands plan lists units c.requires.units datagrams are last last_is c.requires.on_pids (version - 1) version next le c.loop-version.slot
       old mid c.loop-version.batch c.loop-version.services c.begin.new.self c.loop-version.table c.new-table-in-loop-version.result
       before c.begin.ensures.begun c.index-units-from.result found c.counter.result c.section-in-loop-version.result.now c.section-in-loop-version.ensures.read
       c.counter.ensures.read c.new-table-in-loop-version.ensures.at in
-      let handed = next_handed plan lists units c.requires.units datagrams are last last_is c.requires.built (version - 1) version next le c.loop-version.slot
+      let handed = next_handed plan lists units c.requires.units datagrams are last last_is c.requires.on_pids (version - 1) version next le c.loop-version.slot
       old mid c.loop-version.batch c.loop-version.services c.begin.new.self c.loop-version.table c.new-table-in-loop-version.result before c.begin.ensures.begun in
-      let begins = next_begun plan lists units c.requires.units datagrams are last last_is c.requires.built (version - 1) version next le c.loop-version.slot
+      let begins = next_begun plan lists units c.requires.units datagrams are last last_is c.requires.on_pids (version - 1) version next le c.loop-version.slot
       old mid c.loop-version.batch c.loop-version.services c.begin.new.self c.loop-version.table c.new-table-in-loop-version.result before c.begin.ensures.begun in
       let wrote = c.in_ok-slot-2.ensures.written (part_of fields datagrams slots version) stand in
       let same : version ≡ version + 1 - 1 = omega arith in
@@ -324,11 +324,11 @@ loop-version-preserved g c = record {
         let next : version ≡ version - 1 + 1 = omega (arith, c.loop-version.auto.version) in
         let le : version ≤ last = omega (arith, c.loop-version-test.true) in
         let before = c.loop-version.invariant.behind datagrams are in
-        let stand = next_stands plan lists units c.requires.units datagrams are last last_is c.requires.built (version - 1) version next le c.loop-version.slot
+        let stand = next_stands plan lists units c.requires.units datagrams are last last_is c.requires.on_pids (version - 1) version next le c.loop-version.slot
         old mid c.loop-version.batch c.loop-version.services c.begin.new.self c.loop-version.table c.new-table-in-loop-version.result
         before c.begin.ensures.begun c.index-units-from.result found c.counter.result c.section-in-loop-version.result.now c.section-in-loop-version.ensures.read
         c.counter.ensures.read c.new-table-in-loop-version.ensures.at in
-        let begins = next_begun plan lists units c.requires.units datagrams are last last_is c.requires.built (version - 1) version next le c.loop-version.slot
+        let begins = next_begun plan lists units c.requires.units datagrams are last last_is c.requires.on_pids (version - 1) version next le c.loop-version.slot
         old mid c.loop-version.batch c.loop-version.services c.begin.new.self c.loop-version.table c.new-table-in-loop-version.result before c.begin.ensures.begun in
         let wrote = c.in_ok-slot-2.ensures.written (part_of fields datagrams slots version) stand in (
           omega (
@@ -359,7 +359,7 @@ returns-in_err-put-clause-written g c = λ datagrams are.
     let end : c.loop-version.version - 1 + 1 ≡ last + 1 = omega (arith, c.loop-version-test.false, c.loop-version.auto.version, c.loop-version.auto.version-end) in
     let handed = subst (λ (v : ℕ). HasHanded fields datagrams slots v c.loop-version.slot old mid c.loop-version.batch) end (c.loop-version.invariant.behind datagrams are).handed in
     let failed = err_from_is_err_and c.from_residual-in_err-put.result c.from_residual-in_err-put.ensures.1 in
-    rw failed.1 (writes_some fields plan.whole c.requires.built datagrams old new failed.0
+    rw failed.1 (writes_some fields plan.whole c.requires.on_pids datagrams old new failed.0
     (some_put fields datagrams slots plan.whole (each_of fields plan.whole datagrams) last last_is c.loop-version.slot old mid new c.loop-version.batch handed c.in_err-put.ensures.written))
 
 pub returns-clause-written : goal.returns-clause-written
@@ -376,6 +376,6 @@ returns-clause-written g c = λ datagrams are.
     let last_is = last_there plan lists units c.requires.units last c.last_version-last.ensures.within c.last_version-last.ensures.none c.last_version-last.ensures.some datagrams are in
     let end : c.loop-version.version - 1 + 1 ≡ last + 1 = omega (arith, c.loop-version-test.false, c.loop-version.auto.version, c.loop-version.auto.version-end) in
     let handed = subst (λ (v : ℕ). HasHanded fields datagrams slots v c.loop-version.slot old mid c.loop-version.batch) end (c.loop-version.invariant.behind datagrams are).handed in
-    writes_all fields plan.whole c.requires.built datagrams old new c.loop-version.slot
+    writes_all fields plan.whole c.requires.on_pids datagrams old new c.loop-version.slot
     (all_put fields datagrams slots plan.whole (each_of fields plan.whole datagrams) last last_is c.loop-version.slot old mid new c.loop-version.batch handed c.in_ok-put.ensures.written)
     (count_is fields datagrams slots plan.whole (each_of fields plan.whole datagrams) last last_is c.loop-version.slot old mid c.loop-version.batch handed)

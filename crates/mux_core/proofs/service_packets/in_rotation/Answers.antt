@@ -3,7 +3,7 @@ use Rattle.ts_spec.specs.Recording.{plain}
 use Rattle.section_spec.specs.Section.{section_form}
 use Rattle.unit_stream.specs.Packing.{packetized}
 use Rattle.plan_spec.specs.Plan.{KindFields, ule, mpe, fec, gse, sliced_of}
-use Rattle.plan_spec.specs.Built.{is_sent}
+use Rattle.mux_core.specs.OnPids.{is_on_pid}
 use Rattle.plan_spec.specs.Changes.{with_pid}
 use Rattle.plan.specs.Parts.{kind_seen}
 use Rattle.stream_spec.specs.Units.{FrameSchedule, units_of_kind, packets_of_kind}
@@ -20,7 +20,7 @@ unfolding numbered_from
 first_of number = refl
 
 -- the sections of frames are packetized together
-packets_of_frames : (kind : KindFields) (unicast : List ℕ) (pid counter : ℕ) (schedule : FrameSchedule) (ds : List (List ℕ)) → is_sent kind ≡ true → is_single kind ≡ false → sliced_of kind ≡ None
+packets_of_frames : (kind : KindFields) (unicast : List ℕ) (pid counter : ℕ) (schedule : FrameSchedule) (ds : List (List ℕ)) → is_on_pid kind ≡ true → is_single kind ≡ false → sliced_of kind ≡ None
     → packetized section_form true pid counter (units_of_kind kind unicast schedule ds) ≡ packets_of_kind (with_pid kind pid) unicast counter schedule ds
 packets_of_frames (ule own address packing) unicast pid counter schedule ds sent framed unsliced = absurd (cc)
 packets_of_frames (mpe own) unicast pid counter schedule ds sent framed unsliced = absurd (cc)
@@ -43,4 +43,4 @@ returns-in-Frames-clause-written c = λ schedule made.
     let are : AreOfFrames kind unicast schedule.first c.args.datagrams.now c.in-Frames.made
     = subst (AreUnitsFor kind unicast schedule.first c.args.datagrams.now) c.in-Frames.is made in
     c.new.ensures.written (units_of_kind kind unicast schedule c.args.datagrams.now) (are.held schedule refl)
-    ∙ packets_of_frames kind unicast c.args.pid c.args.counter schedule c.args.datagrams.now are.built are.framed are.unsliced
+    ∙ packets_of_frames kind unicast c.args.pid c.args.counter schedule c.args.datagrams.now are.on_pid are.framed are.unsliced

@@ -11,17 +11,17 @@ kind_is kind pid rows parity window found is same = is ∙ ap (λ (w : Option (�
 pub returns-in_ok-ends-in-Some-clause-made : goal.returns-in_ok-ends-in-Some-clause-made
 returns-in_ok-ends-in-Some-clause-made c =
     bursts_made c.args.datagrams.now c.args.service.now.kind c.in-Fec.pid c.in-Fec.rows c.in-Fec.parity c.in-Some.window
-    (kind_is c.args.service.now.kind c.in-Fec.pid c.in-Fec.rows c.in-Fec.parity c.in-Fec.window (Some c.in-Some.window) c.in-Fec.is c.in-Some.is) c.requires.built
+    (kind_is c.args.service.now.kind c.in-Fec.pid c.in-Fec.rows c.in-Fec.parity c.in-Fec.window (Some c.in-Some.window) c.in-Fec.is c.in-Some.is) c.requires.on_pid
     c.in_ok-ends-in-Some.ends.items c.in_ok-ends-in-Some.ensures.ends
 
 pub returns-in_ok-ends-in-Some-clause-frames : goal.returns-in_ok-ends-in-Some-clause-frames
 returns-in_ok-ends-in-Some-clause-frames c =
     burst_count c.args.datagrams.now c.args.service.now.kind c.in-Fec.pid c.in-Fec.rows c.in-Fec.parity c.in-Some.window
-    (kind_is c.args.service.now.kind c.in-Fec.pid c.in-Fec.rows c.in-Fec.parity c.in-Fec.window (Some c.in-Some.window) c.in-Fec.is c.in-Some.is) c.requires.built
+    (kind_is c.args.service.now.kind c.in-Fec.pid c.in-Fec.rows c.in-Fec.parity c.in-Fec.window (Some c.in-Some.window) c.in-Fec.is c.in-Some.is) c.requires.on_pid
     c.in_ok-ends-in-Some.ends.items c.in_ok-ends-in-Some.ensures.ends
 
 pub returns-in_ok-made-in-None-clause-made : goal.returns-in_ok-made-in-None-clause-made
 returns-in_ok-made-in-None-clause-made c =
     frames_made c.args.service.now.unicast c.args.first c.args.datagrams.now c.args.service.now.kind c.in-Fec.pid c.in-Fec.rows c.in-Fec.parity
-    (kind_is c.args.service.now.kind c.in-Fec.pid c.in-Fec.rows c.in-Fec.parity c.in-Fec.window None c.in-Fec.is c.in-None.is) c.requires.built
+    (kind_is c.args.service.now.kind c.in-Fec.pid c.in-Fec.rows c.in-Fec.parity c.in-Fec.window None c.in-Fec.is c.in-None.is) c.requires.on_pid
     c.in_ok-made-in-None.made c.requires.frames c.requires.datagrams c.requires.few c.in_ok-made-in-None.ensures.written

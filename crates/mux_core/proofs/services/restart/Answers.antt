@@ -18,7 +18,7 @@ no_pid plan version k lists taken less none =
     let service = some_item plan.services k less in
     let found = map_at service_seen plan.services k service.0 service.1 in
     let list = some_item lists k (omega (arith, taken.size, length-map plan.services service_seen, less)) in
-    has_pid_in plan version k service.0 service.1 (taken.each k (service_seen service.0) list.0 found list.1).built none
+    has_pid_in plan version k service.0 service.1 (taken.each k (service_seen service.0) list.0 found list.1).on_pid none
 
 pub unreachable-requires : goal.unreachable-requires
 unreachable-requires c =

@@ -4,7 +4,7 @@ use Rattle.pcap_file.specs.Told.{Tells}
 use Rattle.pcap_file.specs.declared.faults.CaptureFault.{CaptureFault}
 use Rattle.plan_spec.specs.Plan.{PlanFields}
 use Rattle.plan_spec.specs.Offered.{offered_in}
-use Rattle.stream_spec.specs.Stream.{IsStream}
+use Rattle.carrier_spec.specs.Stream.{IsSentStream}
 use Rattle.stream_law.specs.Captures.{given_by}
 use Rattle.send_command.specs.Sending.{Sends, is_done, is_whole}
 use Rattle.send_command.specs.declared.ends.SendEnd.{SendEnd}
@@ -25,8 +25,8 @@ pub returns-clause-one : goal.returns-clause-one
 returns-clause-one c = λ plan bytes captured others fault other stream another a b.
     let records = c.a_capture_tells_one_thing.ensures.records bytes captured others fault other a.told b.told in
     let faults = c.a_capture_tells_one_thing.ensures.fault bytes captured others fault other a.told b.told in
-    let same = subst (λ (x : List (List ℕ)). IsStream plan (offered_in plan (given_by bytes x)) another) (sym records) b.stream_is in
-    (records, faults, c.there_is_one_stream.ensures.one plan (offered_in plan (given_by bytes captured)) stream another a.stream_is same)
+    let same = subst (λ (x : List (List ℕ)). IsSentStream plan (offered_in plan (given_by bytes x)) another) (sym records) b.stream_is in
+    (records, faults, c.there_is_one_sent_stream.ensures.one plan (offered_in plan (given_by bytes captured)) stream another a.stream_is same)
 
 pub returns-clause-done : goal.returns-clause-done
 returns-clause-done c = ends_done c.a_capture_tells_one_thing.ensures.fault

@@ -24,10 +24,12 @@ offer-requires-2-clause-room c =
     let one = c.in_ok-offer.ensures.stands [] c.in_ok-offered.ensures.stands in
     room _ _ _ (omega arith) one
 
-pub stream-requires-clause-offered : goal.stream-requires-clause-offered
-stream-requires-clause-offered c =
+pub stream-requires : goal.stream-requires
+stream-requires c =
     let one = c.in_ok-offer.ensures.stands [] c.in_ok-offered.ensures.stands in
     let two = c.in_ok-offer-2.ensures.stands _ one in
-    under (plan_fields c.args.plan.now) c.deref.result.now c.deref-2.result.now c.offer-2.new.self
-    (subst IsDatagram (sym c.deref.ensures.value) c.in_ok-datagram_of.ensures)
-    (subst IsDatagram (sym c.deref-2.ensures.value) c.in_ok-datagram_of-2.ensures) two
+    record {
+      offered = under (plan_fields c.args.plan.now) c.deref.result.now c.deref-2.result.now c.offer-2.new.self
+          (subst IsDatagram (sym c.deref.ensures.value) c.in_ok-datagram_of.ensures)
+          (subst IsDatagram (sym c.deref-2.ensures.value) c.in_ok-datagram_of-2.ensures) two;
+    }

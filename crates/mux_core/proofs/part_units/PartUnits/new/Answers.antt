@@ -21,9 +21,9 @@ pub overflow_cast-k : goal.overflow_cast-k
 overflow_cast-k c =
     omega (arith, few_services (plan_fields c.args.plan.now) c.args.plan.now.valid, c.loop-k-test.true, c.len-k-end.ensures.read, length-map c.args.plan.now.services service_seen)
 
-pub units_of_service-requires-clause-built : goal.units_of_service-requires-clause-built
-units_of_service-requires-clause-built c =
-    (c.requires.lists.each c.loop-k.k (service_seen c.at.result.now) c.at-list.result.now (map_at service_seen c.args.plan.now.services c.loop-k.k c.at.result.now c.at.ensures.read) c.at-list.ensures.read).built
+pub units_of_service-requires-clause-on_pid : goal.units_of_service-requires-clause-on_pid
+units_of_service-requires-clause-on_pid c =
+    (c.requires.lists.each c.loop-k.k (service_seen c.at.result.now) c.at-list.result.now (map_at service_seen c.args.plan.now.services c.loop-k.k c.at.result.now c.at.ensures.read) c.at-list.ensures.read).on_pid
 
 pub units_of_service-requires-clause-datagrams : goal.units_of_service-requires-clause-datagrams
 units_of_service-requires-clause-datagrams c =

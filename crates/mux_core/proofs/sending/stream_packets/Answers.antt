@@ -10,34 +10,33 @@ use Rattle.stream_spec.specs.Stream.{IsStream}
 use Rattle.stream_law.proofs.Plans.{few_services}
 use Rattle.stream_law.proofs.Wholes.{few_changes}
 use Rattle.mux_core.specs.declared.sending.MuxFault.{MuxFault}
-use Rattle.mux_core.specs.Sending.{WritesStream, datagram_count}
+use Rattle.mux_core.specs.Sending.{WritesPackets, datagram_count}
 use Rattle.mux_core.proofs.Streamed.{all_taken, are_offered, few_lists, length-offered, services_size}
 use Rattle.mux_core.proofs.Staged.{unit_found}
-use Rattle.mux_core.proofs.OnPids.{on_pids}
-use Rattle.mux_core.proofs.sending.stream.Goals as goal
+use Rattle.mux_core.proofs.sending.stream_packets.Goals as goal
 
 -- out of memory: there is a stream, and none of it was written
 nothing_written : (plan : PlanFields) (datagrams : ℕ → ℕ → List (List ℕ)) (fault : MuxFault) (held : Option (List ℕ)) → (records : List (List ℕ)) × IsStream plan datagrams records
-    → WritesStream plan datagrams (Err fault) held held
+    → WritesPackets plan datagrams (Err fault) held held
 nothing_written plan datagrams fault held found = record { records = found.0; stream = found.1; written = (0, Appends-nil held); packets = tt }
 
 pub returns-in_err-units-clause-written : goal.returns-in_err-units-clause-written
 returns-in_err-units-clause-written g c = λ gives stands.
     let plan : PlanFields = plan_fields c.args.plan.now in
     let fault = err_from_is_err_and c.from_residual.result c.from_residual.ensures.1 in
-    rw fault.1 (nothing_written plan (offered_in plan gives) fault.0 (g.K.Sink.told c.args.sink.now).held (c.there_is_one_stream.ensures.is plan (offered_in plan gives) c.args.plan.now.whole (on_pids plan c.requires.built)))
+    rw fault.1 (nothing_written plan (offered_in plan gives) fault.0 (g.K.Sink.told c.args.sink.now).held (c.there_is_one_stream.ensures.is plan (offered_in plan gives) c.args.plan.now.whole c.requires.on_pids))
 
 pub returns-in_err-services-clause-written : goal.returns-in_err-services-clause-written
 returns-in_err-services-clause-written g c = λ gives stands.
     let plan : PlanFields = plan_fields c.args.plan.now in
     let fault = err_from_is_err_and c.from_residual-in_err-services.result c.from_residual-in_err-services.ensures.1 in
-    rw fault.1 (nothing_written plan (offered_in plan gives) fault.0 (g.K.Sink.told c.args.sink.now).held (c.there_is_one_stream.ensures.is plan (offered_in plan gives) c.args.plan.now.whole (on_pids plan c.requires.built)))
+    rw fault.1 (nothing_written plan (offered_in plan gives) fault.0 (g.K.Sink.told c.args.sink.now).held (c.there_is_one_stream.ensures.is plan (offered_in plan gives) c.args.plan.now.whole c.requires.on_pids))
 
 pub returns-in_err-batch-clause-written : goal.returns-in_err-batch-clause-written
 returns-in_err-batch-clause-written g c = λ gives stands.
     let plan : PlanFields = plan_fields c.args.plan.now in
     let fault = err_from_is_err_and c.from_residual-in_err-batch.result c.from_residual-in_err-batch.ensures.1 in
-    rw fault.1 (nothing_written plan (offered_in plan gives) fault.0 (g.K.Sink.told c.args.sink.now).held (c.there_is_one_stream.ensures.is plan (offered_in plan gives) c.args.plan.now.whole (on_pids plan c.requires.built)))
+    rw fault.1 (nothing_written plan (offered_in plan gives) fault.0 (g.K.Sink.told c.args.sink.now).held (c.there_is_one_stream.ensures.is plan (offered_in plan gives) c.args.plan.now.whole c.requires.on_pids))
 
 pub returns-in-Ok-clause-written : goal.returns-in-Ok-clause-written
 returns-in-Ok-clause-written g c = λ gives stands.
@@ -59,7 +58,7 @@ pub units_of-requires-clause-lists : goal.units_of-requires-clause-lists
 units_of-requires-clause-lists g c =
     let plan : PlanFields = plan_fields c.args.plan.now in
     let under = c.requires.offered in
-    all_taken plan under.records c.args.offered.now under.stands c.requires.built
+    all_taken plan under.records c.args.offered.now under.stands c.requires.on_pids
     (λ version k. c.each_datagram_is_for_its_service.ensures.datagrams plan under.records version k under.datagrams)
     (λ version k. c.each_datagram_is_for_its_service.ensures.short plan under.records version k)
     (λ version k. c.nothing_is_left_out.ensures.each plan under.records version k) under.few

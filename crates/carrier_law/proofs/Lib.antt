@@ -1,0 +1,2 @@
+pub mod Pids
+pub mod Cases
