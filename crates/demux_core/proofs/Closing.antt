@@ -19,7 +19,7 @@ use Rattle.reception_law.specs.Sums.{numbers_before, unit_numbers_before, frame_
 use Rattle.service_reception.specs.Counting.{on_pid, of_units}
 use Rattle.service_reception.specs.Telling.{Told, StopsWithin}
 use Rattle.frame_reception.specs.Delivering.{Going, Delivers as DeliversAfter, GoesOn}
-use Rattle.demux_core.specs.Outlets.{Delivers, DeliversFront}
+use Rattle.bb_demux.specs.Outlets.{Delivers, DeliversFront}
 use Rattle.demux_core.specs.Counts.{totals_in}
 use Rattle.demux_core.specs.Services.{IsReception, IsEndingOne, HasReceivedOne, HaveReceived}
 use Rattle.demux_core.specs.Moving.{Closes, where_left, closed_from, closed_by_switch, closed_on_pid, closed_at}

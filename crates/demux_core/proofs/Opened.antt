@@ -1,20 +1,20 @@
 -- A receiver that was given nothing, and what holds of its plan.
-use Rattle.std.proofs.Common.{◌≡◌, inl, inr, ℕ, zero, suc, ◌+◌, Bool, true, false, ◌&&◌, ◌||◌, eqb, Option, None, Some, List, [], ◌∷◌, ◌++◌, length, map, take, drop, get_or, refl, ap, sym, ◌∙◌, subst, arith}
+use Rattle.std.proofs.Common.{◌≡◌, inl, inr, ℕ, zero, suc, ◌+◌, Bool, true, false, cond, ◌&&◌, ◌||◌, eqb, Option, None, Some, List, [], ◌∷◌, ◌++◌, length, map, take, get_or, refl, ap, sym, ◌∙◌, subst, arith}
 use Rattle.std.specs.Prelude.{◌==◌, not, slice_get, is_some, option_map}
-use Rattle.std.specs.List.{list_all}
+use Rattle.std.specs.List.{list_all, list_any}
 use Rattle.std.proofs.lemmas.Bool.{eqb-true}
 use Rattle.std.proofs.lemmas.List.{map_push}
 use Rattle.ts_spec.specs.Recording.{RecordingForm}
 use Rattle.section_spec.specs.Mpe.{IsRows}
-use Rattle.plan_spec.specs.Plan.{KindFields, ule, mpe, fec, gse, ServiceFields, PlanFields, pid_of}
-use Rattle.plan_spec.specs.Checks.{is_between, is_row_count, is_service_name, has_wrong_carrier, has_same_name, has_same_pid}
+use Rattle.plan_spec.specs.Plan.{KindFields, ule, mpe, fec, gse, ServiceFields, PlanFields, pid_of, kinds, is_baseband}
+use Rattle.plan_spec.specs.Checks.{is_gse, is_between, is_row_count, is_service_name, has_wrong_carrier, has_same_name, has_same_pid}
 use Rattle.plan_spec.specs.Changes.{with_pid, on_pid, no_service, pid_in, has_wrong_change}
 use Rattle.plan_spec.specs.Valid.{is_valid_window, is_valid_kind, is_valid_rule, has_valid_values, is_valid_service, has_valid_top, is_in_range, is_consistent, is_plan_of_settings, is_plan_of_pid, is_plan}
 use Rattle.plan_spec.specs.Wholes.{has_valid_changes, is_whole_of_settings, is_whole_of_pid, is_whole_plan}
+use Rattle.plan_law.proofs.Lists.{neither, not_false}
 use Rattle.plan_law.proofs.Alone.{right_alone}
 use Rattle.plan.specs.Parts.{window_seen, kind_seen, service_seen}
 use Rattle.plan.specs.declared.service.Service.{Service}
-use Rattle.plan_spec.specs.Built.{is_received}
 use Rattle.reception_spec.specs.Numbers.{no_numbers}
 use Rattle.reception_spec.specs.Frames.{no_frames}
 use Rattle.reception_law.specs.Sums.{no_units, numbers_before, unit_numbers_before, frame_numbers_before}
@@ -28,10 +28,6 @@ both : (a b : Bool) → (a && b) ≡ true → (a ≡ true) × (b ≡ true)
 both true b e = (refl, e)
 both false b e = absurd (cc)
 
-not_true : (a : Bool) → not a ≡ true → a ≡ false
-not_true true e = absurd (cc)
-not_true false e = refl
-
 no_item : {X : Type 0} (xs : List X) → length xs ≡ 0 → xs ≡ []
 no_item [] none = refl
 no_item (x ∷ xs) none = absurd (omega (arith, none))
@@ -41,7 +37,7 @@ unfolding is_whole_of_settings
 right_of_settings plan whole =
     let changes = (both (plan.version == 0) _ whole).1 in
     let right = (both (has_valid_changes plan) _ changes).1 in
-    not_true (has_wrong_change plan) (both (not (has_wrong_change plan)) _ right).0
+    not_false (has_wrong_change plan) (both (not (has_wrong_change plan)) _ right).0
 
 right_of_pid : (plan : PlanFields) → is_whole_of_pid plan ≡ true → has_wrong_change plan ≡ false
 unfolding is_whole_of_pid is_plan_of_pid is_consistent
@@ -50,7 +46,7 @@ right_of_pid plan whole =
     let none = both (length plan.changes == 0) (is_plan_of_pid plan) first.1 in
     let consistent = (both (is_consistent plan) _ (both (is_in_range 0 plan) _ none.1).1).0 in
     let differ = (both (not (has_same_pid plan)) _ (both (not (has_same_name plan)) _ (both (not (has_wrong_carrier plan)) _ consistent).1).1).0 in
-    right_alone plan (eqb-true plan.version 0 first.0) (no_item plan.changes (eqb-true (length plan.changes) 0 none.0)) (not_true (has_same_pid plan) differ)
+    right_alone plan (eqb-true plan.version 0 first.0) (no_item plan.changes (eqb-true (length plan.changes) 0 none.0)) (not_false (has_same_pid plan) differ)
 
 -- what changes it is right
 pub right_changes : (plan : PlanFields) → is_whole_plan plan ≡ true → has_wrong_change plan ≡ false
@@ -59,6 +55,49 @@ right_changes plan whole = by_kind (is_whole_of_settings plan) refl
     by_kind : (b : Bool) → is_whole_of_settings plan ≡ b → has_wrong_change plan ≡ false
     by_kind true is = right_of_settings plan is
     by_kind false is = right_of_pid plan (ap (λ (b : Bool). b || is_whole_of_pid plan) (sym is) ∙ whole)
+
+-- a plan by itself passes the checks over the whole
+consistent : (plan : PlanFields) → is_plan plan ≡ true → is_consistent plan ≡ true
+unfolding is_plan_of_settings is_plan_of_pid
+consistent plan valid = by_parts (is_in_range 32 plan) (is_consistent plan) _ (is_in_range 0 plan) _ valid
+  where
+    by_parts : (a b c d e : Bool) → ((a && (b && c)) || (d && (b && e))) ≡ true → b ≡ true
+    by_parts a true c d e any = refl
+    by_parts true false c true e any = absurd (cc)
+    by_parts true false c false e any = absurd (cc)
+    by_parts false false c true e any = absurd (cc)
+    by_parts false false c false e any = absurd (cc)
+
+right_carrier : (plan : PlanFields) → is_consistent plan ≡ true → not (has_wrong_carrier plan) ≡ true
+unfolding is_consistent
+right_carrier plan all = (both (not (has_wrong_carrier plan)) _ all).0
+
+-- without baseband frames no service is of GSE packets
+no_gse : (baseband wrong found : Bool) → baseband ≡ false → not (cond baseband wrong found) ≡ true → found ≡ false
+no_gse false wrong found is right = not_false found right
+no_gse true wrong found is right = absurd (cc)
+
+pid_of_kind : (kind : KindFields) → is_gse kind ≡ false → is_some (pid_of kind) ≡ true
+pid_of_kind (ule pid address packing) is = refl
+pid_of_kind (mpe pid) is = refl
+pid_of_kind (fec pid rows parity window) is = refl
+pid_of_kind (gse isi address) is = absurd (cc)
+
+pids_of_services : (services : List Service) → list_any is_gse (map (λ (s : ServiceFields). s.kind) (map service_seen services)) ≡ false
+    → list_all (λ (s : Service). is_some (pid_of (kind_seen s.kind))) services ≡ true
+pids_of_services [] none = refl
+pids_of_services (s ∷ services) none =
+    let parts = neither (is_gse (kind_seen s.kind)) (list_any is_gse (map (λ (t : ServiceFields). t.kind) (map service_seen services))) none in
+    ap (λ (b : Bool). b && list_all (λ (t : Service). is_some (pid_of (kind_seen t.kind))) services) (pid_of_kind (kind_seen s.kind) parts.0)
+    ∙ pids_of_services services parts.1
+
+-- all services of a plan of transport packets are on PIDs
+pub all_on_pids : (plan : PlanFields) (services : List Service) → plan.services ≡ map service_seen services → is_plan plan ≡ true → is_baseband plan ≡ false
+    → list_all (λ (s : Service). is_some (pid_of (kind_seen s.kind))) services ≡ true
+all_on_pids plan services are valid packets =
+    pids_of_services services
+    (ap (λ (xs : List ServiceFields). list_any is_gse (map (λ (s : ServiceFields). s.kind) xs)) (sym are)
+    ∙ no_gse (is_baseband plan) _ (list_any is_gse (kinds plan)) packets (right_carrier plan (consistent plan valid)))
 
 -- the rows of a frame
 pub are_rows : (rows : ℕ) → is_row_count rows ≡ true → IsRows rows
@@ -126,10 +165,6 @@ kind_at p (s ∷ services) zero it all found =
 kind_at p (s ∷ services) (suc k) it all found =
     kind_at p services k it (both (p (kind_seen s.kind)) (list_all (λ (t : Service). p (kind_seen t.kind)) services) all).1 found
 
-pub built_seen : (services : List Service) → list_all (λ (s : Service). is_received (kind_seen s.kind)) services ≡ list_all is_received (map (λ (s : ServiceFields). s.kind) (map service_seen services))
-built_seen [] = refl
-built_seen (s ∷ services) = ap (λ (b : Bool). is_received (kind_seen s.kind) && b) (built_seen services)
-
 -- one receiver more
 opened_push : (form : RecordingForm) (services : List ServiceFields) (receivers : List ServiceReceiver) (it : ServiceFields) (receiver : ServiceReceiver)
     → AreOpened form services receivers → IsOpened form it receiver → AreOpened form (services ++ it ∷ []) (receivers ++ receiver ∷ [])
@@ -196,16 +231,3 @@ received_nothing plan receivers none no_unit no_frame all = record {
         before_of_frames = opened.before_of_frames ∙ sym (no_frame k receiver.pid);
       };
 }
-
-drop_next : (services : List Service) (k : ℕ) (it : Service) → slice_get services k ≡ Some it → drop k services ≡ it ∷ drop (suc k) services
-drop_next [] k it found = absurd (cc)
-drop_next (s ∷ services) zero it found = let same : s ≡ it = cc in ap (λ (t : Service). t ∷ services) same
-drop_next (s ∷ services) (suc k) it found = drop_next services k it found
-
--- whether the services from a place on are known
-pub built_from : (services : List Service) (k : ℕ) (it : Service) → slice_get services k ≡ Some it
-    → list_all (λ (s : Service). is_received (kind_seen s.kind)) (drop k services) ≡ (is_received (kind_seen it.kind) && list_all (λ (s : Service). is_received (kind_seen s.kind)) (drop (k + 1) services))
-built_from services k it found =
-    let number : suc k ≡ k + 1 = omega arith in
-    ap (list_all (λ (s : Service). is_received (kind_seen s.kind))) (drop_next services k it found)
-    ∙ ap (λ (n : ℕ). is_received (kind_seen it.kind) && list_all (λ (s : Service). is_received (kind_seen s.kind)) (drop n services)) number

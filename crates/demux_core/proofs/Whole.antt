@@ -26,7 +26,7 @@ use Rattle.reception_law.specs.InForce.{pid_in_force}
 use Rattle.service_reception.specs.Telling.{pairs_of, Told, StopsWithin}
 use Rattle.service_reception.specs.Table.{shown_among}
 use Rattle.service_reception.proofs.Fronts.{table_stays}
-use Rattle.demux_core.specs.Outlets.{Delivers, DeliversFront}
+use Rattle.bb_demux.specs.Outlets.{Delivers, DeliversFront}
 use Rattle.demux_core.specs.Moving.{AllFollow, closed_by_switch}
 use Rattle.demux_core.specs.Services.{IsReception, HasReceivedOne, HaveReceived, HasReceivedBy, HasReceivedInt, HaveAllReceived, is_table_pid, is_service_pid, version_of_table}
 use Rattle.demux_core.specs.declared.service.ServiceReceiver.{ServiceReceiver}

@@ -1,4 +1,3 @@
-pub mod Outlets
 pub mod Counts
 pub mod Contents
 pub mod Services
@@ -6,3 +5,4 @@ pub mod Opening
 pub mod Moving
 pub mod Places
 pub mod Receiving
+pub mod Carriers

@@ -1,13 +1,13 @@
-//! The receiver of a plan: records in, the datagrams of all its services out to an outlet, and everything counted.
-//! It follows the plan where its INT puts another version in force.
+//! The receiver of a plan: records or baseband frames in, the datagrams of all its services out to an outlet, and everything
+//! counted. It follows the plan where its INT puts another version in force.
 //!
 //! Receiving: ts_record -> ts_packet -> service_reception, frame_reception -> [demux_core] -> outlet, loss_report.
-//! Begin with `can_receive` and `Receiver::open`, then `step` for each record, and `finish`.
+//! Begin with `Receiver::open`, then `step` for each record or `step_frame` for each frame, and `finish`.
 #![tactic(auto)]
 
 mod content;
-mod kinds;
 mod packet;
+mod packet_receiver;
 mod places;
 mod receiver;
 mod service;
@@ -16,5 +16,5 @@ mod sums;
 mod switch;
 mod table;
 
-pub use kinds::can_receive;
+pub use packet_receiver::PacketReceiver;
 pub use receiver::Receiver;

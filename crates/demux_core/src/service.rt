@@ -5,7 +5,6 @@ ghost use Rattle.ts_spec.specs.Recording.{RecordingForm, Record};
 ghost use Rattle.section_spec.specs.Mpe.{IsRows};
 ghost use Rattle.slice_spec.specs.Moments.{ten};
 ghost use Rattle.plan_spec.specs.Plan.{ServiceFields, WindowFields, fec, pid_of};
-ghost use Rattle.plan_spec.specs.Built.{is_received};
 ghost use Rattle.plan.specs.Parts.{form_of, kind_seen};
 ghost use Rattle.reception_law.specs.Words.{added_by, closed_by};
 ghost use Rattle.service_reception.specs.Reception.{packet_record};
@@ -179,7 +178,7 @@ impl<'a> ServiceReceiver<'a> {
         kind: &Kind,
         recording: Recording,
     ) -> Result<ServiceReceiver<'a>, OutOfMemory>
-        requires received { is_received (kind_seen kind.now) ≡ true }
+        requires on_pid { is_some (pid_of (kind_seen kind.now)) ≡ true }
         requires rows { has_right_rows (kind_seen kind.now) ≡ true }
         ensures opened { IfOk result (λ receiver. (it : ServiceFields) → it.kind ≡ kind_seen kind.now → IsOpened (form_of recording) it receiver) }
     {

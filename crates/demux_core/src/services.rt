@@ -1,9 +1,9 @@
 //! The receivers of all services of a plan, in its order, and the place of each by its PID.
-ghost use Rattle.std.specs.Prelude.{◌≡◌, ◌==◌, ◌≤◌, true, map, IfOk, length};
+ghost use Rattle.std.specs.Prelude.{◌≡◌, ◌==◌, ◌≤◌, true, map, IfOk, length, is_some};
 ghost use Rattle.std.specs.List.{list_all, position};
 ghost use Rattle.plan.specs.Parts.{form_of, kind_seen, service_seen};
 ghost use Rattle.plan.specs.declared.service.Service.{Service};
-ghost use Rattle.plan_spec.specs.Built.{is_received};
+ghost use Rattle.plan_spec.specs.Plan.{pid_of};
 ghost use Rattle.demux_core.specs.Opening.{AreOpened, has_right_rows};
 ghost use Rattle.demux_core.specs.Places.{AreFound};
 
@@ -26,7 +26,7 @@ fn open_receivers<'a>(
     list: &ServiceList,
     recording: Recording,
 ) -> Result<Vec<ServiceReceiver<'a>, &'a Bump>, OutOfMemory>
-    requires known { list_all (λ (it : Service). is_received (kind_seen it.kind)) list.now ≡ true }
+    requires on_pids { list_all (λ (it : Service). is_some (pid_of (kind_seen it.kind))) list.now ≡ true }
     requires rows { list_all (λ (it : Service). has_right_rows (kind_seen it.kind)) list.now ≡ true }
     ensures opened { IfOk result (λ receivers. AreOpened (form_of recording) (map service_seen list.now) receivers.items) }
 {
@@ -44,7 +44,7 @@ pub(crate) fn open_services<'a>(
     list: &ServiceList,
     recording: Recording,
 ) -> Result<Services<'a>, OutOfMemory>
-    requires known { list_all (λ (it : Service). is_received (kind_seen it.kind)) list.now ≡ true }
+    requires on_pids { list_all (λ (it : Service). is_some (pid_of (kind_seen it.kind))) list.now ≡ true }
     requires rows { list_all (λ (it : Service). has_right_rows (kind_seen it.kind)) list.now ≡ true }
     requires few { length list.now ≤ 64 }
     ensures opened { IfOk result (λ services. AreOpened (form_of recording) (map service_seen list.now) services.receivers.items) }

@@ -9,7 +9,7 @@ ghost use Rattle.plan.specs.PlanView.{plan_fields};
 ghost use Rattle.reception_spec.specs.Delivered.{pairs_of};
 ghost use Rattle.reception_law.specs.Words.{closed_by, closed_on};
 ghost use Rattle.frame_reception.specs.Delivering.{Delivers as DeliversAfter, GoesOn};
-ghost use Rattle.demux_core.specs.Outlets.{Delivers, DeliversFront};
+ghost use Rattle.bb_demux.specs.Outlets.{Delivers, DeliversFront};
 ghost use Rattle.demux_core.specs.Services.{IsEndingOne, HaveReceived};
 ghost use Rattle.demux_core.specs.Moving.{Follows, AllFollow, where_left, closed_by_switch, closed_at};
 ghost use Rattle.demux_core.specs.Places.{AreFound};

@@ -9,9 +9,9 @@ use Rattle.plan_spec.specs.Changes.{has_wrong_change}
 use Rattle.pcap_file.specs.Capture.{capture_head, capture_record, capture_text}
 use Rattle.reception_spec.specs.Delivered.{told_of, delivered_of, given_by_record, given_by_end}
 use Rattle.reception_law.proofs.WhatIsTold.{told_stays, all_at_end}
-use Rattle.receive_command.specs.Files.{capture_of}
-use Rattle.receive_command.specs.Reading.{records_in}
-use Rattle.receive_command.proofs.Pairs.{told_capture}
+use Rattle.bb_reception_spec.specs.Delivered.{service_at, added_by, delivered_of as delivered_of_frames}
+use Rattle.bb_reception_law.proofs.FrameByFrame.{delivered_stays}
+use Rattle.receive_command.specs.Pieces.{records_in, told_capture_on, capture_on, capture_from}
 
 text-append : (xs ys : List (List ℕ)) → capture_text (xs ++ ys) ≡ capture_text xs ++ flat_map capture_record ys
 text-append xs ys =
@@ -52,12 +52,31 @@ delivered_goes_on plan right k xs ys =
       all_at_end plan k (xs ++ ys) right ∙ ap (λ (t : List (List ℕ)). t ++ given) told.1 ∙ append_assoc (told_of plan k xs) told.0 given,
     )
 
--- what the records of a front tell goes on in the capture of what all deliver
-pub capture_more : (plan : PlanFields) → has_wrong_change plan ≡ false → (xs ys : List (List ℕ)) (k : ℕ)
-    → (more : List ℕ) × (capture_of plan (records_in plan (xs ++ ys)) k ≡ told_capture plan (records_in plan xs) k ++ more)
-capture_more plan right xs ys k =
+-- of frames: more deliver more
+frames_go_on : (plan : PlanFields) (k : ℕ) (ys xs : List (List ℕ)) → (more : List (List ℕ)) × (delivered_of_frames plan k (xs ++ ys) ≡ delivered_of_frames plan k xs ++ more)
+frames_go_on plan k [] xs = ([], ap (delivered_of_frames plan k) (append-nil xs) ∙ sym (append-nil (delivered_of_frames plan k xs)))
+frames_go_on plan k (y ∷ ys) xs =
+    let rest : (more : List (List ℕ)) × (delivered_of_frames plan k ((xs ++ y ∷ []) ++ ys) ≡ delivered_of_frames plan k (xs ++ y ∷ []) ++ more) = frames_go_on plan k ys (xs ++ y ∷ []) in
+    let given : List (List ℕ) = added_by (service_at plan k) xs y in (
+      given ++ rest.0,
+      ap (delivered_of_frames plan k) (sym (append_assoc xs (y ∷ []) ys)) ∙ rest.1
+          ∙ ap (λ (t : List (List ℕ)). t ++ rest.0) (delivered_stays (service_at plan k) xs y)
+          ∙ append_assoc (delivered_of_frames plan k xs) given rest.0,
+    )
+
+-- what the pieces of a front tell goes on in the capture of what all deliver
+capture_more_on : (carrier : Option ℕ) (plan : PlanFields) → has_wrong_change plan ≡ false → (xs ys : List (List ℕ)) (k : ℕ)
+    → (more : List ℕ) × (capture_on carrier plan (xs ++ ys) k ≡ told_capture_on carrier plan xs k ++ more)
+capture_more_on None plan right xs ys k =
     let records : (more : List Record) × (records_in plan (xs ++ ys) ≡ records_in plan xs ++ more) = records_more plan.recording xs ys in
     let datagrams = delivered_goes_on plan right k (records_in plan xs) records.0 in (
       flat_map capture_record datagrams.0,
-      ap (λ (r : List Record). capture_of plan r k) records.1 ∙ ap capture_text datagrams.1 ∙ text-append (told_of plan k (records_in plan xs)) datagrams.0,
+      ap (λ (r : List Record). capture_text (delivered_of plan k r)) records.1 ∙ ap capture_text datagrams.1 ∙ text-append (told_of plan k (records_in plan xs)) datagrams.0,
     )
+capture_more_on (Some size) plan right xs ys k =
+    let datagrams = frames_go_on plan k ys xs in
+    (flat_map capture_record datagrams.0, ap capture_text datagrams.1 ∙ text-append (delivered_of_frames plan k xs) datagrams.0)
+
+pub capture_more : (plan : PlanFields) → has_wrong_change plan ≡ false → (xs ys : List (List ℕ)) (k : ℕ)
+    → (more : List ℕ) × (capture_from plan (xs ++ ys) k ≡ told_capture_on plan.frame_bytes plan xs k ++ more)
+capture_more plan right xs ys k = capture_more_on plan.frame_bytes plan right xs ys k

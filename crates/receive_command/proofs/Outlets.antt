@@ -6,7 +6,7 @@ use Rattle.wire_spec.specs.Content.{File, ChangesFile, grown}
 use Rattle.pcap_file.specs.Capture.{capture_record}
 use Rattle.ipe_io.specs.Told.{RackTold}
 use Rattle.ipe_io.proofs.Told.{IsThere}
-use Rattle.demux_core.specs.Outlets.{Delivers, DeliversFront}
+use Rattle.bb_demux.specs.Outlets.{Delivers, DeliversFront}
 use Rattle.receive_command.specs.declared.outlet.Progress.{Progress}
 use Rattle.receive_command.specs.declared.outlet.Progress.TheVariants.{Whole, Stopped, Passed}
 use Rattle.receive_command.specs.Growth.{Grow, GrowTo, StayTold, EndsWith, text_in, records_at}

@@ -1,5 +1,5 @@
 -- Pairs of service and datagram: one record more, and what the file of a service has of them.
-use Rattle.std.proofs.Common.{◌≡◌, inl, inr, ℕ, ◌+◌, ◌<◌, Bool, false, cond, ◌==◌, List, [], ◌∷◌, ◌++◌, length, flat_map, refl, ap, ap₂, sym, ◌∙◌, arith}
+use Rattle.std.proofs.Common.{◌≡◌, inl, inr, ℕ, ◌+◌, ◌<◌, Bool, false, cond, ◌==◌, Option, None, Some, List, [], ◌∷◌, ◌++◌, length, flat_map, refl, ap, ap₂, sym, ◌∙◌, arith}
 use Rattle.std.proofs.lemmas.List.{append-nil}
 use Rattle.std.proofs.lemmas.Grind.{flat_map-append}
 use Rattle.std.proofs.lemmas.Bool.{cases_eq, eq-eqb, ne_eqb}
@@ -8,10 +8,13 @@ use Rattle.plan_spec.specs.Plan.{PlanFields}
 use Rattle.plan_spec.specs.Changes.{has_wrong_change}
 use Rattle.pcap_file.specs.Capture.{capture_head, capture_record, capture_text}
 use Rattle.reception_spec.specs.Delivered.{told_of, delivered_of, told_pairs, delivered_pairs, pairs_of_record}
+use Rattle.bb_reception_spec.specs.Delivered.{delivered_of as delivered_of_frames, delivered_pairs as delivered_frames}
+use Rattle.bb_reception_law.proofs.FrameByFrame.{part_is as part_of_frames}
 use Rattle.reception_law.specs.Words.{datagram_of, datagrams_of}
 use Rattle.reception_law.proofs.DeliveredPairs.{pairs_more, part_is_told, part_is}
 use Rattle.receive_command.specs.Growth.{text_in, record_in_file, records_at}
-use Rattle.receive_command.specs.Files.{capture_of, capture_of_pairs}
+use Rattle.receive_command.specs.Pieces.{records_in, told_pairs_on, pairs_of_end_on, told_capture_on, capture_on}
+use Rattle.receive_command.specs.Files.{capture_of_pairs}
 
 pub pairs_none : (plan : PlanFields) → told_pairs plan [] ≡ []
 pairs_none plan = refl
@@ -39,24 +42,26 @@ records_of_service first k (pair ∷ pairs) =
     ∙ sym (flat_map-append capture_record (datagram_of k pair) (datagrams_of k pairs))
 
 -- and its file has the capture of its datagrams among the pairs
-capture_is : (k : ℕ) (pairs : List (ℕ × List ℕ)) (datagrams : List (List ℕ)) → datagrams_of k pairs ≡ datagrams → capture_of_pairs pairs k ≡ capture_text datagrams
+pub capture_is : (k : ℕ) (pairs : List (ℕ × List ℕ)) (datagrams : List (List ℕ)) → datagrams_of k pairs ≡ datagrams → capture_of_pairs pairs k ≡ capture_text datagrams
 capture_is k pairs datagrams are =
     let here : k ≡ 0 + k = omega arith in
     ap (λ (n : ℕ). capture_head ++ records_at 0 pairs n) here
     ∙ ap (λ (t : List ℕ). capture_head ++ t) (records_of_service 0 k pairs ∙ ap (flat_map capture_record) are)
 
--- of what records tell
-abbrev pub told_capture : PlanFields → List Record → ℕ → List ℕ
-told_capture plan records k = capture_text (told_of plan k records)
-
-pub capture_of_told : (plan : PlanFields) → has_wrong_change plan ≡ false → (records : List Record) (k : ℕ) → k < length plan.services
-    → capture_of_pairs (told_pairs plan records) k ≡ told_capture plan records k
-capture_of_told plan right records k there = capture_is k (told_pairs plan records) (told_of plan k records) (part_is_told plan records k right there)
+-- of what pieces tell
+pub capture_of_told : (carrier : Option ℕ) (plan : PlanFields) → has_wrong_change plan ≡ false → (pieces : List (List ℕ)) (k : ℕ) → k < length plan.services
+    → capture_of_pairs (told_pairs_on carrier plan pieces) k ≡ told_capture_on carrier plan pieces k
+capture_of_told None plan right pieces k there =
+    capture_is k (told_pairs plan (records_in plan pieces)) (told_of plan k (records_in plan pieces)) (part_is_told plan (records_in plan pieces) k right there)
+capture_of_told (Some size) plan right frames k there = capture_is k (delivered_frames plan frames) (delivered_of_frames plan k frames) (part_of_frames plan frames k there)
 
 -- and of what they deliver where the recording ends
-pub capture_of_delivered : (plan : PlanFields) → has_wrong_change plan ≡ false → (records : List Record) (k : ℕ) → k < length plan.services
-    → capture_of_pairs (delivered_pairs plan records) k ≡ capture_of plan records k
-capture_of_delivered plan right records k there = capture_is k (delivered_pairs plan records) (delivered_of plan k records) (part_is plan records k right there)
+pub capture_of_delivered : (carrier : Option ℕ) (plan : PlanFields) → has_wrong_change plan ≡ false → (pieces : List (List ℕ)) (k : ℕ) → k < length plan.services
+    → capture_of_pairs (told_pairs_on carrier plan pieces ++ pairs_of_end_on carrier plan pieces) k ≡ capture_on carrier plan pieces k
+capture_of_delivered None plan right pieces k there =
+    capture_is k (delivered_pairs plan (records_in plan pieces)) (delivered_of plan k (records_in plan pieces)) (part_is plan (records_in plan pieces) k right there)
+capture_of_delivered (Some size) plan right frames k there =
+    ap (λ (pairs : List (ℕ × List ℕ)). capture_of_pairs pairs k) (append-nil (delivered_frames plan frames)) ∙ capture_of_told (Some size) plan right frames k there
 
 -- The places of files.
 

@@ -4,11 +4,10 @@ use Rattle.std.specs.List.{flat_map, slice_get}
 use Rattle.std.proofs.lemmas.List.{append-nil, take_all, take-append-le, take_min}
 use Rattle.std.proofs.lemmas.Option.{slice_get_within}
 use Rattle.wire_spec.specs.Content.{File}
-use Rattle.ts_spec.specs.Recording.{Record}
 use Rattle.plan_spec.specs.Plan.{ServiceFields, PlanFields}
-use Rattle.reception_spec.specs.Delivered.{delivered_of}
 use Rattle.pcap_file.specs.Capture.{capture_record, capture_text}
-use Rattle.receive_command.specs.Files.{file_with, files_from, head_of, capture_of, AddsCaptures, AddsHeads, AddsParts, IsPart, AreParts}
+use Rattle.receive_command.specs.Pieces.{delivered_from, capture_from}
+use Rattle.receive_command.specs.Files.{file_with, files_from, head_of, AddsCaptures, AddsHeads, AddsParts, IsPart, AreParts}
 
 -- the whole is a part
 whole_part : (b : Bool) (text name : List ℕ) → IsPart text name (file_with b name text)
@@ -89,9 +88,9 @@ heads_are_parts datagrams services old new parts = record {
   added = parts.added;
 }
 
-pub parts_of_heads : (plan : PlanFields) (records : List Record) (services : List ServiceFields) (old new : Option (List File)) → AddsParts head_of services old new
-    → AddsParts (capture_of plan records) services old new
-parts_of_heads plan records services old new parts = heads_are_parts (λ k. delivered_of plan k records) services old new parts
+pub parts_of_heads : (plan : PlanFields) (pieces : List (List ℕ)) (services : List ServiceFields) (old new : Option (List File)) → AddsParts head_of services old new
+    → AddsParts (capture_from plan pieces) services old new
+parts_of_heads plan pieces services old new parts = heads_are_parts (λ k. delivered_from plan k pieces) services old new parts
 
 pub parts_of_some : (services : List ServiceFields) (old new : Option (List File)) → AddsHeads services old new → AddsParts head_of services old new
 parts_of_some services old new heads = record {

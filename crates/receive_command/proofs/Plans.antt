@@ -1,5 +1,5 @@
 -- What holds of every plan: how many services it has, their names, and that none of its changes is wrong.
-use Rattle.std.proofs.Common.{◌≡◌, ◌⊎◌, inl, inr, ℕ, zero, suc, ◌<◌, ◌≤◌, Bool, true, false, not, ◌&&◌, ◌||◌, Some, List, [], ◌∷◌, length, eqb, refl, subst, arith}
+use Rattle.std.proofs.Common.{◌≡◌, ◌⊎◌, inl, inr, ℕ, zero, suc, ◌<◌, ◌≤◌, Bool, true, false, not, ◌&&◌, ◌||◌, Option, None, Some, List, [], ◌∷◌, length, eqb, refl, subst, arith}
 use Rattle.std.specs.Prelude.{nat_le, slice_get}
 use Rattle.std.specs.List.{list_all}
 use Rattle.std.proofs.lemmas.Bool.{eqb-true, leb-true}
@@ -8,8 +8,12 @@ use Rattle.plan_spec.specs.Checks.{is_between, is_service_name, has_wrong_carrie
 use Rattle.plan_spec.specs.Changes.{has_wrong_change}
 use Rattle.plan_spec.specs.Valid.{most_services, is_valid_rule, has_valid_values, is_valid_service, is_valid_frame_size, is_valid_int, has_valid_top, is_in_range, is_consistent, is_plan_of_settings, is_plan_of_pid, is_plan}
 use Rattle.plan_spec.specs.Wholes.{has_valid_changes, is_whole_of_settings, is_whole_of_pid, is_whole_plan}
+use Rattle.carrier_spec.specs.Stream.{piece_size}
+use Rattle.bb_stream_law.proofs.PlanChecks.{has_size}
 use Rattle.plan_law.proofs.Lists.{not_false}
 use Rattle.plan_law.proofs.Alone.{right_alone}
+use Rattle.receive_command.specs.Pieces.{size_on}
+use Rattle.receive_command.proofs.Advance.{some_size}
 
 both : (a b : Bool) → (a && b) ≡ true → (a ≡ true) × (b ≡ true)
 both true b e = (refl, e)
@@ -96,3 +100,12 @@ changes_right plan whole = elim (either (is_whole_of_settings plan) (is_whole_of
   | inl settings ↦ right_of_settings plan settings
   | inr pid ↦ right_of_pid plan pid
 ]
+
+-- The bytes of a piece.
+
+some_on : (plan : PlanFields) (carrier : Option ℕ) → plan.frame_bytes ≡ carrier → is_whole_plan plan ≡ true → 0 < size_on carrier plan
+some_on plan None is whole = some_size plan.recording
+some_on plan (Some size) is whole = omega (arith, (has_size plan size whole is).0)
+
+pub piece_some : (plan : PlanFields) → is_whole_plan plan ≡ true → 0 < piece_size plan
+piece_some plan whole = some_on plan plan.frame_bytes refl whole

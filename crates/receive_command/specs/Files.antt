@@ -1,10 +1,8 @@
 -- The files of services: a capture for each, in the order of the services. Texts are told by the numbers of services.
 use Rattle.std.specs.Prelude.{◌≡◌, ◌⊎◌, ℕ, ◌+◌, ◌<◌, Bool, true, false, List, [], ◌∷◌, ◌++◌, length, take, drop, slice_get, codes, if◌then◌else◌, Option, None, Some, ⊤}
 use Rattle.wire_spec.specs.Content.{File, AddsFile, Stays}
-use Rattle.ts_spec.specs.Recording.{Record}
-use Rattle.plan_spec.specs.Plan.{ServiceFields, PlanFields}
-use Rattle.reception_spec.specs.Delivered.{delivered_of}
-use Rattle.pcap_file.specs.Capture.{capture_head, capture_text}
+use Rattle.plan_spec.specs.Plan.{ServiceFields}
+use Rattle.pcap_file.specs.Capture.{capture_head}
 use Rattle.receive_command.specs.Growth.{records_at, records_and}
 
 -- the name of the file of a service
@@ -19,11 +17,7 @@ file_with is_flushed name text = record {
   flushed = if is_flushed then length text else 0;
 }
 
--- What the file of service k has.
-
--- of all records: the capture of the datagrams that they deliver of it
-abbrev pub capture_of : PlanFields → List Record → ℕ → List ℕ
-capture_of plan records k = capture_text (delivered_of plan k records)
+-- What the file of service k has, but for the capture of all (in Pieces).
 
 -- before any record
 abbrev pub head_of : ℕ → List ℕ

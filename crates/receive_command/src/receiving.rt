@@ -1,5 +1,5 @@
-//! The command `receive`: a recording in, a capture for each service and the report out.
-ghost use Rattle.std.specs.Prelude.{◌≡◌, ◌⊎◌, ℕ, ◌*◌, ◌<◌, ◌≤◌, true, false, List, length, Some, slice_get, OnOk, OnErr, IsErrOf};
+//! The command `receive` for a plan of transport packets: a recording of records in, a capture for each service and the report out.
+ghost use Rattle.std.specs.Prelude.{◌≡◌, ◌⊎◌, ℕ, ◌*◌, ◌<◌, ◌≤◌, true, false, List, length, None, Some, slice_get, OnOk, OnErr, IsErrOf};
 ghost use Rattle.wire_spec.specs.Causes.{Rose, raised};
 ghost use Rattle.wire_spec.specs.Content.{Stays};
 ghost use Rattle.ts_spec.specs.Recording.{record_size, Record as ReadRecord};
@@ -8,46 +8,43 @@ ghost use Rattle.plan_spec.specs.Checks.{is_service_name};
 ghost use Rattle.plan.specs.PlanView.{plan_fields};
 ghost use Rattle.ipe_io.specs.Counts.{IsFlushed};
 ghost use Rattle.demux_core.specs.Receiving.{HasReceived};
-ghost use Rattle.plan_spec.specs.Built.{are_received};
 ghost use Rattle.receive_command.specs.Files.{AddsHeads};
 ghost use Rattle.receive_command.specs.Reading.{most_records};
-ghost use Rattle.receive_command.specs.Ends.{EndsWhole, EndsFront, EndsAtLimit, EndsInFiles, EndsReported, EndsInReport, Reports, ReportsPart};
+ghost use Rattle.receive_command.specs.Report.{IsReport};
+ghost use Rattle.receive_command.specs.Ends.{EndsWholeOn, EndsFrontOn, EndsAtLimitOn, EndsInFilesOn, EndsReportedOn, EndsInReportOn, Reports, ReportsPart};
 
 use crate::captures::write_captures;
 use crate::faults::ReceiveFault;
 use crate::report::report_of;
 use bumpalo::Bump;
-use demux_core::Receiver;
+use demux_core::PacketReceiver;
 use ipe_io::{Failed, Rack, Sink, Source, put_all};
 use plan::Plan;
 use std::alloc::Global;
 
-/// Receives a recording under a plan: a capture for each service, `NAME.pcap` in the order of the plan, and the report.
-///
-/// The input is read to its end. In front of the files nothing is read; after the last record the files get what the end gives and are
-/// flushed, and then the report is written.
-pub fn receive<I: Source, O: Sink, R: Rack>(
+/// The same as `receive_recording`, of a plan of transport packets.
+pub(crate) fn receive_packets<I: Source, O: Sink, R: Rack>(
     alloc: Global,
     plan: &Plan,
     input: &mut I,
     output: &mut O,
     rack: &mut R,
 ) -> Result<(), ReceiveFault>
-    requires built { are_received (plan_fields plan.now) ≡ true }
-    ensures done { OnOk result (EndsReported (plan_fields plan.now) (I.told input.old).left (I.told input.new).left (R.told rack.old).files (R.told rack.new).files (O.told output.old).held (O.told output.new).held) }
+    requires packets { (plan_fields plan.now).frame_bytes ≡ None }
+    ensures done { OnOk result (EndsReportedOn None (plan_fields plan.now) (I.told input.old).left (I.told input.new).left (R.told rack.old).files (R.told rack.new).files (O.told output.old).held (O.told output.new).held) }
     ensures flushed { OnOk result (IsFlushed (O.told output.new).held (O.told output.new).flushed) }
     ensures read { OnOk result ((I.told input.new).ended ≡ true) }
     ensures fewer { OnOk result ((n : ℕ) × (n < record_size (plan_fields plan.now).recording * most_records) × ((I.told input.new).taken ≡ raised (I.told input.old).taken n)) }
-    ensures front { IsErrOf result ReceiveFault.Source → EndsFront (plan_fields plan.now) (I.told input.old).left (I.told input.new).left (R.told rack.old).files (R.told rack.new).files }
+    ensures front { IsErrOf result ReceiveFault.Source → EndsFrontOn None (plan_fields plan.now) (I.told input.old).left (I.told input.new).left (R.told rack.old).files (R.told rack.new).files }
     ensures front_taken { IsErrOf result ReceiveFault.Source → (n : ℕ) × (n < record_size (plan_fields plan.now).recording * most_records) × ((I.told input.new).taken ≡ raised (I.told input.old).taken n) }
     ensures not_ended { IsErrOf result ReceiveFault.Source → (I.told input.old).ended ≡ false → (I.told input.new).ended ≡ false }
-    ensures limit { IsErrOf result ReceiveFault.TooLong → EndsAtLimit (plan_fields plan.now) (I.told input.old).left (I.told input.new).left (R.told rack.old).files (R.told rack.new).files }
+    ensures limit { IsErrOf result ReceiveFault.TooLong → EndsAtLimitOn None (plan_fields plan.now) (I.told input.old).left (I.told input.new).left (R.told rack.old).files (R.told rack.new).files }
     ensures limit_taken { IsErrOf result ReceiveFault.TooLong → (I.told input.new).taken ≡ raised (I.told input.old).taken (record_size (plan_fields plan.now).recording * most_records) }
-    ensures files { IsErrOf result ReceiveFault.Rack → EndsInFiles (plan_fields plan.now) (I.told input.old).left (I.told input.new).left (R.told rack.old).files (R.told rack.new).files }
+    ensures files { IsErrOf result ReceiveFault.Rack → EndsInFilesOn None (plan_fields plan.now) (I.told input.old).left (I.told input.new).left (R.told rack.old).files (R.told rack.new).files }
     ensures files_taken { IsErrOf result ReceiveFault.Rack → (n : ℕ) × (n ≤ record_size (plan_fields plan.now).recording * most_records) × ((I.told input.new).taken ≡ raised (I.told input.old).taken n) }
-    ensures report { IsErrOf result ReceiveFault.Sink → EndsInReport (plan_fields plan.now) (I.told input.old).left (I.told input.new).left (R.told rack.old).files (R.told rack.new).files (O.told output.old).held (O.told output.new).held }
+    ensures report { IsErrOf result ReceiveFault.Sink → EndsInReportOn None (plan_fields plan.now) (I.told input.old).left (I.told input.new).left (R.told rack.old).files (R.told rack.new).files (O.told output.old).held (O.told output.new).held }
     ensures memory { IsErrOf result ReceiveFault.OutOfMemory → ((input.new ≡ input.old) × AddsHeads (plan_fields plan.now).services (R.told rack.old).files (R.told rack.new).files)
-        ⊎ EndsWhole (plan_fields plan.now) (I.told input.old).left (I.told input.new).left (R.told rack.old).files (R.told rack.new).files }
+        ⊎ EndsWholeOn None (plan_fields plan.now) (I.told input.old).left (I.told input.new).left (R.told rack.old).files (R.told rack.new).files }
     ensures report_unflushed { IsErrOf result ReceiveFault.Sink → Stays (O.told output.old).flushed (O.told output.new).flushed }
     ensures unchanged { ¬ IsErrOf result ReceiveFault.Sink → OnErr result (output.new ≡ output.old) }
     ensures source { IsErrOf result ReceiveFault.Source → Rose (I.told input.old).faults (I.told input.new).faults }
@@ -58,7 +55,7 @@ pub fn receive<I: Source, O: Sink, R: Rack>(
     ensures rack_kept { ¬ IsErrOf result ReceiveFault.Rack → (R.told rack.new).faults ≡ (R.told rack.old).faults }
 {
     let arena = Bump::new(alloc);
-    let mut receiver = Receiver::open(&arena, plan)?;
+    let mut receiver = PacketReceiver::open(&arena, plan)?;
     let tail = write_captures(alloc, plan, &mut receiver, input, rack)?;
     put_report(alloc, plan, &receiver, tail, output)
 }
@@ -67,7 +64,7 @@ pub fn receive<I: Source, O: Sink, R: Rack>(
 fn put_report<O: Sink>(
     alloc: Global,
     plan: &Plan,
-    receiver: &Receiver<'_>,
+    receiver: &PacketReceiver<'_>,
     tail: u32,
     output: &mut O,
 ) -> Result<(), ReceiveFault>
@@ -75,9 +72,9 @@ fn put_report<O: Sink>(
     requires few { length plan.now.services ≤ 64 }
     requires named { (k : ℕ) (service : ServiceFields) → slice_get (plan_fields plan.now).services k ≡ Some service → is_service_name service.name ≡ true }
     ensures done { (records : List ReadRecord) → HasReceived true (plan_fields plan.now) records receiver.now
-        → OnOk result (Reports (plan_fields plan.now) records tail (O.told output.old).held (O.told output.new).held) }
+        → OnOk result (Reports (IsReport (plan_fields plan.now) records tail) (O.told output.old).held (O.told output.new).held) }
     ensures report { (records : List ReadRecord) → HasReceived true (plan_fields plan.now) records receiver.now → IsErrOf result ReceiveFault.Sink
-        → ReportsPart (plan_fields plan.now) records tail (O.told output.old).held (O.told output.new).held }
+        → ReportsPart (IsReport (plan_fields plan.now) records tail) (O.told output.old).held (O.told output.new).held }
     ensures flushed { OnOk result (IsFlushed (O.told output.new).held (O.told output.new).flushed) }
     ensures report_unflushed { IsErrOf result ReceiveFault.Sink → Stays (O.told output.old).flushed (O.told output.new).flushed }
     ensures unchanged { ¬ IsErrOf result ReceiveFault.Sink → OnErr result (output.new ≡ output.old) }

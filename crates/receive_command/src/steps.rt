@@ -8,7 +8,7 @@ ghost use Rattle.demux_core.specs.Receiving.{HasReceived};
 ghost use Rattle.receive_command.specs.Growth.{Grow, GrowTo, records_at};
 
 use crate::outlet::{Began, Progress, RackOutlet};
-use demux_core::Receiver;
+use demux_core::PacketReceiver;
 use ipe_io::{Failed, Rack};
 use std::marker::{Brand, PhantomData};
 
@@ -16,7 +16,7 @@ use std::marker::{Brand, PhantomData};
 pub(crate) fn take_record<R: Rack>(
     moment: Option<u64>,
     bytes: &[u8; 188],
-    receiver: &mut Receiver<'_>,
+    receiver: &mut PacketReceiver<'_>,
     rack: &mut R,
     first: u32,
     services: u32,
@@ -44,7 +44,7 @@ pub(crate) fn take_record<R: Rack>(
 
 /// Ends the reception. The files grow by what the frames under way give.
 pub(crate) fn end_reception<R: Rack>(
-    receiver: &mut Receiver<'_>,
+    receiver: &mut PacketReceiver<'_>,
     rack: &mut R,
     first: u32,
     services: u32,
@@ -71,7 +71,7 @@ pub(crate) fn end_reception<R: Rack>(
 fn take_from<R: Rack, B: Began>(
     moment: Option<u64>,
     bytes: &[u8; 188],
-    receiver: &mut Receiver<'_>,
+    receiver: &mut PacketReceiver<'_>,
     rack: &mut R,
     first: u32,
     services: u32,
@@ -111,7 +111,7 @@ fn take_from<R: Rack, B: Began>(
 
 /// The same as `end_reception`, where the outlet begins with what `B` has.
 fn end_from<R: Rack, B: Began>(
-    receiver: &mut Receiver<'_>,
+    receiver: &mut PacketReceiver<'_>,
     rack: &mut R,
     first: u32,
     services: u32,

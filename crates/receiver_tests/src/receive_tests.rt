@@ -1,12 +1,8 @@
 //! Receptions of small recordings into objects in memory: files, report, and each call that fails.
-ghost use Rattle.std.specs.Prelude.{◌≡◌, true, IfOk};
-ghost use Rattle.plan.specs.PlanView.{plan_fields};
-ghost use Rattle.plan_spec.specs.Built.{are_received};
 
 use crate::receiver_cases::packet_of_frame;
-use demux_core::can_receive;
 use ipe_io::StdSource;
-use receive_command::{ReceiveFault, receive, ule};
+use receive_command::{ReceiveFault, receive_recording, ule};
 use service_plan::{Plan, read_plan, ule_plan};
 use std::alloc::Global;
 use std::test::Fail;
@@ -260,17 +256,9 @@ static CASES: [Case; 20] = [
 ];
 
 /// The plan of these settings.
-fn plan_of(alloc: Global, settings: &[&str]) -> Result<Plan, Fail>
-    ensures { IfOk result (λ plan. are_received (plan_fields plan) ≡ true) }
-{
+fn plan_of(alloc: Global, settings: &[&str]) -> Result<Plan, Fail> {
     match read_plan(alloc, settings_of(alloc, settings)?.as_bytes()) {
-        Ok(plan) => {
-            if can_receive(&plan) {
-                Ok(plan)
-            } else {
-                Err("kinds".into())
-            }
-        }
+        Ok(plan) => Ok(plan),
         Err(_) => Err("settings".into()),
     }
 }
@@ -283,11 +271,9 @@ struct Ended {
 }
 
 /// Receives under a plan.
-fn received(alloc: Global, plan: &Plan, given: &Given<'_>) -> Result<Ended, Fail>
-    requires { are_received (plan_fields plan.now) ≡ true }
-{
+fn received(alloc: Global, plan: &Plan, given: &Given<'_>) -> Result<Ended, Fail> {
     let mut outside = Outside::new(alloc, given)?;
-    let end = receive(
+    let end = receive_recording(
         alloc,
         plan,
         &mut outside.input,
@@ -360,9 +346,7 @@ fn difference_of_two(alloc: Global, ended: &Ended, case: &Case<'_>) -> Result<&'
 }
 
 /// Receives the recording of a case.
-fn two_received(alloc: Global, plan: &Plan, case: &Case<'_>) -> Result<Ended, Fail>
-    requires { are_received (plan_fields plan.now) ≡ true }
-{
+fn two_received(alloc: Global, plan: &Plan, case: &Case<'_>) -> Result<Ended, Fail> {
     let input = recording_of_two(alloc, case.section, case.tail)?;
     received(
         alloc,
@@ -375,9 +359,7 @@ fn two_received(alloc: Global, plan: &Plan, case: &Case<'_>) -> Result<Ended, Fa
 }
 
 /// Receives the recording of a case, and compares what is left.
-fn comes(alloc: Global, plan: &Plan, case: &Case<'_>) -> Result<(), Fail>
-    requires { are_received (plan_fields plan.now) ≡ true }
-{
+fn comes(alloc: Global, plan: &Plan, case: &Case<'_>) -> Result<(), Fail> {
     let ended = two_received(alloc, plan, case)?;
     expect_none(alloc, case.name, difference_of_two(alloc, &ended, case)?)
 }
@@ -631,9 +613,7 @@ fn expect_frame(
 }
 
 /// Receives the frame where a call fails, and compares what is left.
-fn frame_comes(alloc: Global, plan: &Plan, case: &OneCase) -> Result<(), Fail>
-    requires { are_received (plan_fields plan.now) ≡ true }
-{
+fn frame_comes(alloc: Global, plan: &Plan, case: &OneCase) -> Result<(), Fail> {
     let input = packet_of_frame();
     let fails = [case.fails];
     let given = Given {
@@ -649,6 +629,126 @@ fn a_frame_under_way_at_the_end_is_written(rt: HostRuntime) -> Result<(), Fail> 
     let plan = plan_of(rt.alloc(), &[FRAMES])?;
     for case in &FRAME_CASES {
         frame_comes(rt.alloc(), &plan, case)?;
+    }
+    Ok(())
+}
+
+/// Settings of a service on ISI 3.
+const BASEBAND: &str = "carrier = \"bb\"
+frame_bytes = 300
+[[service]]
+name = \"files\"
+kind = \"gse\"
+isi = 3
+rules = [\"239.1.0.0/16\"]
+";
+
+/// The header of a frame on ISI 3 with 192 bits of data, and a complete packet for all receivers with the datagram of the captures
+/// (EN 302 307-1 clause 5.1.6, TS 102 606-1 clause 4.2); the CRC-8 was worked out apart from this program.
+const BASEBAND_FRAME: [u8; 34] = [
+    0x50, 3, 0, 0, 0, 0xC0, 0, 0, 0, 0x41, 0xE0, 0x16, 0x08, 0x00, 0x45, 0, 0, 20, 0, 0, 0, 0,
+    0x40, 0x11, 0, 0, 10, 0, 0, 1, 239, 1, 2, 3,
+];
+
+/// The frame, one of zeros, and 299 bytes more.
+fn recording_of_frames() -> [u8; 899] {
+    let mut recording = [0; 899];
+    recording[..34].copy_from_slice(&BASEBAND_FRAME);
+    recording
+}
+
+static BASEBAND_CASES: [OneCase; 7] = [
+    OneCase {
+        fails: Failing::Rack(9),
+        end: Ok(()),
+        file: FLUSHED,
+    },
+    OneCase {
+        fails: Failing::Input(2),
+        end: Err(ReceiveFault::Source),
+        file: HEAD,
+    },
+    OneCase {
+        fails: Failing::Input(4),
+        end: Err(ReceiveFault::Source),
+        file: WHOLE,
+    },
+    OneCase {
+        fails: Failing::Rack(2),
+        end: Err(ReceiveFault::Rack),
+        file: HEAD,
+    },
+    OneCase {
+        fails: Failing::Rack(3),
+        end: Err(ReceiveFault::Rack),
+        file: CUT,
+    },
+    OneCase {
+        fails: Failing::Rack(4),
+        end: Err(ReceiveFault::Rack),
+        file: WHOLE,
+    },
+    OneCase {
+        fails: Failing::Output(0),
+        end: Err(ReceiveFault::Sink),
+        file: FLUSHED,
+    },
+];
+
+/// What is reported of it.
+const BASEBAND_REPORT: Report = Report {
+    records: 2,
+    tail_bytes: 299,
+    unreadable: 1,
+    services: &[ServiceReport {
+        name: "files",
+        numbers: Numbers {
+            heard: 1,
+            units: 1,
+            datagrams: 1,
+            ..Numbers::NONE
+        },
+    }],
+    ..NO_RECORD
+};
+
+/// Compares what is left of the frames.
+fn expect_frames(
+    alloc: Global,
+    ended: &Ended,
+    end: Result<(), ReceiveFault>,
+    file: Held,
+) -> Result<(), Fail> {
+    let capture = small_capture(alloc, 1)?;
+    let report = match end {
+        Ok(()) => Some(BASEBAND_REPORT),
+        Err(_) => None,
+    };
+    let report = text_of(alloc, &report)?;
+    let difference = difference_of_one(ended, end, &report, "files.pcap", &capture, file)?;
+    expect_none(alloc, "baseband frames", difference)
+}
+
+/// Receives the frames where a call fails, and compares what is left.
+fn frames_come(alloc: Global, plan: &Plan, case: &OneCase) -> Result<(), Fail> {
+    let input = recording_of_frames();
+    let fails = [case.fails];
+    let given = Given {
+        fails: &fails,
+        ..faultless(&[], &[], &input)
+    };
+    let ended = received(alloc, plan, &given)?;
+    expect_frames(alloc, &ended, case.end, case.file)
+}
+
+/// Under settings of baseband frames the recording is one of frames: a cut last frame is no frame, and its bytes are counted.
+#[test]
+fn a_recording_of_frames_is_received_and_each_failing_call_ends_it(
+    rt: HostRuntime,
+) -> Result<(), Fail> {
+    let plan = plan_of(rt.alloc(), &[BASEBAND])?;
+    for case in &BASEBAND_CASES {
+        frames_come(rt.alloc(), &plan, case)?;
     }
     Ok(())
 }

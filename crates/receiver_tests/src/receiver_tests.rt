@@ -4,13 +4,13 @@ ghost use Rattle.plan.specs.PlanView.{plan_fields};
 
 use crate::receiver_cases::{Part, record_of};
 use bumpalo::Bump;
-use demux_core::{Receiver, can_receive};
+use demux_core::PacketReceiver;
 use loss_report::{ServiceCounts, StreamCounts};
 use service_plan::{Plan, read_plan, ule_plan};
 use std::alloc::Global;
 use std::test::Fail;
 use test_recordings::NotedOutlet;
-use test_recordings::settings::{BURSTS, FRAMES, INT, ONE_AND_TWO, THREE, settings_of};
+use test_recordings::settings::{FRAMES, INT, ONE_AND_TWO, THREE, settings_of};
 use test_recordings::units::{INT as FIRST_INT, NEXT_INT};
 use ts_record::Record;
 
@@ -78,7 +78,7 @@ const EMPTY: StreamCounts = StreamCounts {
 };
 
 /// Takes a record, where the receiver can be given one.
-fn take(receiver: &mut Receiver<'_>, item: &Record, noted: &mut NotedOutlet)
+fn take(receiver: &mut PacketReceiver<'_>, item: &Record, noted: &mut NotedOutlet)
     requires { length receiver.old.plan.services ≤ 8 }
     ensures { receiver.new.plan ≡ receiver.old.plan }
 {
@@ -91,7 +91,7 @@ fn take(receiver: &mut Receiver<'_>, item: &Record, noted: &mut NotedOutlet)
 }
 
 /// The numbers of a service; none where there is no such service.
-fn numbers(receiver: &Receiver<'_>, service: u32, count: usize) -> ServiceCounts
+fn numbers(receiver: &PacketReceiver<'_>, service: u32, count: usize) -> ServiceCounts
     requires { count ≤ length receiver.now.plan.services }
 {
     if service as usize >= count {
@@ -101,7 +101,7 @@ fn numbers(receiver: &Receiver<'_>, service: u32, count: usize) -> ServiceCounts
 }
 
 /// Which section is lent.
-fn lent_by(receiver: &Receiver<'_>) -> Lent {
+fn lent_by(receiver: &PacketReceiver<'_>) -> Lent {
     match receiver.table_section() {
         Some(section) => {
             if section == FIRST_INT.as_slice() {
@@ -115,7 +115,7 @@ fn lent_by(receiver: &Receiver<'_>) -> Lent {
 }
 
 /// Gives a receiver records, and where it is open then the end; whether nothing was refused at the end.
-fn give(receiver: &mut Receiver<'_>, parts: &[Part], noted: &mut NotedOutlet) -> bool
+fn give(receiver: &mut PacketReceiver<'_>, parts: &[Part], noted: &mut NotedOutlet) -> bool
     requires { length receiver.old.plan.services ≤ 8 }
     ensures { receiver.new.plan ≡ receiver.old.plan }
 {
@@ -128,12 +128,12 @@ fn give(receiver: &mut Receiver<'_>, parts: &[Part], noted: &mut NotedOutlet) ->
 /// Opens a receiver and gives it records.
 fn ran(alloc: Global, plan: &Plan, parts: &[Part], refuses_from: usize) -> Result<Ended, Fail> {
     let count = plan.services.len();
-    if !can_receive(plan) || count > 8 {
+    if plan.frame_bytes.is_some() || count > 8 {
         return Err("plan".into());
     }
     let arena = Bump::new(alloc);
     let mut noted = NotedOutlet::new(refuses_from);
-    let mut receiver = Receiver::open(&arena, plan)?;
+    let mut receiver = PacketReceiver::open(&arena, plan)?;
     let is_finished = give(&mut receiver, parts, &mut noted);
     Ok(Ended {
         is_finished,
@@ -485,22 +485,7 @@ fn services_do_not_disturb_each_other(rt: HostRuntime) -> Result<(), Fail> {
     Ok(())
 }
 
-/// A service of GSE packets in baseband frames.
-const BASEBAND: &str = "carrier = \"bb\"
-[[service]]
-name = \"files\"
-kind = \"gse\"
-isi = 1
-rules = [\"239.2.0.0/16\"]
-";
-
-/// Whether a receiver knows all services of the settings.
-fn is_known(alloc: Global, settings: &str) -> Result<bool, Fail> {
-    let plan = read_plan(alloc, settings.as_bytes()).map_err(|_| "settings")?;
-    Ok(can_receive(&plan))
-}
-
-/// The plan of one PID: no INT, and the packets of all other PIDs are other. GSE packets are not known yet.
+/// The plan of one PID: no INT, and the packets of all other PIDs are other.
 #[test]
 fn one_pid_is_received_by_itself(rt: HostRuntime) -> Result<(), Fail> {
     let plan = ule_plan(rt.alloc(), 256)?;
@@ -531,8 +516,6 @@ fn one_pid_is_received_by_itself(rt: HostRuntime) -> Result<(), Fail> {
     };
     let ended = ran(rt.alloc(), &plan, &parts, 100)?;
     assert_eq!(rt; difference(&ended, &case), "");
-    assert_eq!(rt; is_known(rt.alloc(), BURSTS)?, true);
-    assert_eq!(rt; is_known(rt.alloc(), BASEBAND)?, false);
     Ok(())
 }
 

@@ -10,7 +10,7 @@ use Rattle.reception_spec.specs.Spans.{span_of}
 use Rattle.reception_spec.specs.Delivered.{service_on, pairs_of_record}
 use Rattle.reception_law.specs.Words.{added_by}
 use Rattle.service_reception.specs.Reception.{packet_record}
-use Rattle.demux_core.specs.Outlets.{Delivers, DeliversFront}
+use Rattle.bb_demux.specs.Outlets.{Delivers, DeliversFront}
 use Rattle.demux_core.specs.Services.{HaveAllReceived, is_table_pid, is_service_pid}
 use Rattle.demux_core.specs.declared.table.TableReceiver.{TableReceiver}
 use Rattle.demux_core.proofs.Laws.{Laws, laws_of}

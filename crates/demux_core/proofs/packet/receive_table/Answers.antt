@@ -8,7 +8,7 @@ use Rattle.reception_spec.specs.Spans.{version_at_end}
 use Rattle.service_reception.specs.Reception.{packet_record}
 use Rattle.service_reception.proofs.Records.{is_of_read}
 use Rattle.demux_core.specs.Moving.{AllFollow}
-use Rattle.demux_core.specs.Outlets.{Delivers, DeliversFront}
+use Rattle.bb_demux.specs.Outlets.{Delivers, DeliversFront}
 use Rattle.demux_core.proofs.Laws.{laws_of}
 use Rattle.demux_core.proofs.Whole.{told_none, int_took, int_switched, int_gives_none, int_gives}
 use Rattle.demux_core.proofs.packet.receive_table.Goals as goal

@@ -1,6 +1,7 @@
 use Rattle.std.proofs.Common.{◌+◌, List, map, take, refl, sym, subst}
+use Rattle.std.specs.Prelude.{is_some}
 use Rattle.plan.specs.Parts.{form_of, service_seen}
-use Rattle.plan_spec.specs.Built.{is_received}
+use Rattle.plan_spec.specs.Plan.{pid_of}
 use Rattle.demux_core.specs.Opening.{AreOpened, has_right_rows}
 use Rattle.demux_core.specs.declared.service.ServiceReceiver.{ServiceReceiver}
 use Rattle.demux_core.proofs.Opened.{kind_at, opened_next}
@@ -8,7 +9,7 @@ use Rattle.demux_core.proofs.services.open_receivers.Goals as goal
 
 pub open-requires : goal.open-requires
 open-requires c = record {
-  received = kind_at is_received c.args.list.now c.loop-at.at c.at.result.now c.requires.known c.at.ensures.read;
+  on_pid = kind_at (λ kind. is_some (pid_of kind)) c.args.list.now c.loop-at.at c.at.result.now c.requires.on_pids c.at.ensures.read;
   rows = kind_at has_right_rows c.args.list.now c.loop-at.at c.at.result.now c.requires.rows c.at.ensures.read;
 }
 

@@ -4,7 +4,7 @@ use Rattle.std.proofs.lemmas.List.{length-set, length-map}
 use Rattle.std.proofs.lemmas.Option.{slice_get_read}
 use Rattle.plan.specs.Parts.{service_seen}
 use Rattle.plan.specs.PlanView.{plan_fields}
-use Rattle.demux_core.specs.Outlets.{Delivers, DeliversFront}
+use Rattle.bb_demux.specs.Outlets.{Delivers, DeliversFront}
 use Rattle.demux_core.specs.Moving.{closed_at}
 use Rattle.demux_core.proofs.Closing.{HasClosed, set_next, left_next, on_then, one_closed, places_stay, pairs_below, all_ended}
 use Rattle.demux_core.proofs.switch.close_services.Goals as goal

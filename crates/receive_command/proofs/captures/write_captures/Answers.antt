@@ -1,12 +1,13 @@
-use Rattle.std.proofs.Common.{◌∙◌, ap, sym, refl, arith, length, Err, ◌+◌, ℕ}
+use Rattle.std.proofs.Common.{◌∙◌, ap, sym, refl, arith, true, false, length, None, Err, ◌+◌, ℕ}
 use Rattle.std.proofs.lemmas.List.{length-map}
 use Rattle.wire_spec.specs.Causes.{raised}
 use Rattle.plan_spec.specs.Plan.{PlanFields}
 use Rattle.receive_command.specs.declared.faults.ReceiveFault.TheVariants as fault
 use Rattle.plan.specs.Parts.{service_seen}
 use Rattle.plan.specs.PlanView.{plan_fields}
-use Rattle.receive_command.specs.Reading.{records_in}
-use Rattle.receive_command.proofs.Ends.{sized, ends_in_heads, ends_front, ends_at_limit, ends_in_record, ends_whole, ends_after_records}
+use Rattle.demux_core.specs.Receiving.{HasReceived}
+use Rattle.receive_command.specs.Pieces.{records_in}
+use Rattle.receive_command.proofs.Ends.{sized, ends_in_heads, ends_front, ends_at_limit, ends_in_piece, ends_whole, ends_after_pieces}
 use Rattle.ipe_io.proofs.Told.{raised-zero}
 use Rattle.receive_command.proofs.Plans.{changes_right}
 use Rattle.receive_command.proofs.CameUp.{came_up, comes_up, adding_failed, adding_not_failed, adding_no_memory}
@@ -14,7 +15,7 @@ use Rattle.receive_command.proofs.captures.write_captures.Goals as goal
 
 pub returns-in_err-first-clause-files : goal.returns-in_err-first-clause-files
 returns-in_err-first-clause-files g c = λ e.
-    ends_in_heads (plan_fields c.args.plan.now) (g.I.Source.told c.args.input.now).left (g.I.Source.told c.args.input.now).left (g.R.Rack.told c.args.rack.now).files (g.R.Rack.told c.add_files.new.rack).files
+    ends_in_heads None (plan_fields c.args.plan.now) (g.I.Source.told c.args.input.now).left (g.I.Source.told c.args.input.now).left (g.R.Rack.told c.args.rack.now).files (g.R.Rack.told c.add_files.new.rack).files
     refl (c.in_err-first.ensures.failed (ap (λ f. Err f) (adding_failed c.from_residual.result c.in_err-first.field-0.0 c.from_residual.ensures.1 e)))
 
 pub returns-in_err-first-clause-files_taken : goal.returns-in_err-first-clause-files_taken
@@ -30,24 +31,25 @@ end_captures-requires-clause-given g c =
 
 pub returns-in_err-tail-clause-front : goal.returns-in_err-tail-clause-front
 returns-in_err-tail-clause-front g c = λ e.
-    ends_front (plan_fields c.args.plan.now) (g.I.Source.told c.args.input.now).left (g.I.Source.told c.read_records.new.input).left (g.R.Rack.told c.args.rack.now).files (g.R.Rack.told c.add_files.new.rack).files (g.R.Rack.told c.read_records.new.rack).files
+    ends_front None (plan_fields c.args.plan.now) (g.I.Source.told c.args.input.now).left (g.I.Source.told c.read_records.new.input).left (g.R.Rack.told c.args.rack.now).files (g.R.Rack.told c.add_files.new.rack).files (g.R.Rack.told c.read_records.new.rack).files
     c.in_ok-first.first (sized (g.R.Rack.told c.args.rack.now).files (g.R.Rack.told c.args.rack.now).count c.in_ok-first.first c.in_ok-first.ensures.place (g.met.R.Rack.as_many c.args.rack.now)) c.in_ok-first.ensures.written (c.in_err-tail.ensures.front (ap (λ x. Err x) (came_up c.from_residual-in_err-tail.result c.in_err-tail.field-0.0 fault.Source c.from_residual-in_err-tail.ensures.1 e)))
 
 pub returns-in_err-tail-clause-limit : goal.returns-in_err-tail-clause-limit
 returns-in_err-tail-clause-limit g c = λ e.
-    ends_at_limit (plan_fields c.args.plan.now) (g.I.Source.told c.args.input.now).left (g.I.Source.told c.read_records.new.input).left (g.R.Rack.told c.args.rack.now).files (g.R.Rack.told c.add_files.new.rack).files (g.R.Rack.told c.read_records.new.rack).files
+    ends_at_limit None (plan_fields c.args.plan.now) (g.I.Source.told c.args.input.now).left (g.I.Source.told c.read_records.new.input).left (g.R.Rack.told c.args.rack.now).files (g.R.Rack.told c.add_files.new.rack).files (g.R.Rack.told c.read_records.new.rack).files
     c.in_ok-first.first (sized (g.R.Rack.told c.args.rack.now).files (g.R.Rack.told c.args.rack.now).count c.in_ok-first.first c.in_ok-first.ensures.place (g.met.R.Rack.as_many c.args.rack.now)) c.in_ok-first.ensures.written (c.in_err-tail.ensures.limit (ap (λ x. Err x) (came_up c.from_residual-in_err-tail.result c.in_err-tail.field-0.0 fault.TooLong c.from_residual-in_err-tail.ensures.1 e)))
 
 pub returns-in_err-tail-clause-files : goal.returns-in_err-tail-clause-files
 returns-in_err-tail-clause-files g c = λ e.
-    ends_in_record (plan_fields c.args.plan.now) (g.I.Source.told c.args.input.now).left (g.I.Source.told c.read_records.new.input).left (g.R.Rack.told c.args.rack.now).files (g.R.Rack.told c.add_files.new.rack).files (g.R.Rack.told c.read_records.new.rack).files
+    ends_in_piece None (plan_fields c.args.plan.now) (g.I.Source.told c.args.input.now).left (g.I.Source.told c.read_records.new.input).left (g.R.Rack.told c.args.rack.now).files (g.R.Rack.told c.add_files.new.rack).files (g.R.Rack.told c.read_records.new.rack).files
     c.in_ok-first.first (sized (g.R.Rack.told c.args.rack.now).files (g.R.Rack.told c.args.rack.now).count c.in_ok-first.first c.in_ok-first.ensures.place (g.met.R.Rack.as_many c.args.rack.now)) c.in_ok-first.ensures.written (c.in_err-tail.ensures.stop (ap (λ x. Err x) (came_up c.from_residual-in_err-tail.result c.in_err-tail.field-0.0 fault.Rack c.from_residual-in_err-tail.ensures.1 e)))
 
 pub returns-in-Ok-clause-whole : goal.returns-in-Ok-clause-whole
 returns-in-Ok-clause-whole g c =
     let plan : PlanFields = plan_fields c.args.plan.now in
     let whole = c.in_ok-tail.ensures.whole in
-    ends_whole plan (changes_right plan c.args.plan.now.whole) c.read_records.new.receiver c.end_captures.new.receiver (g.I.Source.told c.args.input.now).left (g.I.Source.told c.read_records.new.input).left
+    ends_whole None plan (changes_right plan c.args.plan.now.whole) (λ pieces. HasReceived false plan (records_in plan pieces) c.read_records.new.receiver)
+    (λ pieces. HasReceived true plan (records_in plan pieces) c.end_captures.new.receiver) (g.I.Source.told c.args.input.now).left (g.I.Source.told c.read_records.new.input).left
     (g.R.Rack.told c.args.rack.now).files (g.R.Rack.told c.add_files.new.rack).files (g.R.Rack.told c.read_records.new.rack).files (g.R.Rack.told c.end_captures.new.rack).files
     c.in_ok-first.first (c.in_ok-first.first + length c.args.plan.now.services) c.in_ok-tail.tail
     (sized (g.R.Rack.told c.args.rack.now).files (g.R.Rack.told c.args.rack.now).count c.in_ok-first.first c.in_ok-first.ensures.place (g.met.R.Rack.as_many c.args.rack.now)) c.in_ok-first.ensures.written
@@ -58,7 +60,7 @@ pub returns-in-Err-clause-files : goal.returns-in-Err-clause-files
 returns-in-Err-clause-files g c = λ e.
     let plan : PlanFields = plan_fields c.args.plan.now in
     let whole = c.in_ok-tail.ensures.whole in
-    ends_after_records plan (changes_right plan c.args.plan.now.whole) c.read_records.new.receiver (g.I.Source.told c.args.input.now).left (g.I.Source.told c.read_records.new.input).left
+    ends_after_pieces None plan (changes_right plan c.args.plan.now.whole) (λ pieces. HasReceived false plan (records_in plan pieces) c.read_records.new.receiver) (g.I.Source.told c.args.input.now).left (g.I.Source.told c.read_records.new.input).left
     (g.R.Rack.told c.args.rack.now).files (g.R.Rack.told c.add_files.new.rack).files (g.R.Rack.told c.read_records.new.rack).files (g.R.Rack.told c.end_captures.new.rack).files
     c.in_ok-first.first c.in_ok-tail.tail (length c.args.plan.now.services)
     (sized (g.R.Rack.told c.args.rack.now).files (g.R.Rack.told c.args.rack.now).count c.in_ok-first.first c.in_ok-first.ensures.place (g.met.R.Rack.as_many c.args.rack.now)) c.in_ok-first.ensures.written
