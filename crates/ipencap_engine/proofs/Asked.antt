@@ -132,5 +132,7 @@ runs_same j s line before after same other weaker runs = record {
   memory = runs.memory;
   line_is = runs.line_is;
   loss = runs.loss;
+  loss_in_frames = runs.loss_in_frames;
   isolation = runs.isolation;
+  isolation_in_frames = runs.isolation_in_frames;
 }

@@ -1,54 +1,52 @@
--- Plans that can be used, of settings that are told.
-use Rattle.std.proofs.Common.{◌≡◌, ℕ, true, List, [], ◌∷◌, refl, ap, sym, subst, ◌∙◌, Option, Some, None, IfSome}
-use Rattle.std.proofs.lemmas.Option.{none-some}
-use Rattle.std.specs.List.{list_all}
-use Rattle.plan_spec.specs.Plan.{KindFields, ule, mpe, fec, gse, PlanFields}
-use Rattle.settings_spec.specs.Keys.{SettingsFault}
+-- Plans, of settings that are told and of one PID.
+use Rattle.std.proofs.Common.{◌≡◌, ℕ, ◌≤◌, Bool, true, false, ◌||◌, List, le-leb, refl, sym, subst, arith, Option, Some, None, IfSome}
+use Rattle.std.specs.Option.{unwrap_or}
+use Rattle.ts_spec.specs.Recording.{RecordingForm, plain, stamped, m2ts, record_size}
+use Rattle.plan_spec.specs.Plan.{PlanFields}
+use Rattle.plan_spec.specs.Signalling.{table_packets}
+use Rattle.plan_spec.specs.Given.{plan_of_pid}
+use Rattle.plan_spec.specs.Valid.{has_valid_top, is_in_range, is_consistent, is_plan_of_pid}
+use Rattle.plan_spec.specs.Wholes.{is_whole_of_settings, is_whole_of_pid, is_whole_plan}
+use Rattle.carrier_spec.specs.Stream.{piece_size}
+use Rattle.bb_stream_law.proofs.PlanChecks.{has_size}
 use Rattle.ipe_io.specs.Told.{ShelfTold}
-use Rattle.settings_load.specs.Settings.{Refusal, refused, IsAcceptedFile, IsRefusedFile}
+use Rattle.settings_load.specs.Settings.{Refusal, IsAcceptedFile, IsRefusedFile}
 use Rattle.settings_law.proofs.Spellings.{one_plan}
-use Rattle.plan_spec.specs.Built.{is_sent, is_received}
-use Rattle.ipencap_engine.specs.Built.{unbuilt_fault, IsRefusedForUse, gives_none, gives_unbuilt}
+use Rattle.ipencap_engine.specs.Jobs.{Job, row, TellsSettings, IsGiven}
+
+-- Pieces of a recording: a record has 188 bytes at least, and a frame 300
+record_long : (form : RecordingForm) → 188 ≤ record_size form
+record_long plain = omega arith
+record_long stamped = omega arith
+record_long m2ts = omega arith
+
+piece_long : (carrier : Option ℕ) (form : RecordingForm) → ((size : ℕ) → carrier ≡ Some size → 300 ≤ size) → 188 ≤ unwrap_or carrier (record_size form)
+piece_long None form sizes = record_long form
+piece_long (Some size) form sizes = omega (arith, sizes size refl)
+
+pub plan_long : (plan : PlanFields) → is_whole_plan plan ≡ true → 188 ≤ piece_size plan
+plan_long plan whole = piece_long plan.frame_bytes plan.recording (λ size is. (has_size plan size whole is).0)
+
+-- The plan of one PID.
+
+or_second : (a b : Bool) → b ≡ true → (a || b) ≡ true
+or_second true b e = refl
+or_second false b e = e
+
+pub pid_is_whole : (pid : ℕ) → pid ≤ 8190 → is_whole_plan (plan_of_pid pid) ≡ true
+unfolding is_whole_of_pid is_plan_of_pid has_valid_top is_in_range is_consistent table_packets
+pid_is_whole pid few = or_second (is_whole_of_settings (plan_of_pid pid)) (is_whole_of_pid (plan_of_pid pid)) (rw (le-leb 0 pid (omega arith), le-leb pid 8190 few))
 
 -- what holds of told bytes
 pub told_of : (P : List ℕ → Type 0) (told : Option (List ℕ)) (bytes : List ℕ) → told ≡ Some bytes → IfSome told P → P bytes
 told_of P told bytes is holds = subst (λ (t : Option (List ℕ)). IfSome t P) is holds
 
-pub told_all : (P : List ℕ → Type 0) (told : Option (List ℕ)) → ((bytes : List ℕ) → told ≡ Some bytes → P bytes) → IfSome told P
-told_all P None each = tt
-told_all P (Some bytes) each = each bytes refl
+-- A settings file that was loaded: told, it gives the plan, and is refused for nothing.
+abbrev pub IsFileOf : Option (List ℕ) → PlanFields → Type 0
+IsFileOf file plan = IfSome file (λ bytes. IsAcceptedFile bytes plan)
 
--- a file gives one plan
-pub one_given : (file : Option (List ℕ)) (bytes : List ℕ) (p q : PlanFields) → file ≡ Some bytes → IfSome file (λ bytes. IsAcceptedFile bytes p) → IsAcceptedFile bytes q → p ≡ q
-one_given file bytes p q told accepted other =
-    let here : IsAcceptedFile bytes p = told_of (λ bytes. IsAcceptedFile bytes p) file bytes told accepted in
-    one_plan bytes p q here.accepted other.accepted
-
--- settings of a plan that is not built are refused
-pub refused_for_use : (file : Option (List ℕ)) (plan : PlanFields) (fault : SettingsFault) → IfSome file (λ bytes. IsAcceptedFile bytes plan)
-    → Some fault ≡ unbuilt_fault plan → IfSome file (λ bytes. IsRefusedForUse bytes (refused fault))
-refused_for_use None plan fault accepted e = tt
-refused_for_use (Some bytes) plan fault accepted e = gives_unbuilt plan fault accepted (sym e) refl
-
--- those of a plan that is built are not
-pub not_unbuilt : (file : Option (List ℕ)) (bytes : List ℕ) (p q : PlanFields) (fault : SettingsFault) → IfSome file (λ bytes. IsAcceptedFile bytes p)
-    → Some fault ≡ unbuilt_fault p → file ≡ Some bytes → IsAcceptedFile bytes q → unbuilt_fault q ≡ None → ⊥
-not_unbuilt file bytes p q fault accepted e is other built =
-    none-some fault (sym built ∙ ap unbuilt_fault (sym (one_given file bytes p q is accepted other)) ∙ sym e)
-
-pub not_refused : (file : Option (List ℕ)) (bytes : List ℕ) (refusal : Refusal) (plan : PlanFields) → IfSome file (λ bytes. IsAcceptedFile bytes plan)
-    → None ≡ unbuilt_fault plan → (IsRefusedFile bytes refusal → ⊥) → file ≡ Some bytes → IsRefusedForUse bytes refusal → ⊥
-not_refused file bytes refusal plan accepted e none is (gives_none refuses) = none refuses
-not_refused file bytes refusal plan accepted e none is (gives_unbuilt other fault gives unbuilt same) =
-    none-some fault (e ∙ ap unbuilt_fault (one_given file bytes plan other is accepted gives) ∙ unbuilt)
-
--- what can be sent can be received
-pub built_both : (kinds : List KindFields) → list_all is_sent kinds ≡ true → list_all is_received kinds ≡ true
-built_both [] all = refl
-built_both (ule pid address packing ∷ kinds) all = built_both kinds all
-built_both (mpe pid ∷ kinds) all = built_both kinds all
-built_both (fec pid rows parity window ∷ kinds) all = built_both kinds all
-built_both (gse isi address ∷ kinds) all = absurd (cc)
+abbrev pub RefusesNone : Option (List ℕ) → Type 0
+RefusesNone file = (bytes : List ℕ) (refusal : Refusal) → file ≡ Some bytes → IsRefusedFile bytes refusal → ⊥
 
 -- what is told of the settings file of a job is what is told of that name
 pub told_name : (settings : Option (List ℕ)) (name : List ℕ) (shelf : ShelfTold) (bytes : List ℕ) → settings ≡ Some name
@@ -57,3 +55,21 @@ told_name settings name shelf bytes e told =
     let f : settings ≡ Some told.0 = told.1 in
     let same : told.0 ≡ name = cc in
     subst (λ (n : List ℕ). shelf.file n ≡ Some bytes) same told.2
+
+-- the plan that a job's settings give
+pub gives : (job : Job) (name : List ℕ) (shelf : ShelfTold) (plan : PlanFields) → (row job).settings ≡ Some name → IsFileOf (shelf.file name) plan
+    → (bytes : List ℕ) → TellsSettings job shelf bytes → (p : PlanFields) × IsAcceptedFile bytes p
+gives job name shelf plan e is bytes told =
+    (plan, told_of (λ b. IsAcceptedFile b plan) (shelf.file name) bytes (told_name (row job).settings name shelf bytes e told) is)
+
+-- is the only one
+pub given_is : (job : Job) (name : List ℕ) (shelf : ShelfTold) (p : PlanFields) → (row job).settings ≡ Some name → IsFileOf (shelf.file name) p
+    → (plan : PlanFields) → IsGiven job shelf plan → p ≡ plan
+given_is job name shelf p e is plan given =
+    let told : shelf.file name ≡ Some given.bytes = told_name (row job).settings name shelf given.bytes e given.told in
+    let here : IsAcceptedFile given.bytes p = told_of (λ b. IsAcceptedFile b p) (shelf.file name) given.bytes told is in
+    one_plan given.bytes p plan here.accepted given.gives.accepted
+
+pub none_refused : (job : Job) (name : List ℕ) (shelf : ShelfTold) → (row job).settings ≡ Some name → RefusesNone (shelf.file name)
+    → (bytes : List ℕ) (refusal : Refusal) → TellsSettings job shelf bytes → IsRefusedFile bytes refusal → ⊥
+none_refused job name shelf e none bytes refusal told = none bytes refusal (told_name (row job).settings name shelf bytes e told)

@@ -4,8 +4,7 @@ use Rattle.command_words.specs.Words.{AsksForUle, AsksForCheck, AsksForSend, Ask
 use Rattle.plan_spec.specs.Plan.{PlanFields}
 use Rattle.plan_spec.specs.Given.{plan_of_pid}
 use Rattle.ipe_io.specs.Told.{ShelfTold}
-use Rattle.settings_load.specs.Settings.{Refusal, IsAcceptedFile, IsRefusedFile}
-use Rattle.ipencap_engine.specs.Built.{unbuilt_fault, IsRefusedForUse}
+use Rattle.settings_load.specs.Settings.{IsAcceptedFile}
 use Rattle.ipencap_engine.specs.World.{Object, the_shelf, the_input, the_output, the_rack}
 use Rattle.ipencap_engine.specs.declared.status.Status.{Status}
 use Rattle.ipencap_engine.specs.declared.status.Status.TheVariants as status
@@ -138,29 +137,11 @@ may_use job end the_rack = is_after_settings end && (row job).has_files
 abbrev pub TellsSettings : Job → ShelfTold → List ℕ → Type 0
 TellsSettings job shelf bytes = (name : List ℕ) × ((row job).settings ≡ Some name) × (shelf.file name ≡ Some bytes)
 
--- settings give this plan to the job: what is not built yet gives none to a job that uses it
-abbrev pub GivesPlan : Job → List ℕ → PlanFields → Type 0
-GivesPlan no_job bytes plan = ⊥
-GivesPlan (to_ule pid) bytes plan = ⊥
-GivesPlan (to_check name) bytes plan = IsAcceptedFile bytes plan
-GivesPlan (to_send name) bytes plan = IsAcceptedFile bytes plan × (unbuilt_fault plan ≡ None)
-GivesPlan (to_receive name) bytes plan = IsAcceptedFile bytes plan × (unbuilt_fault plan ≡ None)
-GivesPlan (to_sample number) bytes plan = ⊥
-
--- settings are refused for this
-abbrev pub IsRefusedFor : Job → List ℕ → Refusal → Type 0
-IsRefusedFor no_job bytes refusal = ⊥
-IsRefusedFor (to_ule pid) bytes refusal = ⊥
-IsRefusedFor (to_check name) bytes refusal = IsRefusedFile bytes refusal
-IsRefusedFor (to_send name) bytes refusal = IsRefusedForUse bytes refusal
-IsRefusedFor (to_receive name) bytes refusal = IsRefusedForUse bytes refusal
-IsRefusedFor (to_sample number) bytes refusal = ⊥
-
 -- the told settings give the plan
 pub record IsGiven (job : Job) (shelf : ShelfTold) (plan : PlanFields) : Type 0 where
   pub bytes : List ℕ
   pub told : TellsSettings job shelf bytes
-  pub gives : GivesPlan job bytes plan
+  pub gives : IsAcceptedFile bytes plan
 
 -- the plan of the job: that of its PID, or that which the told settings give
 abbrev pub IsPlanOf : Job → ShelfTold → PlanFields → Type 0

@@ -3,9 +3,9 @@ use Rattle.std.specs.Prelude.{◌≡◌, ℕ, ◌<◌, true, List, [], length, O
 use Rattle.std.specs.Io.KnownBytes.{IsAtEnd}
 use Rattle.wire_spec.specs.Lists.{joined, IsCut}
 use Rattle.wire_spec.specs.Content.{File}
-use Rattle.ts_spec.specs.Recording.{record_size, Record}
 use Rattle.plan_spec.specs.Plan.{PlanFields}
 use Rattle.plan_spec.specs.Offered.{not_ip_count, unrouted_in_all, too_long_in_all}
+use Rattle.carrier_spec.specs.Stream.{piece_size}
 use Rattle.stream_law.specs.Captures.{given_by}
 use Rattle.pcap_file.specs.Told.{place_of_fault}
 use Rattle.pcap_file.specs.declared.faults.CaptureFault.{CaptureFault}
@@ -13,9 +13,10 @@ use Rattle.settings_load.specs.Lines.{check_text}
 use Rattle.send_command.specs.Sending.{IsSendOf}
 use Rattle.send_command.specs.Tally.{offered_count}
 use Rattle.send_command.specs.Lines.{tally_line, fault_line}
-use Rattle.receive_command.specs.Files.{capture_of, files_from}
-use Rattle.receive_command.specs.Reading.{records_in, most_records}
-use Rattle.receive_command.specs.Report.{IsReport}
+use Rattle.receive_command.specs.Pieces.{capture_from}
+use Rattle.receive_command.specs.Files.{files_from}
+use Rattle.receive_command.specs.Reading.{most_records}
+use Rattle.receive_command.specs.FrameReport.{IsReportFrom}
 use Rattle.ipencap_engine.specs.Jobs.{Job, no_job, to_ule, to_check, to_send, to_receive, to_sample}
 use Rattle.ipencap_engine.specs.declared.status.Status.{Status}
 use Rattle.ipencap_engine.specs.declared.status.Status.TheVariants as status
@@ -30,13 +31,13 @@ pub record Made : Type 0 where
 abbrev pub puts_out : List ℕ → Made
 puts_out text = record { files = []; output = text; line = []; status = status.Done }
 
--- the captures of what records deliver of each service, flushed, and an output
-abbrev pub adds_captures : PlanFields → List Record → List ℕ → Made
-adds_captures plan records text = record { files = files_from true 0 (capture_of plan records) plan.services; output = text; line = []; status = status.Done }
+-- the captures of what the pieces of a recording deliver of each service, flushed, and an output
+abbrev pub adds_captures : PlanFields → List (List ℕ) → List ℕ → Made
+adds_captures plan pieces text = record { files = files_from true 0 (capture_from plan pieces) plan.services; output = text; line = []; status = status.Done }
 
--- a recording that was read to its end: its records, fewer than 2^32, and the bytes after the last
+-- a recording that was read to its end: its records or frames, fewer than 2^32, and the bytes after the last
 pub record IsRead (plan : PlanFields) (bytes : List ℕ) (now : Option (List ℕ)) (pieces : List (List ℕ)) (tail : List ℕ) : Type 0 where
-  pub cut : IsCut (record_size plan.recording) bytes pieces tail
+  pub cut : IsCut (piece_size plan) bytes pieces tail
   pub fewer : length pieces < most_records
   pub at_end : IsAtEnd now
 
@@ -45,15 +46,15 @@ pub record MakesCapture (plan : PlanFields) (bytes : List ℕ) (now : Option (Li
   pub pieces : List (List ℕ)
   pub tail : List ℕ
   pub read : IsRead plan bytes now pieces tail
-  pub made_is : made ≡ adds_captures plan (records_in plan pieces) []
+  pub made_is : made ≡ adds_captures plan pieces []
 
 -- `receive` makes the captures and the report
 pub record MakesReport (plan : PlanFields) (bytes : List ℕ) (now : Option (List ℕ)) (made : Made) : Type 0 where
   pub pieces : List (List ℕ)
   pub tail : List ℕ
   pub read : IsRead plan bytes now pieces tail
-  pub report : IsReport plan (records_in plan pieces) (length tail) made.output
-  pub made_is : made ≡ adds_captures plan (records_in plan pieces) made.output
+  pub report : IsReportFrom plan pieces (length tail) made.output
+  pub made_is : made ≡ adds_captures plan pieces made.output
 
 -- the line of a send: the numbers of the records, or the fault of the capture and its place
 abbrev pub send_line : PlanFields → List ℕ → List (List ℕ) → Option CaptureFault → List ℕ

@@ -2,26 +2,33 @@
 use Rattle.std.specs.Prelude.{◌≡◌, ◌≢◌, ◌⊎◌, ℕ, ◌*◌, ◌<◌, ◌≤◌, Bool, true, false, List, [], length, None, Some, ⊤}
 use Rattle.wire_spec.specs.Causes.{Rose, raised}
 use Rattle.wire_spec.specs.Lists.{IsCut}
-use Rattle.ts_spec.specs.Recording.{RecordingForm, record_size, Record}
+use Rattle.ts_spec.specs.Recording.{Record}
 use Rattle.pcap_file.specs.Capture.{capture_text}
 use Rattle.pcap_file.specs.Told.{Tells}
 use Rattle.pcap_file.specs.Reader.{is_cut, Takes, IsReadAhead, ShowsNoFault}
 use Rattle.pcap_file.specs.declared.faults.CaptureFault.{CaptureFault}
-use Rattle.plan_spec.specs.Plan.{PlanFields}
+use Rattle.plan_spec.specs.Plan.{PlanFields, is_baseband}
+use Rattle.plan_spec.specs.Wholes.{is_whole_plan}
+use Rattle.carrier_spec.specs.Stream.{piece_size}
 use Rattle.stream_spec.specs.Services.{Carries}
+use Rattle.bb_stream_spec.specs.Carried.{CarriesInBaseband}
+use Rattle.reception_spec.specs.Delivered.{delivered_of}
+use Rattle.bb_reception_spec.specs.Delivered.{delivered_of as delivered_of_frames}
 use Rattle.loss_law.specs.Isolation.{SameForService}
 use Rattle.loss_law.specs.Spans.{IsRecordedInSpans, DeliversOverSpans}
+use Rattle.bb_loss_law.specs.Plans.{IsRecordedInFrames, DeliversEach, SameFramesFor}
 use Rattle.ipe_io.specs.Told.{ShelfTold, InputTold}
-use Rattle.settings_load.specs.Settings.{Refusal}
+use Rattle.settings_load.specs.Settings.{Refusal, IsAcceptedFile, IsRefusedFile}
 use Rattle.settings_load.specs.Lines.{refusal_line}
 use Rattle.send_command.specs.Sending.{ShowsFault}
 use Rattle.send_command.specs.Lines.{tally_line, fault_line}
 use Rattle.send_command.specs.declared.ends.Tally.{Tally}
-use Rattle.receive_command.specs.Files.{AddsCaptures, AddsParts, capture_of}
-use Rattle.receive_command.specs.Reading.{records_in, most_records}
+use Rattle.receive_command.specs.Pieces.{records_in}
+use Rattle.receive_command.specs.Files.{AddsCaptures, AddsParts}
+use Rattle.receive_command.specs.Reading.{most_records}
 use Rattle.ipencap_engine.specs.Statuses.{status_line}
 use Rattle.ipencap_engine.specs.World.{World, Object, the_shelf, the_input, the_output, the_rack}
-use Rattle.ipencap_engine.specs.Jobs.{Job, Intake, no_input, a_capture, a_recording, row, may_end, may_use, is_recording, TellsSettings, GivesPlan, IsRefusedFor, IsPlanOf, IsInputOf}
+use Rattle.ipencap_engine.specs.Jobs.{Job, Intake, no_input, a_capture, a_recording, row, may_end, may_use, is_recording, TellsSettings, IsPlanOf, IsInputOf}
 use Rattle.ipencap_engine.specs.Stands.{Stands, LacksMemory}
 use Rattle.ipencap_engine.specs.declared.status.Status.{Status}
 use Rattle.ipencap_engine.specs.declared.status.Status.TheVariants as status
@@ -29,28 +36,28 @@ use Rattle.ipencap_engine.specs.declared.status.Status.TheVariants as status
 -- Settings.
 
 -- told settings either give a plan, or are refused with Settings; the shelf may fail and memory run out before
-abbrev pub IsAnswer : Job → List ℕ → Status → Type 0
-IsAnswer job bytes status.ShelfFault = ⊤
-IsAnswer job bytes status.OutOfMemory = ⊤
-IsAnswer job bytes status.Settings = (refusal : Refusal) × IsRefusedFor job bytes refusal
-IsAnswer job bytes status.Usage = ⊥
-IsAnswer job bytes status.Done = (plan : PlanFields) × GivesPlan job bytes plan
-IsAnswer job bytes status.Capture = (plan : PlanFields) × GivesPlan job bytes plan
-IsAnswer job bytes status.SourceFault = (plan : PlanFields) × GivesPlan job bytes plan
-IsAnswer job bytes status.SinkFault = (plan : PlanFields) × GivesPlan job bytes plan
-IsAnswer job bytes status.RackFault = (plan : PlanFields) × GivesPlan job bytes plan
-IsAnswer job bytes status.TooLong = (plan : PlanFields) × GivesPlan job bytes plan
+abbrev pub IsAnswer : List ℕ → Status → Type 0
+IsAnswer bytes status.ShelfFault = ⊤
+IsAnswer bytes status.OutOfMemory = ⊤
+IsAnswer bytes status.Settings = (refusal : Refusal) × IsRefusedFile bytes refusal
+IsAnswer bytes status.Usage = ⊥
+IsAnswer bytes status.Done = (plan : PlanFields) × IsAcceptedFile bytes plan
+IsAnswer bytes status.Capture = (plan : PlanFields) × IsAcceptedFile bytes plan
+IsAnswer bytes status.SourceFault = (plan : PlanFields) × IsAcceptedFile bytes plan
+IsAnswer bytes status.SinkFault = (plan : PlanFields) × IsAcceptedFile bytes plan
+IsAnswer bytes status.RackFault = (plan : PlanFields) × IsAcceptedFile bytes plan
+IsAnswer bytes status.TooLong = (plan : PlanFields) × IsAcceptedFile bytes plan
 
 -- the answers to settings that are refused
 abbrev pub IsRefusing : Status → Type 0
 IsRefusing end = (end ≡ status.Settings) ⊎ ((end ≡ status.ShelfFault) ⊎ (end ≡ status.OutOfMemory))
 
 pub record JudgesSettings (job : Job) (end : Status) (before : World) (same : Object → Type 0) : Type 0 where
-  pub answer : (bytes : List ℕ) → TellsSettings job before.shelf bytes → IsAnswer job bytes end
+  pub answer : (bytes : List ℕ) → TellsSettings job before.shelf bytes → IsAnswer bytes end
   pub accepted : (plan : PlanFields) → IsPlanOf job before.shelf plan → end ≢ status.Settings
-  pub refused : (bytes : List ℕ) (refusal : Refusal) → TellsSettings job before.shelf bytes → IsRefusedFor job bytes refusal → IsRefusing end
+  pub refused : (bytes : List ℕ) (refusal : Refusal) → TellsSettings job before.shelf bytes → IsRefusedFile bytes refusal → IsRefusing end
   -- refused settings are the end of it, whatever the status is
-  pub unused : (bytes : List ℕ) (refusal : Refusal) → TellsSettings job before.shelf bytes → IsRefusedFor job bytes refusal
+  pub unused : (bytes : List ℕ) (refusal : Refusal) → TellsSettings job before.shelf bytes → IsRefusedFile bytes refusal
       → same the_input × (same the_output × same the_rack)
 
 -- Counts of faults.
@@ -84,12 +91,13 @@ pub record CountsFaults (job : Job) (end : Status) (before after : World) : Type
 
 -- How much was read, whether the input tells its bytes or not.
 
--- the bytes of so many records were taken, as the bound says of them and of those that 2^32 records have
-pub record TakesRecords (job : Job) (before after : World) (bound : ℕ → ℕ → Type 0) : Type 0 where
-  pub form : RecordingForm
-  pub is : (plan : PlanFields) → IsPlanOf job before.shelf plan → plan.recording ≡ form
+-- the bytes of so many records or frames of the job's plan were taken, told or not, as the bound says of them and of those that 2^32 have
+pub record TakesPieces (job : Job) (before after : World) (bound : ℕ → ℕ → Type 0) : Type 0 where
+  pub plan : PlanFields
+  pub whole : is_whole_plan plan ≡ true
+  pub is : (told : PlanFields) → IsPlanOf job before.shelf told → plan ≡ told
   pub count : ℕ
-  pub is_bound : bound count (record_size form * most_records)
+  pub is_bound : bound count (piece_size plan * most_records)
   pub taken : after.input.taken ≡ raised before.input.taken count
 
 -- the input had not ended where it failed
@@ -97,10 +105,10 @@ abbrev pub GoesOn : InputTold → InputTold → Type 0
 GoesOn before after = before.ended ≡ false → after.ended ≡ false
 
 abbrev pub ReadsRecording : Job → Status → World → World → Type 0
-ReadsRecording job status.Done before after = (after.input.ended ≡ true) × TakesRecords job before after (λ count most. count < most)
-ReadsRecording job status.SourceFault before after = GoesOn before.input after.input × TakesRecords job before after (λ count most. count < most)
-ReadsRecording job status.RackFault before after = TakesRecords job before after (λ count most. count ≤ most)
-ReadsRecording job status.TooLong before after = TakesRecords job before after (λ count most. count ≡ most)
+ReadsRecording job status.Done before after = (after.input.ended ≡ true) × TakesPieces job before after (λ count most. count < most)
+ReadsRecording job status.SourceFault before after = GoesOn before.input after.input × TakesPieces job before after (λ count most. count < most)
+ReadsRecording job status.RackFault before after = TakesPieces job before after (λ count most. count ≤ most)
+ReadsRecording job status.TooLong before after = TakesPieces job before after (λ count most. count ≡ most)
 ReadsRecording job end before after = ⊤
 
 -- these bytes of a capture were taken, no more after its last record than a reader reads ahead, and so much holds of them
@@ -138,7 +146,7 @@ IsDoneLine a_recording line = line ≡ []
 -- that of refused settings says why
 pub record IsRefusalLine (job : Job) (before : World) (line : List ℕ) : Type 0 where
   pub refusal : Refusal
-  pub is : (bytes : List ℕ) → TellsSettings job before.shelf bytes → IsRefusedFor job bytes refusal
+  pub is : (bytes : List ℕ) → TellsSettings job before.shelf bytes → IsRefusedFile bytes refusal
   pub line_is : line ≡ refusal_line refusal
 
 -- that of a capture its fault, which the bytes show that were read, and the record that has it; a capture that is cut was read to its end
@@ -157,21 +165,28 @@ IsLine job end line before after = line ≡ status_line end
 
 -- The laws of receptions.
 
--- what each service delivers is what arrived intact of all that can have been sent under the plan, and of MPE-FEC frames also what is
--- corrected of it; at Done that is in the files, and whatever the end is, the files are those of the first services, each with a prefix of it
-pub record Arrives (plan : PlanFields) (sent : List Record) (datagrams : ℕ → ℕ → List (List ℕ)) (carries : Carries plan sent datagrams) (records : List Record)
-    (recorded : IsRecordedInSpans plan sent datagrams carries records) (end : Status) (before after : World) : Type 0 where
+-- the told input of a job that reads a recording: these records or frames of its plan, and after them fewer bytes than one has
+pub record TellsRecording (job : Job) (before : World) (plan : PlanFields) (pieces : List (List ℕ)) : Type 0 where
+  pub reads : is_recording (row job).intake ≡ true
+  pub plan_is : IsPlanOf job before.shelf plan
+  pub bytes : List ℕ
+  pub told : before.input.left ≡ Some bytes
+  pub tail : List ℕ
+  pub cut : IsCut (piece_size plan) bytes pieces tail
+
+-- the files of all services were added, each the capture of its datagrams, and flushed
+abbrev pub AddsDelivered : PlanFields → (ℕ → List (List ℕ)) → World → World → Type 0
+AddsDelivered plan delivered before after = AddsCaptures true (λ k. capture_text (delivered k)) plan.services before.rack.files after.rack.files
+
+-- the services deliver datagrams of which this holds; at Done these are in the files, and whatever the end is, the files are those of the
+-- first services, each with a prefix of its capture
+pub record Arrives (plan : PlanFields) (Holds : (ℕ → List (List ℕ)) → Type 0) (end : Status) (before after : World) : Type 0 where
   pub delivered : ℕ → List (List ℕ)
-  pub each : (k : ℕ) → k < length plan.services → DeliversOverSpans plan sent datagrams carries records recorded k (delivered k)
-  pub whole : end ≡ status.Done → AddsCaptures true (λ k. capture_text (delivered k)) plan.services before.rack.files after.rack.files
+  pub holds : Holds delivered
+  pub whole : end ≡ status.Done → AddsDelivered plan delivered before after
   pub front : AddsParts (λ k. capture_text (delivered k)) plan.services before.rack.files after.rack.files
 
--- of recordings with the same readable packets each for a service, on its PIDs and where the plan changes on the INT's, whatever their
--- other records are
-abbrev pub AreAlike : PlanFields → List Record → (ℕ → List Record) → Type 0
-AreAlike plan records recordings = (k : ℕ) → k < length plan.services → SameForService plan k records (recordings k)
-
--- The ten promises; `same` says of an object that it is the very one from before.
+-- The twelve promises; `same` says of an object that it is the very one from before.
 pub record Runs (job : Job) (end : Status) (line : List ℕ) (before after : World) (same : Object → Type 0) : Type 0 where
   -- the job ends with one of its statuses
   pub ends : may_end job end ≡ true
@@ -190,13 +205,22 @@ pub record Runs (job : Job) (end : Status) (line : List ℕ) (before after : Wor
   pub memory : (plan : PlanFields) → IsPlanOf job before.shelf plan → end ≡ status.OutOfMemory → LacksMemory job plan before after
   -- the line that is reported
   pub line_is : IsLine job end line before after
-  -- the loss law: the files have what arrived intact, and of MPE-FEC frames what is corrected, whatever became of the records that were sent
-  pub loss : (plan : PlanFields) (bytes : List ℕ) (pieces : List (List ℕ)) (tail : List ℕ) (sent : List Record) (datagrams : ℕ → ℕ → List (List ℕ))
-      (carries : Carries plan sent datagrams) (recorded : IsRecordedInSpans plan sent datagrams carries (records_in plan pieces))
-      → is_recording (row job).intake ≡ true → IsPlanOf job before.shelf plan → before.input.left ≡ Some bytes → IsCut (record_size plan.recording) bytes pieces tail
-      → Arrives plan sent datagrams carries (records_in plan pieces) recorded end before after
-  -- isolation: no service's file depends on what is not on its PIDs, or where the plan changes on the INT's
-  pub isolation : (plan : PlanFields) (bytes : List ℕ) (pieces : List (List ℕ)) (tail : List ℕ) (recordings : ℕ → List Record)
-      → is_recording (row job).intake ≡ true → IsPlanOf job before.shelf plan → before.input.left ≡ Some bytes → IsCut (record_size plan.recording) bytes pieces tail
-      → AreAlike plan (records_in plan pieces) recordings → end ≡ status.Done
-      → AddsCaptures true (λ k. capture_of plan (recordings k) k) plan.services before.rack.files after.rack.files
+  -- the loss law: of transport packets each service delivers what arrived intact of all that can have been sent under the plan, and of
+  -- MPE-FEC frames what is corrected, whatever became of the records that were sent
+  pub loss : (plan : PlanFields) (pieces : List (List ℕ)) → TellsRecording job before plan pieces → is_baseband plan ≡ false
+      → (sent : List Record) (datagrams : ℕ → ℕ → List (List ℕ)) (carries : Carries plan sent datagrams)
+      (recorded : IsRecordedInSpans plan sent datagrams carries (records_in plan pieces))
+      → Arrives plan (λ delivered. (k : ℕ) → k < length plan.services → DeliversOverSpans plan sent datagrams carries (records_in plan pieces) recorded k (delivered k))
+      end before after
+  -- the same of baseband frames
+  pub loss_in_frames : (plan : PlanFields) (frames : List (List ℕ)) → TellsRecording job before plan frames → is_baseband plan ≡ true
+      → (sent : List (List ℕ)) (datagrams : ℕ → List (List ℕ)) → CarriesInBaseband plan sent datagrams → (recorded : IsRecordedInFrames plan sent frames)
+      → Arrives plan (λ delivered. DeliversEach plan sent frames datagrams recorded delivered) end before after
+  -- isolation: no service's file depends on packets that are not on its PIDs, or where the plan changes on the INT's
+  pub isolation : (plan : PlanFields) (pieces : List (List ℕ)) → TellsRecording job before plan pieces → is_baseband plan ≡ false → (recordings : ℕ → List Record)
+      → ((k : ℕ) → k < length plan.services → SameForService plan k (records_in plan pieces) (recordings k)) → end ≡ status.Done
+      → AddsDelivered plan (λ k. delivered_of plan k (recordings k)) before after
+  -- and none on frames that are refused, or not of its ISI
+  pub isolation_in_frames : (plan : PlanFields) (frames : List (List ℕ)) → TellsRecording job before plan frames → is_baseband plan ≡ true
+      → (recordings : ℕ → List (List ℕ)) → ((k : ℕ) → k < length plan.services → SameFramesFor plan k frames (recordings k)) → end ≡ status.Done
+      → AddsDelivered plan (λ k. delivered_of_frames plan k (recordings k)) before after

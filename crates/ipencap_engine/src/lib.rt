@@ -14,7 +14,6 @@ mod send;
 mod status;
 mod top;
 mod ule;
-mod usable_plan;
 mod words;
 
 pub use laws::a_run_without_a_fault_is_complete;

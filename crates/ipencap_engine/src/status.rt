@@ -1,13 +1,13 @@
 //! How the program ends: a status, its number as an exit status, and the line that is told of it.
 ghost use Rattle.std.specs.Prelude.{◌≡◌, [], ◌∷◌};
 ghost use Rattle.wire_spec.specs.Causes.{Rose};
-ghost use Rattle.ipencap_engine.specs.Statuses.{status_line, outcome_line, status_of, Complains};
+ghost use Rattle.ipencap_engine.specs.Statuses.{status_line, outcome_line, outcome_after, status_of, Complains};
 
 use ipe_io::{Sink, put_all};
 use pcap_file::CaptureFault;
 use receive_command::ReceiveFault;
 use send_command::{Tally, tell_fault, tell_tally};
-use settings_load::{FileFault, put_fault};
+use settings_load::{FileFault, SettingsError, put_fault};
 
 /// How the program ends.
 #[derive(Clone, Copy, Debug, PartialEq, Eq)]
@@ -16,7 +16,7 @@ pub enum Status {
     Done,
     /// The words form no command.
     Usage,
-    /// The settings file is too long, or its text is no plan or one that is not built yet.
+    /// The settings file is too long, or its text gives no plan.
     Settings,
     /// The capture has a fault; the stream before it was written.
     Capture,
@@ -30,7 +30,7 @@ pub enum Status {
     RackFault,
     /// Out of memory.
     OutOfMemory,
-    /// The recording has 2^32 records or more.
+    /// The recording has 2^32 records or frames, or more.
     TooLong,
 }
 
@@ -56,7 +56,7 @@ impl From<ReceiveFault> for Status {
 pub enum Outcome {
     /// With a status whose line says no more.
     Ended(Status),
-    /// The settings file gives no plan, or one that is not built yet.
+    /// The settings file gives no plan.
     Refused(FileFault),
     /// All was sent, with these numbers.
     Sent(Tally),
@@ -67,6 +67,17 @@ pub enum Outcome {
         /// The number of the record that has it, from 1; 0 for the capture's head.
         place: u32,
     },
+}
+
+/// How a run ends whose settings give no plan.
+pub(crate) fn outcome_of(error: SettingsError) -> Outcome
+    ensures { result ≡ outcome_after error }
+{
+    match error {
+        SettingsError::ShelfFault => Outcome::Ended(Status::ShelfFault),
+        SettingsError::File(fault) => Outcome::Refused(fault),
+        SettingsError::OutOfMemory => Outcome::Ended(Status::OutOfMemory),
+    }
 }
 
 /// Tells the line of an outcome, and answers its status. A fault of the complaints changes nothing else.

@@ -7,7 +7,7 @@ ghost use Rattle.ipencap_engine.specs.Statuses.{Complains, status_of, outcome_li
 ghost use Rattle.ipencap_engine.specs.Runs.{Runs};
 
 use crate::check::check;
-use crate::receive::receive_recording;
+use crate::receive::receive_services;
 use crate::send::send_capture;
 use crate::status::{Outcome, Status, complain};
 use crate::ule::receive_pid;
@@ -21,12 +21,13 @@ use std::alloc::Global;
 /// `ule PID` reads a plain recording of 188-byte packets from `input`, reassembles the SNDUs of the PID (RFC 4326), and
 /// writes the datagrams that they carry to the file `ule.pcap` of `rack`. `check SETTINGS` loads the settings file of that
 /// name from `shelf`, and writes one line for each service of its plan to `output`. `send SETTINGS` loads the settings too,
-/// reads a capture from `input`, and writes the stream of what the services of the plan take of it to `output`.
-/// `receive SETTINGS` loads the settings, reads a recording from `input`, writes the datagrams of each service of the plan
-/// to a file of `rack` under the service's name, and the report to `output`. No other words form a command that is built yet.
+/// reads a capture from `input`, and writes the stream of what the services of the plan take of it to `output`, in transport
+/// packets or in baseband frames. `receive SETTINGS` loads the settings, reads a recording of either from `input`, writes the
+/// datagrams of each service of the plan to a file of `rack` under the service's name, and the report to `output`. No other
+/// words form a command that is built yet.
 ///
 /// Whatever job the words ask for, one line is reported, whole or, where `complaints` failed, a prefix of it; and what
-/// happened is a run of that job: specs/Runs.antt says in ten sentences what that is.
+/// happened is a run of that job: specs/Runs.antt says in twelve sentences what that is.
 ///
 /// - ends: the table of jobs and their statuses;
 /// - settings: Settings comes exactly where the settings are refused, and nothing else is used then;
@@ -36,12 +37,15 @@ use std::alloc::Global;
 /// - stands: what files and output hold after each status, to the byte;
 /// - memory: what they hold where memory ran out;
 /// - line_is: the line that is reported;
-/// - loss: the loss law; whatever records of the recording were dropped, repeated or damaged on their way, if no damaged
+/// - loss: the loss law in transport packets; whatever records of the recording were dropped, repeated or damaged on their way, if no damaged
 ///   unit passes its CRC-32, each file has wanted datagrams that were sent, unchanged, in order, each once, among them each
 ///   whose unit arrived intact, and of MPE-FEC frames each datagram of a frame in which no row lacks more than 64 of its 255
 ///   bytes, if no 4,095 frames in a row go unheard between two that are heard; at every status but Done a prefix of such a
 ///   file;
-/// - isolation: no service's file depends on packets of others.
+/// - loss_in_frames: the loss law in baseband frames; whatever frames were dropped or damaged on their way, if each PDU that is
+///   reassembled from fragments was sent, each file has wanted datagrams that were sent, unchanged, in order, each once, among
+///   them each whose frames all arrived; at every status but Done a prefix of such a file;
+/// - isolation, isolation_in_frames: no service's file depends on packets or frames of others.
 pub fn run<S: Shelf, I: Source, O: Sink, R: Rack, E: Sink>(
     alloc: Global,
     words: &[String],
@@ -86,6 +90,6 @@ fn obey<S: Shelf, I: Source, O: Sink, R: Rack>(
         Task::Ule(pid) => receive_pid(alloc, pid, input, rack),
         Task::Check(name) => check(alloc, name, shelf, output),
         Task::Send(name) => send_capture(alloc, name, shelf, input, output),
-        Task::Receive(name) => receive_recording(alloc, name, shelf, input, output, rack),
+        Task::Receive(name) => receive_services(alloc, name, shelf, input, output, rack),
     }
 }

@@ -24,4 +24,4 @@ returns-in-Send g c =
 
 pub returns-in-Receive : goal.returns-in-Receive
 returns-in-Receive g c =
-    runs_as (job_of c.args.task.now) (to_receive c.in-Receive.name.now) _ _ _ _ _ _ (ap job_of c.in-Receive.is) refl c.receive_recording.ensures
+    runs_as (job_of c.args.task.now) (to_receive c.in-Receive.name.now) _ _ _ _ _ _ (ap job_of c.in-Receive.is) refl c.receive_services.ensures
