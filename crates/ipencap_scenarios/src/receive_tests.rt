@@ -119,6 +119,19 @@ static CASES: [Case; 11] = [
     },
     RECEIVED,
     Case {
+        name: "packets where baseband frames are read",
+        settings: BASEBAND,
+        file: 24,
+        flushed: 24,
+        report: Some(Report {
+            records: 2,
+            tail_bytes: 151,
+            unreadable: 2,
+            ..EMPTY
+        }),
+        ..RECEIVED
+    },
+    Case {
         fails: &[Failing::Rack(1)],
         file: 0,
         ..RACK
@@ -153,11 +166,6 @@ static CASES: [Case; 11] = [
         shelved: "b.toml",
         status: Status::ShelfFault,
         line: "ipencap: fault of the settings file\n",
-        ..REFUSED
-    },
-    Case {
-        settings: BASEBAND,
-        line: "ipencap: settings 4 carrier\n",
         ..REFUSED
     },
     Case {

@@ -1,12 +1,13 @@
 //! What no clause says of `send SETTINGS`: that a run over objects in memory ends so, with ample memory.
-//! Packets by hand from RFC 4326 and ISO/IEC 13818-1.
+//! Packets by hand from RFC 4326 and ISO/IEC 13818-1, a frame by hand from EN 302 307-1 and TS 102 606-1.
 use ipencap_engine::Status;
 use scenario_runs::expect;
+use std::alloc::Global;
 use std::test::Fail;
 use test_recordings::settings::FILES;
-use test_recordings::{Failing, Given, Left, capture_of_files, faultless, packet_of_files};
+use test_recordings::{Failing, Given, Left, capture_of_files, faultless, filled, packet_of_files};
 
-/// A service in baseband frames, which are neither sent nor received so far.
+/// Files in baseband frames of 300 bytes, on ISI 1.
 pub const BASEBAND: &str = "carrier = \"bb\"
 frame_bytes = 300
 [[service]]
@@ -30,7 +31,7 @@ struct Case<'a> {
     room: usize,
     fails: &'a [Failing],
     status: Status,
-    /// How many bytes of the packet are written, and flushed.
+    /// How many bytes of the stream are written, and flushed.
     written: usize,
     flushed: usize,
     line: &'a str,
@@ -75,7 +76,7 @@ const NOTHING: Case = Case {
 
 /// The third record begins at byte 112, and has a head of 16 bytes and 10 others; the whole capture has 182 bytes. The input's
 /// calls are a head, two parts of the records, and the end; the output's are all packets and a flush.
-static CASES: [Case; 13] = [
+static CASES: [Case; 12] = [
     Case {
         name: "one datagram",
         datagrams: 1,
@@ -136,13 +137,6 @@ static CASES: [Case; 13] = [
         ..NOTHING
     },
     Case {
-        name: "a carrier that is not built",
-        settings: BASEBAND,
-        status: Status::Settings,
-        line: "ipencap: settings 4 carrier\n",
-        ..NOTHING
-    },
-    Case {
         name: "an unknown key",
         settings: "speed = 1\n",
         status: Status::Settings,
@@ -151,25 +145,75 @@ static CASES: [Case; 13] = [
     },
 ];
 
+/// The two datagrams in a baseband frame: its header with ISI 1, DFL 560 and the CRC-8, a complete packet with its label, and one
+/// that re-uses the label. Zeros fill it up.
+const FRAME: [u8; 80] = [
+    0x50, 1, 0, 0, 2, 0x30, 0, 0, 0, 0xC5, 0xC0, 0x24, 8, 0, 1, 0, 0x5E, 2, 0, 9, 0x45, 0, 0, 0x1C,
+    0, 0, 0, 0, 0x40, 0x11, 0, 0, 0x0A, 0, 0, 1, 0xEF, 2, 0, 9, 9, 0x0A, 0x0B, 0x0C, 0x0D, 0x0E,
+    0x0F, 0x10, 0xF0, 0x1E, 8, 0, 0x45, 0, 0, 0x1C, 0, 0, 0, 0, 0x40, 0x11, 0, 0, 0x0A, 0, 0, 1,
+    0xEF, 2, 0, 9, 9, 0x0A, 0x0B, 0x0C, 0x0D, 0x0E, 0x0F, 0x10,
+];
+
+const FRAMED: Case = Case {
+    name: "two datagrams in a frame",
+    settings: BASEBAND,
+    written: 300,
+    flushed: 300,
+    ..SENT
+};
+
+static IN_FRAMES: [Case; 3] = [
+    FRAMED,
+    Case {
+        name: "a cut capture in a frame",
+        bytes: 137,
+        status: Status::Capture,
+        line: "ipencap: capture 6 at record 3\n",
+        ..FRAMED
+    },
+    Case {
+        name: "the output has no room for a frame",
+        settings: BASEBAND,
+        room: 299,
+        written: 299,
+        ..OUTPUT
+    },
+];
+
+/// Sends the capture of a case, and compares what is left with this stream.
+fn goes_out(alloc: Global, case: &Case<'_>, stream: &[u8]) -> Result<(), Fail> {
+    let capture = capture_of_files(alloc, case.datagrams)?;
+    let input = capture.get(..case.bytes).ok_or("no such front")?;
+    let given = Given {
+        name: case.shelved,
+        room: case.room,
+        fails: case.fails,
+        ..faultless(&["send", "a.toml"], case.settings.as_bytes(), input)
+    };
+    let left = Left {
+        output: stream.get(..case.written).ok_or("no such front")?,
+        flushed: case.flushed,
+        line: case.line,
+        files: &[],
+    };
+    expect(alloc, case.name, &given, case.status, &left)
+}
+
 #[test]
 fn a_capture_is_sent_up_to_a_fault(rt: HostRuntime) -> Result<(), Fail> {
     for case in &CASES {
-        let capture = capture_of_files(rt.alloc(), case.datagrams)?;
         let packet = packet_of_files(rt.alloc(), case.datagrams)?;
-        let input = capture.get(..case.bytes).ok_or("no such front")?;
-        let given = Given {
-            name: case.shelved,
-            room: case.room,
-            fails: case.fails,
-            ..faultless(&["send", "a.toml"], case.settings.as_bytes(), input)
-        };
-        let left = Left {
-            output: packet.get(..case.written).ok_or("no such front")?,
-            flushed: case.flushed,
-            line: case.line,
-            files: &[],
-        };
-        expect(rt.alloc(), case.name, &given, case.status, &left)?;
+        goes_out(rt.alloc(), case, &packet)?;
+    }
+    Ok(())
+}
+
+#[test]
+fn a_capture_is_sent_in_frames_up_to_a_fault(rt: HostRuntime) -> Result<(), Fail> {
+    let mut frame = Vec::from_slice(rt.alloc(), &FRAME)?;
+    frame.extend_from_slice(&filled(rt.alloc(), 0, 220)?)?;
+    for case in &IN_FRAMES {
+        goes_out(rt.alloc(), case, &frame)?;
     }
     Ok(())
 }

@@ -1,6 +1,6 @@
 //! What a run is given -> [ipencap_engine] -> what it leaves, compared with what it must leave.
 //!
-//! For the tests of whole runs alone: ipencap_scenarios, sndu_scenarios, loss_scenarios. Begin with `expect`.
+//! For the tests of whole runs alone. Begin with `expect`.
 #![tactic(auto)]
 
 mod runs;
