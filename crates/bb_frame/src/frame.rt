@@ -1,7 +1,7 @@
 //! One frame: its header is tested and its data field lent, or the first test that fails is named; frames are written.
 //!
 //! MATYPE in bytes 0 and 1, UPL in 2 and 3, DFL in 4 and 5, SYNC in 6, SYNCD in 7 and 8, CRC-8 in 9, then the data field.
-ghost use Rattle.std.specs.Prelude.{◌≡◌, ◌+◌, ◌-◌, ◌≤◌, ◌++◌, ◌∷◌, [], take, replicate, length, Some, IfOk, IfErr, is_ok};
+ghost use Rattle.std.specs.Prelude.{◌≡◌, ◌+◌, ◌-◌, ◌≤◌, ◌++◌, ◌∷◌, [], take, drop, replicate, length, Some, IfOk, IfErr, is_ok};
 ghost use Rattle.gse_spec.specs.Frame.{frame_refusal, frame_fields, frame_head, frame_bytes, is_frame};
 ghost use Rattle.wire_spec.specs.Crc.{crc8_remainder};
 ghost use Rattle.bb_frame.specs.Views.{fields_in, refusal_in};
@@ -86,10 +86,22 @@ pub fn write(isi: u8, field: &[u8], into: &mut [u8])
     requires room { 10 + length field.now ≤ length into.old }
     ensures written { into.new ≡ frame_bytes isi field.now (length into.old) }
 {
-    let head = head_of(isi, field.len() as u16);
-    put(into, 0, &head);
     put(into, HEADER, field);
-    clear(into, HEADER + field.len());
+    seal(isi, field.len(), into);
+}
+
+/// Makes a frame of several input streams of bytes whose data field stands in place, `used` bytes from byte 10 on: the header goes
+/// before it, and zeros from there to the end of `frame`.
+///
+/// UPL, SYNC and SYNCD are 0. A data field has at most 7,264 bytes.
+pub fn seal(isi: u8, used: usize, frame: &mut [u8])
+    requires size { used ≤ 7264 }
+    requires room { 10 + used ≤ length frame.old }
+    ensures sealed { frame.new ≡ frame_bytes isi (take used (drop 10 frame.old)) (length frame.old) }
+{
+    let head = head_of(isi, used as u16);
+    put(frame, 0, &head);
+    clear(frame, HEADER + used);
 }
 
 /// The header of a data field of so many bytes.

@@ -2,7 +2,7 @@
 //!
 //! Sending: GSE packets -> gse_pack -> [bb_frame] -> Sink.
 //! Receiving: Source -> [bb_frame] -> gse_packet -> gse_reassembly.
-//! Begin with `FrameReader` and `parse`, or with `write`.
+//! Begin with `FrameReader` and `parse`, or with `write` and `seal`.
 #![tactic(auto)]
 
 mod frame;
@@ -10,5 +10,5 @@ mod reader;
 #[cfg(test)]
 mod tests;
 
-pub use frame::{Frame, FrameFault, parse, write};
+pub use frame::{Frame, FrameFault, parse, seal, write};
 pub use reader::FrameReader;
