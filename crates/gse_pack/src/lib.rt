@@ -1,10 +1,12 @@
 //! Datagrams of one service -> baseband frames: GSE packets, whole or in fragments.
 //!
 //! Sending: datagram -> [gse_pack] -> Sink. It stands on gse_packet and bb_frame.
-//! Begin with `pack`.
+//! Begin with `Packer`, or with `pack`.
 #![tactic(auto)]
 
 mod frames;
+mod left;
+mod packer;
 mod packing;
 mod pdu;
 mod places;
@@ -14,4 +16,5 @@ mod service;
 mod tests;
 
 pub use frames::Frames;
+pub use packer::Packer;
 pub use service::pack;

@@ -1,18 +1,18 @@
-//! All datagrams of a service.
+//! All frames of a service.
 ghost use Rattle.std.specs.Prelude.{◌≡◌, ◌≤◌, map, IfOk};
 ghost use Rattle.gse_spec.specs.Sending.{pdu_for, frames_for};
 ghost use Rattle.gse_pack.specs.Offered.{AreShortDatagrams};
 
 use crate::frames::Frames;
-use crate::packing::Packing;
-use crate::pdu::pdu_of;
+use crate::packer::Packer;
 use ip_datagram::DatagramList;
 use std::alloc::{AllocError as OutOfMemory, Global};
 
-/// Packs the datagrams of one service into baseband frames of `frame_bytes`, 300 to 7,274, on an ISI.
-///
-/// `address`: each PDU has the address of its group, FF:FF:FF:FF:FF:FF for 255.255.255.255 or, for other destinations, `unicast`;
-/// otherwise it is broadcast. A datagram has at most 65,527 bytes, since Total Length counts Protocol Type and a label beside it.
+/// The bytes of the longest frame.
+const FRAME: usize = 7274;
+
+/// Packs the datagrams of one service into baseband frames of `frame_bytes`, 300 to 7,274, on an ISI, as a `Packer` does, and holds all
+/// of them.
 pub fn pack(
     alloc: Global,
     list: &DatagramList,
@@ -26,15 +26,13 @@ pub fn pack(
     requires datagrams { AreShortDatagrams list.now }
     ensures written { IfOk result (λ frames. frames ≡ frames_for isi frame_bytes (map (pdu_for address unicast) list.now)) }
 {
-    if list.len() == 0 {
-        return Ok(Frames {
-            list: DatagramList::new(alloc),
-        });
+    let mut packer = Packer::over(list, address, unicast, isi, frame_bytes);
+    let mut frames = DatagramList::new(alloc);
+    let mut place = [0; FRAME];
+    let frame = &mut place[..usize::from(frame_bytes)];
+    while packer.has_frame() {
+        packer.write_frame(frame);
+        frames.push(frame)?;
     }
-    let mut packing = Packing::new(alloc, isi, frame_bytes);
-    for at in 0..list.len() {
-        packing.put_pdu(&pdu_of(list.at(at), address, unicast))?;
-    }
-    let list = packing.finish()?;
-    Ok(Frames { list })
+    Ok(Frames { list: frames })
 }

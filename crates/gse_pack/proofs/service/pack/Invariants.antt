@@ -1,10 +1,14 @@
-use Rattle.std.proofs.Common.{drop, map, None}
-use Rattle.gse_spec.specs.Packing.{steps_of}
+-- The frames so far, and those that are left.
+use Rattle.std.proofs.Common.{◌≡◌, ◌++◌, map, length}
 use Rattle.gse_spec.specs.Sending.{pdu_for, frames_for}
-use Rattle.gse_pack.specs.Steps.{Leads}
 use Rattle.gse_pack.proofs.service.pack.Given as goal
 
-abbrev pub invariant-loop-at : goal.invariant-loop-at
-invariant-loop-at l =
-    Leads (steps_of (map (pdu_for l.address l.unicast) (drop l.at l.list))) l.packing None (map (pdu_for l.address l.unicast) (drop l.at l.list))
-    (frames_for l.isi l.frame_bytes (map (pdu_for l.address l.unicast) l.list))
+abbrev pub invariant-loop-packer : goal.invariant-loop-packer
+invariant-loop-packer l = record {
+  frames : l.frames ++ l.packer.frames ≡ frames_for l.fn.isi l.fn.frame_bytes (map (pdu_for l.fn.address l.fn.unicast) l.fn.list);
+  size : l.packer.size ≡ l.fn.frame_bytes;
+  room : length l.frame ≡ l.fn.frame_bytes;
+}
+
+abbrev pub decreases-loop-packer : goal.decreases-loop-packer
+decreases-loop-packer l = length l.packer.frames
