@@ -1,5 +1,5 @@
 -- The frames of services, service by service.
-use Rattle.std.proofs.Common.{◌≡◌, ℕ, zero, suc, ◌+◌, ◌-◌, ◌≤◌, Bool, true, List, [], ◌∷◌, ◌++◌, take, length, map, Some, refl, ap, sym, ◌∙◌, subst, arith}
+use Rattle.std.proofs.Common.{◌≡◌, ℕ, zero, suc, ◌+◌, ◌≤◌, true, List, [], ◌∷◌, ◌++◌, take, length, map, Some, refl, ap, sym, ◌∙◌, subst, arith}
 use Rattle.std.specs.Prelude.{All, slice_get, is_some}
 use Rattle.std.specs.List.{list_all}
 use Rattle.std.proofs.lemmas.Bool.{and_parts}
@@ -7,27 +7,15 @@ use Rattle.std.proofs.lemmas.List.Elements.{All-push, All-weaker}
 use Rattle.plan_spec.specs.Plan.{ServiceFields, isi_of}
 use Rattle.plan.specs.Parts.{service_seen, kind_seen}
 use Rattle.plan.specs.declared.service.Service.{Service}
-use Rattle.gse_spec.specs.Packing.{all_ids}
-use Rattle.gse_spec.specs.Sending.{pdu_for, packets_in_order, frames_for}
-use Rattle.gse_law.proofs.PackedFrames.{packed_fits}
-use Rattle.gse_law.proofs.Offered.{offered_sendable}
-use Rattle.gse_law.proofs.Sizes.{frames_sized}
 use Rattle.gse_pack.specs.Offered.{IsShortDatagram, AreShortDatagrams}
 use Rattle.bb_stream_spec.specs.Stream.{sent_by}
-use Rattle.bb_mux.specs.Frames.{frames_by, frames_from}
+use Rattle.gse_pack.specs.Steps.{PackerState}
+use Rattle.bb_mux.specs.Frames.{frames_by, frames_from, frames_in}
 
 -- Frames of one service.
 
 pub are_short : (datagrams : List (List ℕ)) → AreShortDatagrams datagrams → All (λ datagram. length datagram ≤ 65527) datagrams
 are_short datagrams all = All-weaker IsShortDatagram (λ datagram. length datagram ≤ 65527) (λ datagram is. is.short) datagrams all
-
-pub frames_fit : (isi size : ℕ) (address : Bool) (unicast : List ℕ) (datagrams : List (List ℕ)) → length unicast ≡ 6 → 300 ≤ size → size ≤ 7274
-    → AreShortDatagrams datagrams → All (λ frame. length frame ≤ 7274) (frames_for isi size (map (pdu_for address unicast) datagrams))
-frames_fit isi size address unicast datagrams six least most all =
-    All-weaker (λ (frame : List ℕ). length frame ≡ size) (λ (frame : List ℕ). length frame ≤ 7274) (λ frame is. omega (arith, is, most))
-    (frames_for isi size (map (pdu_for address unicast) datagrams))
-    (frames_sized size isi (packets_in_order size (map (pdu_for address unicast) datagrams)) (omega (arith, least))
-    (packed_fits all_ids (size - 10) (map (pdu_for address unicast) datagrams) (offered_sendable address unicast datagrams (λ _. six) (are_short datagrams all))))
 
 pub short_pushed : (datagrams : List (List ℕ)) (datagram : List ℕ) → AreShortDatagrams datagrams → IsShortDatagram datagram
     → AreShortDatagrams (datagrams ++ datagram ∷ [])
@@ -62,16 +50,22 @@ length-seen [] k service is = absurd (cc)
 length-seen (s ∷ services) zero service is = refl
 length-seen (s ∷ services) (suc k) service is = omega (arith, length-seen services k service is)
 
+frames_push : (packers : List PackerState) (packer : PackerState) → frames_in (packers ++ packer ∷ []) ≡ frames_in packers ++ packer.frames ∷ []
+frames_push [] packer = refl
+frames_push (x ∷ packers) packer = ap (λ (t : List (List (List ℕ))). x.frames ∷ t) (frames_push packers packer)
+
 -- one service more, with the datagrams of its place
-pub made_next : (size k : ℕ) (services : List Service) (service : Service) (datagrams : ℕ → List (List ℕ)) (list : List (List ℕ)) (made : List (List (List ℕ))) (frames : List (List ℕ))
-    → slice_get services k ≡ Some service → list ≡ datagrams k → made ≡ frames_from size 0 (take k (map service_seen services)) datagrams
-    → frames ≡ frames_by size (sent_by size (service_seen service) list) → made ++ frames ∷ [] ≡ frames_from size 0 (take (k + 1) (map service_seen services)) datagrams
-made_next size k services service datagrams list made frames is list_is made_is frames_is =
+pub made_next : (size k : ℕ) (services : List Service) (service : Service) (datagrams : ℕ → List (List ℕ)) (list : List (List ℕ)) (made : List PackerState) (packer : PackerState)
+    → slice_get services k ≡ Some service → list ≡ datagrams k → frames_in made ≡ frames_from size 0 (take k (map service_seen services)) datagrams
+    → packer.frames ≡ frames_by size (sent_by size (service_seen service) list)
+    → frames_in (made ++ packer ∷ []) ≡ frames_from size 0 (take (k + 1) (map service_seen services)) datagrams
+made_next size k services service datagrams list made packer is list_is made_is frames_is =
     let front : List ServiceFields = take k (map service_seen services) in
     let place : 0 + length front ≡ k = omega (arith, length-seen services k service is) in
-    let own : frames ≡ frames_by size (sent_by size (service_seen service) (datagrams (0 + length front))) =
+    let own : packer.frames ≡ frames_by size (sent_by size (service_seen service) (datagrams (0 + length front))) =
     frames_is ∙ ap (λ (t : List (List ℕ)). frames_by size (sent_by size (service_seen service) t)) (list_is ∙ ap datagrams (sym place)) in
-    ap (λ (t : List (List (List ℕ))). t ++ frames ∷ []) made_is
+    frames_push made packer
+    ∙ ap (λ (t : List (List (List ℕ))). t ++ packer.frames ∷ []) made_is
     ∙ ap (λ (t : List (List ℕ)). frames_from size 0 front datagrams ++ t ∷ []) own
     ∙ sym (sent_both size 0 front (service_seen service) datagrams)
     ∙ ap (λ (t : List ServiceFields). frames_from size 0 t datagrams) (sym (seen_next services k service is))

@@ -5,9 +5,9 @@
 #![tactic(auto)]
 
 mod batch;
+mod packers;
 mod rotation;
 mod sending;
-mod service_frames;
 #[cfg(test)]
 mod tests;
 

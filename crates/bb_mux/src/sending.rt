@@ -10,8 +10,8 @@ ghost use Rattle.bb_mux.specs.Sending.{IsUnderPlan, WritesBaseband};
 ghost use Rattle.bb_mux.specs.declared.sending.StreamFault.TheVariants.{Sink as SinkFault, OutOfMemory as NoMemory};
 
 use crate::batch::Batch;
+use crate::packers::packers_of;
 use crate::rotation::put_in_rotation;
-use crate::service_frames::frames_of_services;
 use datagram_routing::Offered;
 use ipe_io::{Failed, Sink};
 use plan::Plan;
@@ -60,9 +60,9 @@ pub fn stream_frames<K: Sink>(
     let Some(frame_bytes) = plan.frame_bytes else {
         return Ok(0);
     };
-    let services = frames_of_services(alloc, plan, &offered.lists, frame_bytes)?;
+    let mut services = packers_of(alloc, plan, &offered.lists, frame_bytes)?;
     let mut batch = Batch::new(alloc)?;
-    match put_in_rotation(&services, &mut batch, sink) {
+    match put_in_rotation(&mut services, &mut batch, sink) {
         Ok(frames) => Ok(frames),
         Err(Failed) => Err(StreamFault::Sink),
     }

@@ -1,11 +1,13 @@
 //! Frames of two services in rotation; the bytes are found by hand.
-ghost use Rattle.std.specs.Prelude.{◌≡◌, ◌≤◌, ◌+◌, length, All, IfOk, OnOk};
+ghost use Rattle.std.specs.Prelude.{◌≡◌, ◌+◌, ◌≤◌, ◌<◌, ◌^◌, length, IfOk, OnOk};
+ghost use Rattle.gse_spec.specs.Sending.{item_count};
 ghost use Rattle.gse_pack.specs.Offered.{IsShortDatagram, AreShortDatagrams};
+ghost use Rattle.bb_mux.specs.Frames.{frames_in};
 
 use crate::batch::Batch;
+use crate::packers::packer_over;
 use crate::rotation::put_in_rotation;
-use crate::service_frames::frames_of;
-use gse_pack::Frames;
+use gse_pack::Packer;
 use ip_datagram::{DatagramList, front};
 use ipe_io::MemSink;
 use std::alloc::Global;
@@ -43,16 +45,6 @@ fn add(list: &mut DatagramList, datagram: &[u8]) -> Result<(), Fail>
     Ok(())
 }
 
-/// The frames of a list on an ISI, of 300 bytes: each has one datagram, and no room for another.
-fn frames_on(alloc: Global, isi: u8, list: &DatagramList) -> Result<Frames, Fail>
-    requires datagrams { AreShortDatagrams list.now }
-    requires few { length list.now ≤ 3 }
-    ensures fit { IfOk result (λ frames. All (λ frame. length frame ≤ 7274) frames) }
-    ensures few { IfOk result (λ frames. length frames ≤ 393176) }
-{
-    Ok(frames_of(alloc, list, false, [0xFF; 6], isi, 300)?)
-}
-
 /// Whether a frame at the front of the bytes is on this ISI and has one datagram: DFL 2,272 bits, a head of 4 bytes and the datagram.
 fn begins_on(isi: u8, bytes: &[u8]) -> bool {
     match bytes {
@@ -78,6 +70,25 @@ fn begins_on(isi: u8, bytes: &[u8]) -> bool {
     }
 }
 
+/// What makes the frames of three services on ISI 3, 4 and 5. A frame of 300 bytes has room for one datagram.
+fn packers_over<'a>(
+    first: &'a DatagramList,
+    second: &'a DatagramList,
+    third: &'a DatagramList,
+) -> [Packer<'a>; 3]
+    requires first { AreShortDatagrams first.now }
+    requires second { AreShortDatagrams second.now }
+    requires third { AreShortDatagrams third.now }
+    requires count { length first.now + length second.now + length third.now ≤ 4 }
+    ensures few { item_count (frames_in result) < 2 ^ 64 }
+{
+    [
+        packer_over(first, false, [0xFF; 6], 3, 300),
+        packer_over(second, false, [0xFF; 6], 4, 300),
+        packer_over(third, false, [0xFF; 6], 5, 300),
+    ]
+}
+
 /// One frame of ISI 3, none of 4, three of 5: the rest of 5 comes after the last of 3.
 #[test]
 fn frames_go_out_in_rotation(rt: HostRuntime) -> Result<(), Fail> {
@@ -90,14 +101,10 @@ fn frames_go_out_in_rotation(rt: HostRuntime) -> Result<(), Fail> {
     add(&mut three, &bytes)?;
     add(&mut three, &bytes)?;
     add(&mut three, &bytes)?;
-    let services = [
-        frames_on(alloc, 3, &one)?,
-        frames_on(alloc, 4, &none)?,
-        frames_on(alloc, 5, &three)?,
-    ];
+    let mut services = packers_over(&one, &none, &three);
     let mut sink = MemSink::new(alloc, 2_000, &[])?;
     let mut batch = Batch::new(alloc)?;
-    assert!(rt; put_in_rotation(&services, &mut batch, &mut sink) == Ok(4));
+    assert!(rt; put_in_rotation(&mut services, &mut batch, &mut sink) == Ok(4));
     let bytes = sink.bytes();
     assert!(rt; bytes.len() == 1_200);
     assert!(rt; begins_on(3, bytes));
