@@ -1,5 +1,5 @@
 //! Data fields by hand; their CRC-32 was worked out apart from this program.
-ghost use Rattle.std.specs.Prelude.{◌≡◌, ◌≤◌, vec_len, length, IfOk};
+ghost use Rattle.std.specs.Prelude.{◌≡◌, vec_len, length, IfOk};
 
 use crate::{GseCounts, GseReception};
 use addr_rules::MacList;
