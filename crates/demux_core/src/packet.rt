@@ -1,5 +1,5 @@
 //! A packet -> the receiver of its PID: the INT's, or that of a service.
-ghost use Rattle.std.specs.Prelude.{◌≡◌, ℕ, ◌^◌, ◌<◌, ◌≤◌, true, false, List, [], ◌∷◌, ◌++◌, length, IfOk, OnOk, OnErr};
+ghost use Rattle.std.specs.Prelude.{◌≡◌, ◌^◌, ◌<◌, ◌≤◌, true, false, List, [], ◌∷◌, ◌++◌, length, IfOk, OnOk, OnErr};
 ghost use Rattle.wire_spec.specs.Causes.{HasCause};
 ghost use Rattle.ts_spec.specs.Recording.{Record};
 ghost use Rattle.plan_spec.specs.Changes.{plan_in};

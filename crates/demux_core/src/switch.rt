@@ -7,7 +7,7 @@ ghost use Rattle.plan_spec.specs.Plan.{ServiceFields};
 ghost use Rattle.plan_spec.specs.Changes.{pid_in as pid_in_version};
 ghost use Rattle.plan.specs.PlanView.{plan_fields};
 ghost use Rattle.reception_spec.specs.Delivered.{pairs_of};
-ghost use Rattle.reception_law.specs.Words.{closed_by, closed_on};
+ghost use Rattle.reception_law.specs.Words.{closed_by};
 ghost use Rattle.frame_reception.specs.Delivering.{Delivers as DeliversAfter, GoesOn};
 ghost use Rattle.bb_demux.specs.Outlets.{Delivers, DeliversFront};
 ghost use Rattle.demux_core.specs.Services.{IsEndingOne, HaveReceived};

@@ -21,7 +21,7 @@ use Rattle.bb_reception_law.proofs.FrameByFrame.{pairs_more as frame_pairs_more}
 use Rattle.pcap_file.specs.Capture.{capture_record}
 use Rattle.receive_command.specs.Pieces.{size_on, records_in, told_pairs_on, pairs_of_piece_on}
 use Rattle.receive_command.specs.Growth.{Grow, GrowTo, records_at, records_and}
-use Rattle.receive_command.specs.Reading.{HasRead, most_records, text_at, HasWritten, GivesAll, FailsInInput, StopsAtLimit, FailsInFiles}
+use Rattle.receive_command.specs.Reading.{HasRead, text_at, HasWritten, GivesAll, FailsInInput, StopsAtLimit, FailsInFiles}
 use Rattle.receive_command.proofs.Grown.{grow-nil, grow_same, grow_then, records-append, records_and-append}
 use Rattle.receive_command.proofs.Pairs.{pairs_none, pairs_next}
 

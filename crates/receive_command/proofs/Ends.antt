@@ -1,5 +1,5 @@
 -- How the captures of a recording end, on a carrier, from how its reading ends.
-use Rattle.std.proofs.Common.{◌≡◌, inl, inr, ℕ, ◌+◌, ◌<◌, true, false, List, ◌++◌, length, take, sym, subst, arith, Option, IfSome}
+use Rattle.std.proofs.Common.{◌≡◌, inl, inr, ℕ, ◌+◌, ◌<◌, false, List, ◌++◌, length, take, sym, subst, arith, Option, IfSome}
 use Rattle.wire_spec.specs.Content.{File}
 use Rattle.plan_spec.specs.Plan.{PlanFields}
 use Rattle.plan_spec.specs.Changes.{has_wrong_change}

@@ -1,5 +1,5 @@
 //! A recording of baseband frames -> a capture for each service: files added, written frame by frame, flushed.
-ghost use Rattle.std.specs.Prelude.{◌≡◌, ℕ, ◌+◌, ◌*◌, ◌<◌, ◌≤◌, true, false, List, [], length, Some, IfOk, OnOk, IsErrOf};
+ghost use Rattle.std.specs.Prelude.{◌≡◌, ℕ, ◌+◌, ◌*◌, ◌<◌, ◌≤◌, true, false, [], length, Some, IfOk, OnOk, IsErrOf};
 ghost use Rattle.wire_spec.specs.Causes.{Rose, raised};
 ghost use Rattle.plan.specs.PlanView.{plan_fields};
 ghost use Rattle.bb_demux.specs.Receiving.{HasReceived};

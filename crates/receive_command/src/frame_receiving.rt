@@ -1,5 +1,5 @@
 //! The command `receive` for a plan of baseband frames: a recording of frames in, a capture for each service and the report out.
-ghost use Rattle.std.specs.Prelude.{◌≡◌, ◌⊎◌, ℕ, ◌*◌, ◌<◌, ◌≤◌, true, false, List, length, Some, slice_get, OnOk, OnErr, IfOk, IsErrOf};
+ghost use Rattle.std.specs.Prelude.{◌≡◌, ◌⊎◌, ℕ, ◌*◌, ◌<◌, ◌≤◌, true, false, List, length, Some, slice_get, OnOk, OnErr, IsErrOf};
 ghost use Rattle.wire_spec.specs.Causes.{Rose, raised};
 ghost use Rattle.wire_spec.specs.Content.{Stays};
 ghost use Rattle.plan_spec.specs.Plan.{ServiceFields};

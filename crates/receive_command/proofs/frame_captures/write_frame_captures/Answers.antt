@@ -1,4 +1,4 @@
-use Rattle.std.proofs.Common.{◌∙◌, ap, sym, refl, arith, inr, length, Some, Err, ◌+◌, ℕ}
+use Rattle.std.proofs.Common.{◌∙◌, ap, sym, refl, arith, inr, Some, Err, ◌+◌, ℕ}
 use Rattle.std.proofs.lemmas.List.{length-map}
 use Rattle.wire_spec.specs.Causes.{raised}
 use Rattle.receive_command.specs.declared.faults.ReceiveFault.TheVariants as fault

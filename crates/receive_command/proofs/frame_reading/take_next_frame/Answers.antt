@@ -1,4 +1,4 @@
-use Rattle.std.proofs.Common.{◌++◌, ◌∷◌, [], ◌∙◌, ap, sym, subst, arith, Some, Ok, Err, is_ok}
+use Rattle.std.proofs.Common.{ap, sym, subst, arith, Some, Ok, Err, is_ok}
 use Rattle.std.proofs.lemmas.Bool.{false≢true}
 use Rattle.ipe_io.specs.Told.{InputTold}
 use Rattle.receive_command.specs.Reading.{StopsAtLimit}

@@ -1,4 +1,4 @@
-use Rattle.std.proofs.Common.{ℕ, List, ◌∷◌, [], ◌++◌, length, ap}
+use Rattle.std.proofs.Common.{◌∷◌, [], ◌++◌, length, ap}
 use Rattle.bb_reception_spec.specs.Delivered.{pairs_of_frame}
 use Rattle.receive_command.specs.Outlets.{RackSeen}
 use Rattle.receive_command.proofs.Outlets.{writes_all, writes_part}
