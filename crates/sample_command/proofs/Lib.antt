@@ -1,0 +1,4 @@
+pub mod Kept
+pub mod Summed
+pub mod Taking
+pub mod Written

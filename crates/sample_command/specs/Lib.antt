@@ -1,0 +1,4 @@
+pub mod Held
+pub mod Counting
+pub mod Taking
+pub mod Numbers
