@@ -1,18 +1,19 @@
 -- Words ask for one job.
-use Rattle.std.proofs.Common.{◌≡◌, inl, inr, ℕ, true, List, codes, refl, ap, sym, subst, ◌∙◌}
-use Rattle.std.specs.Bool.{⊤}
+use Rattle.std.proofs.Common.{◌≡◌, ℕ, true, List, codes, refl, ap, sym, subst, ◌∙◌}
 use Rattle.std.specs.Str.Parse.{digits_value}
-use Rattle.command_words.specs.Words.{AsksWith, AsksForUle, IsCommand, asks_for_send, asks_for_receive, asks_for_ule, asks_for_check, asks_for_sample}
+use Rattle.command_words.specs.Words.{AsksWith, AsksNumbered, IsCommand, IsNoCommand, asks_for_send, asks_for_receive, asks_for_ule, asks_for_check, asks_for_sample}
+use Rattle.command_words.specs.Asked.{AsksFor}
+use Rattle.command_words.specs.declared.parse.Command.{Command}
+use Rattle.command_words.specs.declared.parse.Command.TheVariants.{Send, Receive, Ule, Check, Sample}
 use Rattle.ipencap_engine.specs.World.{World, Object, the_shelf, the_input, the_output, the_rack}
 use Rattle.ipencap_engine.specs.Jobs.{Job, no_job, to_ule, to_check, to_send, to_receive, to_sample, Asks, is_command}
-use Rattle.ipencap_engine.specs.Words.{IsTask, IsNoBuiltCommand, job_of}
+use Rattle.ipencap_engine.specs.Words.{HasPid, job_of}
 use Rattle.ipencap_engine.specs.Runs.{Runs}
 use Rattle.ipencap_engine.specs.declared.status.Status.{Status}
-use Rattle.ipencap_engine.specs.declared.words.Task.{Task}
-use Rattle.ipencap_engine.specs.declared.words.Task.TheVariants.{Ule, Check, Send, Receive}
 
-one_pid : (words : List (List ℕ)) (p q : ℕ) → AsksForUle words p → AsksForUle words q → p ≡ q
-one_pid words p q a b =
+one_number : (command : List ℕ) (digits largest : ℕ) (words : List (List ℕ)) (p q : ℕ) → AsksNumbered command digits largest words p
+    → AsksNumbered command digits largest words q → p ≡ q
+one_number command digits largest words p q a b =
     let first : words ≡ _ = a.words_are in
     let second : words ≡ _ = b.words_are in
     let same : a.text ≡ b.text = cc in
@@ -24,39 +25,46 @@ one_name command words m n a b =
     let second : words ≡ _ = b.words_are in
     cc
 
--- the job of a task is the only one
-pub one_job : (words : List (List ℕ)) (task : Task) (job : Job) → Asks words (job_of task) → Asks words job → job ≡ job_of task
-one_job words (Ule p) no_job a b = absurd (b.no_ule p a)
-one_job words (Ule p) (to_ule q) a b = ap to_ule (one_pid words q p b a)
-one_job words (Ule p) (to_check n) a b = let x : words ≡ _ = a.words_are in let y : words ≡ _ = b.words_are in absurd (cc)
-one_job words (Ule p) (to_send n) a b = let x : words ≡ _ = a.words_are in let y : words ≡ _ = b.words_are in absurd (cc)
-one_job words (Ule p) (to_receive n) a b = let x : words ≡ _ = a.words_are in let y : words ≡ _ = b.words_are in absurd (cc)
-one_job words (Ule p) (to_sample n) a b = let x : words ≡ _ = a.words_are in let y : words ≡ _ = b.words_are in absurd (cc)
-one_job words (Check m) no_job a b = absurd (b.no_check m.now a)
-one_job words (Check m) (to_ule q) a b = let x : words ≡ _ = a.words_are in let y : words ≡ _ = b.words_are in absurd (cc)
-one_job words (Check m) (to_check n) a b = ap to_check (one_name (codes "check") words n m.now b a)
-one_job words (Check m) (to_send n) a b = let x : words ≡ _ = a.words_are in let y : words ≡ _ = b.words_are in absurd (cc)
-one_job words (Check m) (to_receive n) a b = let x : words ≡ _ = a.words_are in let y : words ≡ _ = b.words_are in absurd (cc)
-one_job words (Check m) (to_sample n) a b = let x : words ≡ _ = a.words_are in let y : words ≡ _ = b.words_are in absurd (cc)
+-- the job of a command is the only one
+pub one_job : (words : List (List ℕ)) (command : Command) (job : Job) → AsksFor words command → Asks words job → job ≡ job_of command
 one_job words (Send m) no_job a b = absurd (b.no_send m.now a)
-one_job words (Send m) (to_ule q) a b = let x : words ≡ _ = a.words_are in let y : words ≡ _ = b.words_are in absurd (cc)
+one_job words (Send m) (to_ule n) a b = let x : words ≡ _ = a.words_are in let y : words ≡ _ = b.words_are in absurd (cc)
 one_job words (Send m) (to_check n) a b = let x : words ≡ _ = a.words_are in let y : words ≡ _ = b.words_are in absurd (cc)
 one_job words (Send m) (to_send n) a b = ap to_send (one_name (codes "send") words n m.now b a)
 one_job words (Send m) (to_receive n) a b = let x : words ≡ _ = a.words_are in let y : words ≡ _ = b.words_are in absurd (cc)
 one_job words (Send m) (to_sample n) a b = let x : words ≡ _ = a.words_are in let y : words ≡ _ = b.words_are in absurd (cc)
 one_job words (Receive m) no_job a b = absurd (b.no_receive m.now a)
-one_job words (Receive m) (to_ule q) a b = let x : words ≡ _ = a.words_are in let y : words ≡ _ = b.words_are in absurd (cc)
+one_job words (Receive m) (to_ule n) a b = let x : words ≡ _ = a.words_are in let y : words ≡ _ = b.words_are in absurd (cc)
 one_job words (Receive m) (to_check n) a b = let x : words ≡ _ = a.words_are in let y : words ≡ _ = b.words_are in absurd (cc)
 one_job words (Receive m) (to_send n) a b = let x : words ≡ _ = a.words_are in let y : words ≡ _ = b.words_are in absurd (cc)
 one_job words (Receive m) (to_receive n) a b = ap to_receive (one_name (codes "receive") words n m.now b a)
 one_job words (Receive m) (to_sample n) a b = let x : words ≡ _ = a.words_are in let y : words ≡ _ = b.words_are in absurd (cc)
+one_job words (Ule m) no_job a b = absurd (b.no_ule m a)
+one_job words (Ule m) (to_ule n) a b = ap to_ule (one_number (codes "ule") 4 8190 words n m b a)
+one_job words (Ule m) (to_check n) a b = let x : words ≡ _ = a.words_are in let y : words ≡ _ = b.words_are in absurd (cc)
+one_job words (Ule m) (to_send n) a b = let x : words ≡ _ = a.words_are in let y : words ≡ _ = b.words_are in absurd (cc)
+one_job words (Ule m) (to_receive n) a b = let x : words ≡ _ = a.words_are in let y : words ≡ _ = b.words_are in absurd (cc)
+one_job words (Ule m) (to_sample n) a b = let x : words ≡ _ = a.words_are in let y : words ≡ _ = b.words_are in absurd (cc)
+one_job words (Check m) no_job a b = absurd (b.no_check m.now a)
+one_job words (Check m) (to_ule n) a b = let x : words ≡ _ = a.words_are in let y : words ≡ _ = b.words_are in absurd (cc)
+one_job words (Check m) (to_check n) a b = ap to_check (one_name (codes "check") words n m.now b a)
+one_job words (Check m) (to_send n) a b = let x : words ≡ _ = a.words_are in let y : words ≡ _ = b.words_are in absurd (cc)
+one_job words (Check m) (to_receive n) a b = let x : words ≡ _ = a.words_are in let y : words ≡ _ = b.words_are in absurd (cc)
+one_job words (Check m) (to_sample n) a b = let x : words ≡ _ = a.words_are in let y : words ≡ _ = b.words_are in absurd (cc)
+one_job words (Sample m) no_job a b = absurd (b.no_sample m a)
+one_job words (Sample m) (to_ule n) a b = let x : words ≡ _ = a.words_are in let y : words ≡ _ = b.words_are in absurd (cc)
+one_job words (Sample m) (to_check n) a b = let x : words ≡ _ = a.words_are in let y : words ≡ _ = b.words_are in absurd (cc)
+one_job words (Sample m) (to_send n) a b = let x : words ≡ _ = a.words_are in let y : words ≡ _ = b.words_are in absurd (cc)
+one_job words (Sample m) (to_receive n) a b = let x : words ≡ _ = a.words_are in let y : words ≡ _ = b.words_are in absurd (cc)
+one_job words (Sample m) (to_sample n) a b = ap to_sample (one_number (codes "sample") 10 4294967295 words n m b a)
 
 -- the PID that is asked for is one
-pub task_of : (words : List (List ℕ)) (task : Task) → Asks words (job_of task) → IsTask task
-task_of words (Ule pid) asks = asks.written.most
-task_of words (Check name) asks = tt
-task_of words (Send name) asks = tt
-task_of words (Receive name) asks = tt
+pub has_pid : (words : List (List ℕ)) (command : Command) → AsksFor words command → HasPid command
+has_pid words (Send name) asks = tt
+has_pid words (Receive name) asks = tt
+has_pid words (Ule pid) asks = asks.written.most
+has_pid words (Check name) asks = tt
+has_pid words (Sample number) asks = tt
 
 -- words that form a command ask for no other job
 pub command_asked : (words : List (List ℕ)) (job : Job) → IsCommand words → Asks words job → is_command job ≡ true
@@ -71,26 +79,14 @@ command_asked words (to_send name) is b = refl
 command_asked words (to_receive name) is b = refl
 command_asked words (to_sample number) is b = refl
 
--- words that form no command that is built ask for none that is
-abbrev pub IsUnbuilt : Job → Type 0
-IsUnbuilt no_job = ⊤
-IsUnbuilt (to_ule pid) = ⊥
-IsUnbuilt (to_check name) = ⊥
-IsUnbuilt (to_send name) = ⊥
-IsUnbuilt (to_receive name) = ⊥
-IsUnbuilt (to_sample number) = ⊤
-
-pub unbuilt_asked : (words : List (List ℕ)) (job : Job) → IsNoBuiltCommand words → Asks words job → IsUnbuilt job
-unbuilt_asked words no_job is b = tt
-unbuilt_asked words (to_sample number) is b = tt
-unbuilt_asked words (to_ule p) (inl none) b = absurd (none.no_ule p b)
-unbuilt_asked words (to_check n) (inl none) b = absurd (none.no_check n b)
-unbuilt_asked words (to_send n) (inl none) b = absurd (none.no_send n b)
-unbuilt_asked words (to_receive n) (inl none) b = absurd (none.no_receive n b)
-unbuilt_asked words (to_ule p) (inr a) b = let x : words ≡ _ = a.1.words_are in let y : words ≡ _ = b.words_are in absurd (cc)
-unbuilt_asked words (to_check n) (inr a) b = let x : words ≡ _ = a.1.words_are in let y : words ≡ _ = b.words_are in absurd (cc)
-unbuilt_asked words (to_send n) (inr a) b = let x : words ≡ _ = a.1.words_are in let y : words ≡ _ = b.words_are in absurd (cc)
-unbuilt_asked words (to_receive n) (inr a) b = let x : words ≡ _ = a.1.words_are in let y : words ≡ _ = b.words_are in absurd (cc)
+-- words that form no command ask for no job
+pub none_asked : (words : List (List ℕ)) (job : Job) → IsNoCommand words → Asks words job → job ≡ no_job
+none_asked words no_job none b = refl
+none_asked words (to_ule p) none b = absurd (none.no_ule p b)
+none_asked words (to_check n) none b = absurd (none.no_check n b)
+none_asked words (to_send n) none b = absurd (none.no_send n b)
+none_asked words (to_receive n) none b = absurd (none.no_receive n b)
+none_asked words (to_sample n) none b = absurd (none.no_sample n b)
 
 -- a run under other names of its job and status
 pub runs_as : (j k : Job) (s t : Status) (line : List ℕ) (before after : World) (same : Object → Type 0) → j ≡ k → s ≡ t

@@ -5,6 +5,7 @@ pub mod Plans
 pub mod Arriving
 pub mod Settings
 pub mod Checked
+pub mod Sampled
 pub mod Sent
 pub mod Received
 pub mod Complete

@@ -2,7 +2,7 @@
 ghost use Rattle.std.specs.Prelude.{◌≡◌, ℕ, List, map, string_bytes};
 ghost use Rattle.ipencap_engine.specs.World.{world, of_objects};
 ghost use Rattle.ipencap_engine.specs.Jobs.{Job, Asks};
-ghost use Rattle.ipencap_engine.specs.Words.{IsTask, job_of};
+ghost use Rattle.ipencap_engine.specs.Words.{HasPid, job_of};
 ghost use Rattle.ipencap_engine.specs.Statuses.{Complains, status_of, outcome_line};
 ghost use Rattle.ipencap_engine.specs.Runs.{Runs};
 
@@ -10,9 +10,9 @@ use crate::check::check;
 use crate::receive::receive_services;
 use crate::send::send_capture;
 use crate::status::{Outcome, Status, complain};
+use crate::summary::summarize;
 use crate::ule::receive_pid;
-use crate::words::{Task, read_words};
-use command_words::WordsFault;
+use command_words::{Command, WordsFault, parse_words};
 use ipe_io::{Rack, Shelf, Sink, Source};
 use std::alloc::Global;
 
@@ -23,8 +23,9 @@ use std::alloc::Global;
 /// name from `shelf`, and writes one line for each service of its plan to `output`. `send SETTINGS` loads the settings too,
 /// reads a capture from `input`, and writes the stream of what the services of the plan take of it to `output`, in transport
 /// packets or in baseband frames. `receive SETTINGS` loads the settings, reads a recording of either from `input`, writes the
-/// datagrams of each service of the plan to a file of `rack` under the service's name, and the report to `output`. No other
-/// words form a command that is built yet.
+/// datagrams of each service of the plan to a file of `rack` under the service's name, and the report to `output`.
+/// `sample NUMBER` sends datagrams that draws from the number make, drops packets of their stream by draws, receives the
+/// others, all of it in memory, and writes to `output` how many were offered, sent, dropped and delivered.
 ///
 /// Whatever job the words ask for, one line is reported, whole or, where `complaints` failed, a prefix of it; and what
 /// happened is a run of that job: specs/Runs.antt says in twelve sentences what that is.
@@ -62,8 +63,8 @@ pub fn run<S: Shelf, I: Source, O: Sink, R: Rack, E: Sink>(
         (world (S.told shelf.new) (I.told input.new) (O.told output.new) (R.told rack.new))
         (of_objects (shelf.new ≡ shelf.old) (input.new ≡ input.old) (output.new ≡ output.old) (rack.new ≡ rack.old)) }
 {
-    match read_words(alloc, words) {
-        Ok(task) => complain(obey(alloc, &task, shelf, input, output, rack), complaints),
+    match parse_words(alloc, words) {
+        Ok(asked) => complain(obey(alloc, &asked, shelf, input, output, rack), complaints),
         Err(WordsFault::Usage) => complain(Outcome::Ended(Status::Usage), complaints),
         Err(WordsFault::OutOfMemory) => {
             complain(Outcome::Ended(Status::OutOfMemory), complaints)
@@ -71,25 +72,26 @@ pub fn run<S: Shelf, I: Source, O: Sink, R: Rack, E: Sink>(
     }
 }
 
-/// Does what the task says.
+/// Does what the command says.
 fn obey<S: Shelf, I: Source, O: Sink, R: Rack>(
     alloc: Global,
-    task: &Task<'_>,
+    command: &Command<'_>,
     shelf: &mut S,
     input: &mut I,
     output: &mut O,
     rack: &mut R,
 ) -> Outcome
-    requires { IsTask task.now }
-    ensures { Runs (job_of task.now) (status_of result) (outcome_line result)
+    requires { HasPid command.now }
+    ensures { Runs (job_of command.now) (status_of result) (outcome_line result)
         (world (S.told shelf.old) (I.told input.old) (O.told output.old) (R.told rack.old))
         (world (S.told shelf.new) (I.told input.new) (O.told output.new) (R.told rack.new))
         (of_objects (shelf.new ≡ shelf.old) (input.new ≡ input.old) (output.new ≡ output.old) (rack.new ≡ rack.old)) }
 {
-    match *task {
-        Task::Ule(pid) => receive_pid(alloc, pid, input, rack),
-        Task::Check(name) => check(alloc, name, shelf, output),
-        Task::Send(name) => send_capture(alloc, name, shelf, input, output),
-        Task::Receive(name) => receive_services(alloc, name, shelf, input, output, rack),
+    match *command {
+        Command::Send(name) => send_capture(alloc, name, shelf, input, output),
+        Command::Receive(name) => receive_services(alloc, name, shelf, input, output, rack),
+        Command::Ule(pid) => receive_pid(alloc, pid, input, rack),
+        Command::Check(name) => check(alloc, name, shelf, output),
+        Command::Sample(number) => summarize(alloc, number, output),
     }
 }
