@@ -10,6 +10,7 @@ ghost use Rattle.ipencap_cli.specs.Exit.{exit_number};
 use ipe_io::{FileRack, FileShelf, OutOfMemory, Sink, StdSink, StdSource};
 use ipencap_engine::{Status, run};
 use std::env;
+use std::io::ErrorKind;
 use std::process::ExitCode;
 
 /// Hands `run` the words after the program's name, and ends with the number of its status.
@@ -48,13 +49,16 @@ fn work(rt: HostRuntime) -> Result<Status, OutOfMemory> {
     Ok(status)
 }
 
-/// The words after the program's name. Words that are no text form no command.
+/// The words after the program's name; none where one is no text, so that they form no command.
 fn words_of(rt: &HostRuntime) -> Result<Vec<String>, OutOfMemory> {
     let mut words = Vec::new(rt.alloc());
-    if let Ok(args) = env::args(rt) {
-        for word in args.skip(1) {
-            words.push(word)?;
-        }
+    let args = match env::args(rt) {
+        Ok(args) => args,
+        Err(e) if e.kind() == ErrorKind::OutOfMemory => return Err(OutOfMemory),
+        Err(_) => return Ok(words),
+    };
+    for word in args.skip(1) {
+        words.push(word)?;
     }
     Ok(words)
 }
