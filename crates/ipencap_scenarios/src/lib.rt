@@ -9,6 +9,8 @@ mod check_tests;
 #[cfg(test)]
 mod receive_tests;
 #[cfg(test)]
+mod sample_tests;
+#[cfg(test)]
 mod send_tests;
 #[cfg(test)]
 mod ule_tests;

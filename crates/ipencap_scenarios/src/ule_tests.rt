@@ -3,9 +3,7 @@
 use ipencap_engine::Status;
 use scenario_runs::expect;
 use std::test::Fail;
-use test_recordings::{
-    Failing, FileLeft, Given, Left, SmallPacket, faultless, small_capture, small_recording,
-};
+use test_recordings::{FileLeft, Left, SmallPacket, faultless, small_capture, small_recording};
 
 const USAGE: &str =
     "ipencap: usage: send SETTINGS, receive SETTINGS, ule PID, check SETTINGS, sample NUMBER\n";
@@ -51,13 +49,8 @@ struct Case<'a> {
     packets: &'a [SmallPacket],
     /// How many bytes stand after the packets.
     tail: usize,
-    fails: &'a [Failing],
-    status: Status,
-    /// How many files there are, how many bytes the file has, and how many of them are flushed.
-    files: usize,
+    /// How many bytes the file has, all of them flushed.
     bytes: usize,
-    flushed: usize,
-    line: &'a str,
 }
 
 /// The packet of PID 256 with counter 0, and one of PID 257.
@@ -76,12 +69,7 @@ const ONE: Case = Case {
     name: "a packet",
     packets: &[FIRST],
     tail: 0,
-    fails: &[],
-    status: Status::Done,
-    files: 1,
     bytes: 60,
-    flushed: 60,
-    line: "",
 };
 
 /// A recording without a datagram.
@@ -89,28 +77,10 @@ const NONE: Case = Case {
     name: "no packet",
     packets: &[],
     bytes: 24,
-    flushed: 24,
     ..ONE
 };
 
-const RACK: Case = Case {
-    name: "the rack fails",
-    status: Status::RackFault,
-    flushed: 0,
-    line: "ipencap: fault of a written file\n",
-    ..ONE
-};
-
-const INPUT: Case = Case {
-    name: "the input fails",
-    status: Status::SourceFault,
-    flushed: 0,
-    line: "ipencap: fault of the input\n",
-    ..ONE
-};
-
-/// The rack's calls are: add, the file's head, the record's head, the datagram, flush. Where the first fails there is no file.
-static CASES: [Case; 16] = [
+static CASES: [Case; 9] = [
     NONE,
     Case {
         name: "187 bytes",
@@ -158,65 +128,28 @@ static CASES: [Case; 16] = [
             },
         ],
         bytes: 132,
-        flushed: 132,
         ..ONE
-    },
-    Case {
-        fails: &[Failing::Rack(0)],
-        files: 0,
-        ..RACK
-    },
-    Case {
-        fails: &[Failing::Rack(1)],
-        bytes: 0,
-        ..RACK
-    },
-    Case {
-        fails: &[Failing::Rack(2)],
-        bytes: 24,
-        ..RACK
-    },
-    Case {
-        fails: &[Failing::Rack(3)],
-        bytes: 40,
-        ..RACK
-    },
-    Case {
-        fails: &[Failing::Rack(4)],
-        ..RACK
-    },
-    Case {
-        fails: &[Failing::Input(1)],
-        bytes: 24,
-        ..INPUT
-    },
-    Case {
-        fails: &[Failing::Input(2)],
-        ..INPUT
     },
 ];
 
 #[test]
-fn recordings_give_their_datagrams_and_a_fault_leaves_a_front(rt: HostRuntime) -> Result<(), Fail> {
+fn recordings_give_their_datagrams(rt: HostRuntime) -> Result<(), Fail> {
     let capture = small_capture(rt.alloc(), 3)?;
     for case in &CASES {
         let input = small_recording(rt.alloc(), case.packets, case.tail)?;
-        let files = [FileLeft {
+        let file = FileLeft {
             name: "ule.pcap",
             bytes: capture.get(..case.bytes).ok_or("no such front")?,
-            flushed: case.flushed,
-        }];
+            flushed: case.bytes,
+        };
         let left = Left {
             output: &[],
             flushed: 0,
-            line: case.line,
-            files: files.get(..case.files).ok_or("two files")?,
+            line: "",
+            files: &[file],
         };
-        let given = Given {
-            fails: case.fails,
-            ..faultless(&["ule", "256"], &[], &input)
-        };
-        expect(rt.alloc(), case.name, &given, case.status, &left)?;
+        let given = faultless(&["ule", "256"], &[], &input);
+        expect(rt.alloc(), case.name, &given, Status::Done, &left)?;
     }
     Ok(())
 }

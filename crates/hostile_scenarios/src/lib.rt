@@ -1,0 +1,9 @@
+//! Recordings that no sender makes, and a right unit after each: what is received -> [ipencap_engine] -> capture and report.
+//!
+//! Tests alone. Begin with `cases`, the table.
+#![tactic(auto)]
+
+#[cfg(test)]
+mod cases;
+#[cfg(test)]
+mod received;
