@@ -2,7 +2,8 @@
 ghost use Rattle.std.specs.Prelude.{◌≡◌, ◌<◌, ◌≤◌, ℕ, vec_len, OnOk, OnErr};
 ghost use Rattle.wire_spec.specs.Causes.{RoseBy};
 
-use crate::write_behind::WriteBehind;
+use crate::outside::BUFFER;
+use crate::write_behind::{WriteBehind, zeros};
 use crate::{AddFault, Failed, Rack};
 use std::alloc::Global;
 use std::fs;
@@ -69,12 +70,18 @@ impl<R: Files + Drop> Rack for FileRack<R> {
 
     ghost told = { λ s. record { count = s.count; files = None; faults = s.faults } };
 
-    /// Creates the file, or empties it.
+    /// Takes all memory first, and then creates the file, or empties it.
     fn add(&mut self, alloc: Global, name: &str) -> Result<u32, AddFault> {
         let Ok(place) = u32::try_from(self.files.len()) else {
             self.faults = self.faults.saturating_add(1);
             return Err(AddFault::Failed);
         };
+        let Ok(buffer) = zeros(alloc, BUFFER) else {
+            return Err(AddFault::OutOfMemory);
+        };
+        if self.files.reserve(1).is_err() {
+            return Err(AddFault::OutOfMemory);
+        }
         let file = match fs::create(&self.system, name) {
             Ok(file) => file,
             Err(e) if e.kind() == ErrorKind::OutOfMemory => return Err(AddFault::OutOfMemory),
@@ -83,13 +90,8 @@ impl<R: Files + Drop> Rack for FileRack<R> {
                 return Err(AddFault::Failed);
             }
         };
-        let Ok(file) = WriteBehind::new(alloc, file) else {
-            return Err(AddFault::OutOfMemory);
-        };
-        match self.files.push(file) {
-            Ok(()) => Ok(place),
-            Err(_) => Err(AddFault::OutOfMemory),
-        }
+        self.files.push_reserved(WriteBehind::over(file, buffer));
+        Ok(place)
     }
 
     fn write(&mut self, at: u32, piece: &[u8]) -> Result<usize, Failed> {

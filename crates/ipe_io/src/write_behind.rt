@@ -3,7 +3,6 @@ ghost use Rattle.std.specs.Prelude.{◌≡◌, ◌<◌, ◌≤◌, ◌-◌, ℕ,
 ghost use Rattle.std.specs.Io.KnownBytes.{Appends, Keeps, WriteAppends, append_known};
 
 use crate::Failed;
-use crate::outside::BUFFER;
 use std::alloc::{AllocError as OutOfMemory, Global};
 use std::io::{ErrorKind, Write};
 
@@ -19,15 +18,14 @@ pub(crate) struct WriteBehind<W: Write + Drop> {
 
 impl<W: Write + Drop> WriteBehind<W> {
     /// It holds nothing.
-    pub(crate) fn new(alloc: Global, inner: W) -> Result<WriteBehind<W>, OutOfMemory>
-        ensures { IfOk result (λ w. Keeps (W.contents inner) (append_known (W.contents w.inner) (take w.fill w.buffer.items))) }
+    pub(crate) fn over(inner: W, buffer: Vec<u8>) -> WriteBehind<W>
+        ensures { Keeps (W.contents inner) (append_known (W.contents result.inner) (take result.fill result.buffer.items)) }
     {
-        let buffer = zeros(alloc, BUFFER)?;
-        Ok(WriteBehind {
+        WriteBehind {
             inner,
             buffer,
             fill: 0,
-        })
+        }
     }
 
     /// Takes a prefix of the piece, and answers its length: 1 or more where the piece is not empty.
@@ -109,7 +107,7 @@ impl<W: Write + Drop> Drop for WriteBehind<W> {
 }
 
 // A buffer of zeros.
-fn zeros(alloc: Global, size: usize) -> Result<Vec<u8>, OutOfMemory>
+pub(crate) fn zeros(alloc: Global, size: usize) -> Result<Vec<u8>, OutOfMemory>
     ensures { IfOk result (λ buffer. vec_len buffer ≡ size) }
 {
     vec![in alloc; 0; size]
