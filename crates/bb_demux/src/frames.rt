@@ -22,10 +22,7 @@ pub(crate) fn read_frame(bytes: &[u8]) -> Result<Frame<'_>, FrameFault>
     ensures refused { IfErr result (λ _. is_frame bytes.now ≡ false) }
     ensures short { IfOk result (λ frame. length frame.field.now ≤ 8191) }
 {
-    match parse(bytes) {
-        Ok(frame) => Ok(frame),
-        Err(fault) => Err(fault),
-    }
+    parse(bytes)
 }
 
 /// Takes a readable frame, delivers the datagrams of the PDUs that end in it, and says whether its ISI is one of the plan.
@@ -58,11 +55,8 @@ pub(crate) fn receive_frame<T: Outlet>(
         None => return Ok(false),
     };
     let filter = &plan.services.at(at).filter;
-    match receivers[at]
+    receivers[at]
         .reception
-        .take(frame, filter, at as u32, outlet)
-    {
-        Ok(()) => Ok(true),
-        Err(Failed) => Err(Failed),
-    }
+        .take(frame, filter, at as u32, outlet)?;
+    Ok(true)
 }

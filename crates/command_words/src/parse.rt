@@ -83,8 +83,6 @@ pub fn parse_words(alloc: Global, words: &[String]) -> Result<Command<'_>, Words
         Some(command) => command,
         None => return Err(WordsFault::Usage),
     };
-    match take_words(alloc, words) {
-        Ok(()) => Ok(command),
-        Err(fault) => Err(fault),
-    }
+    take_words(alloc, words)?;
+    Ok(command)
 }

@@ -56,10 +56,7 @@ fn receive_table<T: Outlet>(
     }
     let version = version_in_force(table);
     if version != before {
-        match move_services(plan, version, services, outlet) {
-            Ok(()) => {}
-            Err(Failed) => return Err(Failed),
-        }
+        move_services(plan, version, services, outlet)?;
     }
     Ok(true)
 }
@@ -94,18 +91,14 @@ pub(crate) fn receive_packet<T: Outlet>(
     ensures services { T.services outlet.new ≡ T.services outlet.old }
     ensures cause { HasCause (T.faults outlet.old) (T.faults outlet.new) result }
 {
-    match receive_table(plan, table, services, bytes, packet, moment, outlet) {
-        Ok(true) => return Ok(true),
-        Ok(false) => {}
-        Err(Failed) => return Err(Failed),
+    if receive_table(plan, table, services, bytes, packet, moment, outlet)? {
+        return Ok(true);
     }
     let at = match place_of(services, packet.pid) {
         Some(at) => at,
         None => return Ok(false),
     };
     let filter = &plan.services.at(at).filter;
-    match services.receivers[at].take(bytes, packet, moment, filter, at as u32, outlet) {
-        Ok(()) => Ok(true),
-        Err(Failed) => Err(Failed),
-    }
+    services.receivers[at].take(bytes, packet, moment, filter, at as u32, outlet)?;
+    Ok(true)
 }

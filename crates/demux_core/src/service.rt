@@ -183,23 +183,17 @@ impl<'a> ServiceReceiver<'a> {
         ensures opened { IfOk result (λ receiver. (it : ServiceFields) → it.kind ≡ kind_seen kind.now → IsOpened (form_of recording) it receiver) }
     {
         match *kind {
-            Kind::Ule { pid, .. } => match ule_reception(arena) {
-                Ok(reception) => Ok(first_receiver(pid, reception)),
-                Err(error) => Err(error),
-            },
-            Kind::Mpe { pid } => match mpe_reception(arena) {
-                Ok(reception) => Ok(first_receiver(pid, reception)),
-                Err(error) => Err(error),
-            },
+            Kind::Ule { pid, .. } => Ok(first_receiver(pid, ule_reception(arena)?)),
+            Kind::Mpe { pid } => Ok(first_receiver(pid, mpe_reception(arena)?)),
             Kind::Fec {
                 pid,
                 rows,
                 window,
                 ..
-            } => match fec_reception(arena, rows, window.is_some(), recording) {
-                Ok(reception) => Ok(first_receiver(pid, reception)),
-                Err(error) => Err(error),
-            },
+            } => {
+                let reception = fec_reception(arena, rows, window.is_some(), recording)?;
+                Ok(first_receiver(pid, reception))
+            }
             Kind::Gse { .. } => unreachable!(),
         }
     }

@@ -129,9 +129,6 @@ impl<'a> GseReader<'a> {
         let front = read_one(self.before, self.bytes);
         self.bytes = front.rest;
         self.before = front.before;
-        match front.reading {
-            Ok(packet) => Ok(Some(packet)),
-            Err(fault) => Err(fault),
-        }
+        Ok(Some(front.reading?))
     }
 }

@@ -85,8 +85,6 @@ pub(crate) fn take_pdu<T: Outlet>(
     counts.count_event(Event::Pdu);
     let handling = handling_of(pdu, filter);
     counts.count_handling(&handling);
-    match went {
-        Ok(()) => deliver(&handling, service, outlet),
-        Err(failed) => Err(failed),
-    }
+    went?;
+    deliver(&handling, service, outlet)
 }

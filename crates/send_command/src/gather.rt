@@ -76,22 +76,21 @@ pub(crate) fn gather<I: Source>(
         Err(OpenFault::OutOfMemory) => return Err(ReadFault::OutOfMemory),
     };
     'records: loop {
-        match offer_next(&mut reader, plan, &mut offered, input) {
-            Ok(Next::Record) => {}
-            Ok(Next::End) => {
+        match offer_next(&mut reader, plan, &mut offered, input)? {
+            Next::Record => {}
+            Next::End => {
                 return Ok(Gathered {
                     offered,
                     fault: None,
                 });
             }
-            Ok(Next::Fault(fault)) => {
+            Next::Fault(fault) => {
                 let place = reader.records() + 1;
                 return Ok(Gathered {
                     offered,
                     fault: Some(PlacedFault { fault, place }),
                 });
             }
-            Err(fault) => return Err(fault),
         }
     }
 }

@@ -15,26 +15,20 @@ pub fn tell_tally<E: Sink>(tally: &Tally, complaints: &mut E) -> Result<(), Fail
     ensures written { Puts result (E.told complaints.old).held (E.told complaints.new).held (tally_line tally.now) }
     ensures cause { HasCause (E.told complaints.old).faults (E.told complaints.new).faults result }
 {
-    match put_numbers(
+    put_numbers(
         complaints,
         "ipencap: offered ",
         tally.offered,
         ", not IP ",
         tally.not_ip,
-    ) {
-        Ok(()) => {}
-        Err(Failed) => return Err(Failed),
-    }
-    match put_numbers(
+    )?;
+    put_numbers(
         complaints,
         ", unrouted ",
         tally.unrouted,
         ", too long ",
         tally.too_long,
-    ) {
-        Ok(()) => {}
-        Err(Failed) => return Err(Failed),
-    }
+    )?;
     put_all(complaints, b"\n")
 }
 
@@ -48,16 +42,13 @@ pub fn tell_fault<E: Sink>(
     ensures written { Puts result (E.told complaints.old).held (E.told complaints.new).held (fault_line fault place) }
     ensures cause { HasCause (E.told complaints.old).faults (E.told complaints.new).faults result }
 {
-    match put_numbers(
+    put_numbers(
         complaints,
         "ipencap: capture ",
         number_of(fault),
         " at record ",
         place,
-    ) {
-        Ok(()) => {}
-        Err(Failed) => return Err(Failed),
-    }
+    )?;
     put_all(complaints, b"\n")
 }
 
@@ -72,10 +63,7 @@ fn put_numbers<E: Sink>(
     ensures written { Puts result (E.told complaints.old).held (E.told complaints.new).held (first.now ++ decimal a ++ second.now ++ decimal b) }
     ensures cause { HasCause (E.told complaints.old).faults (E.told complaints.new).faults result }
 {
-    match put_number(complaints, first, a) {
-        Ok(()) => {}
-        Err(Failed) => return Err(Failed),
-    }
+    put_number(complaints, first, a)?;
     put_number(complaints, second, b)
 }
 
@@ -84,10 +72,7 @@ fn put_number<E: Sink>(complaints: &mut E, text: &str, number: u32) -> Result<()
     ensures written { Puts result (E.told complaints.old).held (E.told complaints.new).held (text.now ++ decimal number) }
     ensures cause { HasCause (E.told complaints.old).faults (E.told complaints.new).faults result }
 {
-    match put_all(complaints, text.as_bytes()) {
-        Ok(()) => {}
-        Err(Failed) => return Err(Failed),
-    }
+    put_all(complaints, text.as_bytes())?;
     let mut digits = Buffer::new();
     put_all(complaints, digits.format(number).as_bytes())
 }

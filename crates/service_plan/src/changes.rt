@@ -210,10 +210,7 @@ fn read_change(
     refuse_unknown(table, &CHANGE_KEYS)?;
     let at = number(table, Key::At, 2, 4_194_304, None)?;
     let items = table_items(table, Key::Service, 64)?;
-    let read = match read_moves(alloc, services, before, items) {
-        Ok(read) => read,
-        Err(error) => return Err(error),
-    };
+    let read = read_moves(alloc, services, before, items)?;
     let change = Change {
         at,
         moved: read.moved,

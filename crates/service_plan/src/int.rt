@@ -46,10 +46,7 @@ pub(crate) fn read_int(int: Option<&Table>) -> Result<Option<IntPlan>, PlanFault
     ensures read { Answers result (int_fault (option_map (λ t. table_view t.now) int.entry)) (λ r. (option_map int_seen r ≡ option_map int_of (option_map (λ t. table_view t.now) int.entry)) × (is_valid_int (option_map int_seen r) ≡ true)) }
 {
     match int {
-        Some(int) => match read_table(int) {
-            Ok(plan) => Ok(Some(plan)),
-            Err(fault) => Err(fault),
-        },
+        Some(int) => Ok(Some(read_table(int)?)),
         None => Ok(None),
     }
 }

@@ -38,34 +38,27 @@ fn plan_of_table(alloc: Global, top: &Table) -> Result<Plan, PlanError>
     ensures read { IfOk result (λ plan. IsAcceptedTable (table_view top.now) (plan_fields plan)) }
     ensures refused { IfErr result (λ e. OnFault e (IsRefusedTable (table_view top.now))) }
 {
-    let draft = match read_tables(alloc, top) {
-        Ok(draft) => draft,
-        Err(error) => return Err(error),
-    };
-    match check_whole(alloc, &draft) {
-        Ok(()) => {
-            let Draft {
-                recording,
-                packet_rate,
-                cycle,
-                frame_bytes,
-                table,
-                services,
-                changes,
-                spelled: _,
-            } = draft;
-            Ok(Plan {
-                recording,
-                packet_rate,
-                cycle,
-                frame_bytes,
-                table,
-                services,
-                changes,
-            })
-        }
-        Err(error) => Err(error),
-    }
+    let draft = read_tables(alloc, top)?;
+    check_whole(alloc, &draft)?;
+    let Draft {
+        recording,
+        packet_rate,
+        cycle,
+        frame_bytes,
+        table,
+        services,
+        changes,
+        spelled: _,
+    } = draft;
+    Ok(Plan {
+        recording,
+        packet_rate,
+        cycle,
+        frame_bytes,
+        table,
+        services,
+        changes,
+    })
 }
 
 /// Reads a plan from settings, a TOML document.

@@ -127,10 +127,7 @@ pub fn moved_rules(table: &Table) -> Result<Option<&[Value]>, PlanFault>
     ensures read { Reads result (rule_for Key.Rules false texts) (table_view table.now) (λ o. option_map (λ v. texts_of (views v.now)) o ≡ texts_if_any (codes "rules") (table_view table.now)) }
 {
     match find(table, Key::Rules) {
-        Some(_) => match rule_items(table) {
-            Ok(items) => Ok(Some(items)),
-            Err(fault) => Err(fault),
-        },
+        Some(_) => Ok(Some(rule_items(table)?)),
         None => Ok(None),
     }
 }

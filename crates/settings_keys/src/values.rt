@@ -94,10 +94,7 @@ pub fn moved_pid(table: &Table) -> Result<Option<u16>, PlanFault>
     ensures read { Reads result (rule_for Key.Pid false (range 32 8190)) (table_view table.now) (λ o. o ≡ number_at (codes "pid") (table_view table.now)) }
 {
     match find(table, Key::Pid) {
-        Some(_) => match pid(table) {
-            Ok(pid) => Ok(Some(pid)),
-            Err(fault) => Err(fault),
-        },
+        Some(_) => Ok(Some(pid(table)?)),
         None => Ok(None),
     }
 }

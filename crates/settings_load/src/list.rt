@@ -69,10 +69,7 @@ fn put_services<O: Sink>(plan: &Plan, output: &mut O) -> Result<(), Failed>
     ensures cause { HasCause (O.told output.old).faults (O.told output.new).faults result }
 {
     for place in 0..plan.services.len() as u32 {
-        match put_service(plan, 0, place, output) {
-            Ok(()) => {}
-            Err(failed) => return Err(failed),
-        }
+        put_service(plan, 0, place, output)?;
     }
     Ok(())
 }
@@ -91,10 +88,7 @@ fn put_moved<O: Sink>(
     ensures cause { HasCause (O.told output.old).faults (O.told output.new).faults result }
 {
     for place in 0..moved.len() {
-        match put_service(plan, version, moved.at(place).service, output) {
-            Ok(()) => {}
-            Err(failed) => return Err(failed),
-        }
+        put_service(plan, version, moved.at(place).service, output)?;
     }
     Ok(())
 }
@@ -114,10 +108,8 @@ fn put_change<O: Sink>(
 {
     let mut digits = Buffer::new();
     let at = digits.format(change.at);
-    match put_pieces(output, &[b"change ", at.as_bytes(), b"\n"]) {
-        Ok(()) => put_moved(plan, version, &change.moved, output),
-        Err(failed) => Err(failed),
-    }
+    put_pieces(output, &[b"change ", at.as_bytes(), b"\n"])?;
+    put_moved(plan, version, &change.moved, output)
 }
 
 /// Puts the lines of all changes, in their order.
@@ -127,10 +119,7 @@ fn put_changes<O: Sink>(plan: &Plan, output: &mut O) -> Result<(), Failed>
     ensures cause { HasCause (O.told output.old).faults (O.told output.new).faults result }
 {
     for place in 0..plan.changes.len() {
-        match put_change(plan, place as u8 + 1, plan.changes.at(place), output) {
-            Ok(()) => {}
-            Err(failed) => return Err(failed),
-        }
+        put_change(plan, place as u8 + 1, plan.changes.at(place), output)?;
     }
     Ok(())
 }
@@ -141,10 +130,8 @@ fn put_plan<O: Sink>(plan: &Plan, output: &mut O) -> Result<(), Failed>
     ensures flushed { Stays (O.told output.old).flushed (O.told output.new).flushed }
     ensures cause { HasCause (O.told output.old).faults (O.told output.new).faults result }
 {
-    match put_services(plan, output) {
-        Ok(()) => put_changes(plan, output),
-        Err(failed) => Err(failed),
-    }
+    put_services(plan, output)?;
+    put_changes(plan, output)
 }
 
 /// Puts the lines of a plan, and flushes all of them: one for each service, and behind them, for each change, `change` with the

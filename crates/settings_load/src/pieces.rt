@@ -13,10 +13,7 @@ pub(crate) fn put_pieces<K: Sink>(sink: &mut K, pieces: &[&[u8]]) -> Result<(), 
     ensures cause { HasCause (K.told sink.old).faults (K.told sink.new).faults result }
 {
     for piece in pieces {
-        match put_all(sink, piece) {
-            Ok(()) => {}
-            Err(failed) => return Err(failed),
-        }
+        put_all(sink, piece)?;
     }
     Ok(())
 }

@@ -30,8 +30,5 @@ pub(crate) fn fill_both<S: Source>(
     if front < stamp.len() {
         return Ok(front);
     }
-    match fill(source, packet) {
-        Ok(count) => Ok(front + count),
-        Err(Failed) => Err(Failed),
-    }
+    Ok(front + fill(source, packet)?)
 }

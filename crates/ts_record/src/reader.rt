@@ -104,10 +104,10 @@ impl RecordReader {
             moment: None,
             bytes: [0; 188],
         };
-        match self.next_into(source, &mut record) {
-            Ok(true) => Ok(Some(record)),
-            Ok(false) => Ok(None),
-            Err(fault) => Err(fault),
+        if self.next_into(source, &mut record)? {
+            Ok(Some(record))
+        } else {
+            Ok(None)
         }
     }
 

@@ -1,5 +1,6 @@
 use Rattle.std.proofs.Common.{ap, sym, ◌∙◌, arith}
 use Rattle.std.specs.Option.{option_map}
+use Rattle.std.proofs.lemmas.Result.{err_from_is_err_and}
 use Rattle.std.proofs.lemmas.List.{length-map}
 use Rattle.std.proofs.lemmas.List.Quantifiers.{position-Some}
 use Rattle.std.proofs.lemmas.Option.{slice_get-map}
@@ -44,36 +45,38 @@ overflow_cast-at g c =
       length-map c.args.plan.now.services service_seen,
     )
 
-pub returns-in-Ok-clause-received : goal.returns-in-Ok-clause-received
-returns-in-Ok-clause-received g c = λ frames b read few on.
+pub returns-clause-received : goal.returns-clause-received
+returns-clause-received g c = λ frames b read few on.
     let plan : PlanFields = plan_fields c.args.plan.now in
     let found = sym c.place_of.ensures.found ∙ c.in-Some.is in
     let receiving = to_receive plan c.args.receivers.now frames b on c.args.frame.now read c.in-Some.at c.index-receivers-at.result found c.index-receivers-at.is
     (service_seen c.at.result.now) (slice_get-map service_seen c.args.plan.now.services c.in-Some.at ∙ ap (option_map service_seen) c.at.ensures.read) few in
     one_on plan c.args.receivers.now frames b on c.args.frame.now read c.in-Some.at c.index-receivers-at.result found c.index-receivers-at.is
-    (of_whole plan c.args.plan.now.whole c.requires.baseband).differ _ (sym (ap (λ (t : IsiReceiver). t.isi) c.index-receivers-at.is)) (c.in-Ok.ensures.received (service_at plan c.in-Some.at) frames b read receiving)
+    (of_whole plan c.args.plan.now.whole c.requires.baseband).differ _ (sym (ap (λ (t : IsiReceiver). t.isi) c.index-receivers-at.is)) (c.in_ok-take.ensures.received (service_at plan c.in-Some.at) frames b read receiving)
 
-pub returns-in-Err-clause-received : goal.returns-in-Err-clause-received
-returns-in-Err-clause-received g c = λ frames b read few on.
+pub returns-in_err-take-clause-received : goal.returns-in_err-take-clause-received
+returns-in_err-take-clause-received g c = λ frames b read few on.
     let plan : PlanFields = plan_fields c.args.plan.now in
     let found = sym c.place_of.ensures.found ∙ c.in-Some.is in
     let receiving = to_receive plan c.args.receivers.now frames b on c.args.frame.now read c.in-Some.at c.index-receivers-at.result found c.index-receivers-at.is
     (service_seen c.at.result.now) (slice_get-map service_seen c.args.plan.now.services c.in-Some.at ∙ ap (option_map service_seen) c.at.ensures.read) few in
     one_on plan c.args.receivers.now frames b on c.args.frame.now read c.in-Some.at c.index-receivers-at.result found c.index-receivers-at.is
-    (of_whole plan c.args.plan.now.whole c.requires.baseband).differ _ (sym (ap (λ (t : IsiReceiver). t.isi) c.index-receivers-at.is)) (c.in-Err.ensures.received (service_at plan c.in-Some.at) frames b read receiving)
+    (of_whole plan c.args.plan.now.whole c.requires.baseband).differ _ (sym (ap (λ (t : IsiReceiver). t.isi) c.index-receivers-at.is)) (c.in_err-take.ensures.received (service_at plan c.in-Some.at) frames b read receiving)
 
-pub returns-in-Ok-clause-other : goal.returns-in-Ok-clause-other
-returns-in-Ok-clause-other g c = λ frames b read on.
+pub returns-clause-other : goal.returns-clause-other
+returns-clause-other g c = λ frames b read on.
     let found = sym c.place_of.ensures.found ∙ c.in-Some.is in
     not_foreign (plan_fields c.args.plan.now) c.args.receivers.now frames b on c.args.frame.now read c.in-Some.at c.index-receivers-at.result found c.index-receivers-at.is
 
-pub returns-in-Err-clause-of_plan : goal.returns-in-Err-clause-of_plan
-returns-in-Err-clause-of_plan g c = λ frames b read on.
+pub returns-in_err-take-clause-of_plan : goal.returns-in_err-take-clause-of_plan
+returns-in_err-take-clause-of_plan g c = λ frames b read on.
     let found = sym c.place_of.ensures.found ∙ c.in-Some.is in
-    not_foreign (plan_fields c.args.plan.now) c.args.receivers.now frames b on c.args.frame.now read c.in-Some.at c.index-receivers-at.result found c.index-receivers-at.is
+    let failed = err_from_is_err_and c.from_residual.result c.from_residual.ensures.1 in
+    rw failed.1
+    (not_foreign (plan_fields c.args.plan.now) c.args.receivers.now frames b on c.args.frame.now read c.in-Some.at c.index-receivers-at.result found c.index-receivers-at.is)
 
-pub returns-in-Ok-clause-written : goal.returns-in-Ok-clause-written
-returns-in-Ok-clause-written g c = λ frames b read few on.
+pub returns-clause-written : goal.returns-clause-written
+returns-clause-written g c = λ frames b read few on.
     let plan : PlanFields = plan_fields c.args.plan.now in
     let found = sym c.place_of.ensures.found ∙ c.in-Some.is in
     let receiving = to_receive plan c.args.receivers.now frames b on c.args.frame.now read c.in-Some.at c.index-receivers-at.result found c.index-receivers-at.is
@@ -81,15 +84,17 @@ returns-in-Ok-clause-written g c = λ frames b read few on.
     told_one (g.T.Outlet.StandsFor c.args.outlet.now) (g.T.Outlet.StandsFor c.take.new.outlet) c.in-Some.at (added_by (service_at plan c.in-Some.at) frames b) _
     (one_pairs plan c.args.receivers.now frames b on c.args.frame.now read c.in-Some.at c.index-receivers-at.result found c.index-receivers-at.is
     (of_whole plan c.args.plan.now.whole c.requires.baseband).differ)
-    (c.in-Ok.ensures.delivered (service_at plan c.in-Some.at) frames b read receiving)
+    (c.in_ok-take.ensures.delivered (service_at plan c.in-Some.at) frames b read receiving)
 
-pub returns-in-Err-clause-failed : goal.returns-in-Err-clause-failed
-returns-in-Err-clause-failed g c = λ frames b read few on.
+pub returns-in_err-take-clause-failed : goal.returns-in_err-take-clause-failed
+returns-in_err-take-clause-failed g c = λ frames b read few on.
     let plan : PlanFields = plan_fields c.args.plan.now in
     let found = sym c.place_of.ensures.found ∙ c.in-Some.is in
     let receiving = to_receive plan c.args.receivers.now frames b on c.args.frame.now read c.in-Some.at c.index-receivers-at.result found c.index-receivers-at.is
     (service_seen c.at.result.now) (slice_get-map service_seen c.args.plan.now.services c.in-Some.at ∙ ap (option_map service_seen) c.at.ensures.read) few in
-    stopped_one (g.T.Outlet.StandsFor c.args.outlet.now) (g.T.Outlet.StandsFor c.take.new.outlet) (g.T.Outlet.Refused c.take.new.outlet) c.in-Some.at (added_by (service_at plan c.in-Some.at) frames b) _
+    let failed = err_from_is_err_and c.from_residual.result c.from_residual.ensures.1 in
+    rw failed.1
+    (stopped_one (g.T.Outlet.StandsFor c.args.outlet.now) (g.T.Outlet.StandsFor c.take.new.outlet) (g.T.Outlet.Refused c.take.new.outlet) c.in-Some.at (added_by (service_at plan c.in-Some.at) frames b) _
     (one_pairs plan c.args.receivers.now frames b on c.args.frame.now read c.in-Some.at c.index-receivers-at.result found c.index-receivers-at.is
     (of_whole plan c.args.plan.now.whole c.requires.baseband).differ)
-    (c.in-Err.ensures.failed (service_at plan c.in-Some.at) frames b read receiving)
+    (c.in_err-take.ensures.failed (service_at plan c.in-Some.at) frames b read receiving))

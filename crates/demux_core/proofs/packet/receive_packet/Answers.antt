@@ -1,5 +1,6 @@
-use Rattle.std.proofs.Common.{◌≡◌, ◌∙◌, ◌||◌, false, Option, List, [], ◌∷◌, ◌++◌, length, ap, sym, subst}
+use Rattle.std.proofs.Common.{◌≡◌, ◌∙◌, false, Option, List, [], ◌∷◌, ◌++◌, length, ap, sym, subst}
 use Rattle.std.specs.Prelude.{option_map}
+use Rattle.std.proofs.lemmas.Result.{err_from_is_err_and}
 use Rattle.std.proofs.lemmas.Option.{slice_get-map}
 use Rattle.ts_spec.specs.Packet.{PacketFields, fields_of}
 use Rattle.ts_spec.specs.Recording.{Record}
@@ -11,49 +12,19 @@ use Rattle.reception_spec.specs.Delivered.{service_on, pairs_of_record}
 use Rattle.reception_law.specs.Words.{added_by}
 use Rattle.service_reception.specs.Reception.{packet_record}
 use Rattle.bb_demux.specs.Outlets.{Delivers, DeliversFront}
-use Rattle.demux_core.specs.Services.{HaveAllReceived, is_table_pid, is_service_pid}
+use Rattle.demux_core.specs.Services.{HaveAllReceived, is_table_pid}
 use Rattle.demux_core.specs.declared.table.TableReceiver.{TableReceiver}
 use Rattle.demux_core.proofs.Laws.{Laws, laws_of}
-use Rattle.demux_core.proofs.Whole.{known, told_one, told_none, stopped_one}
+use Rattle.demux_core.proofs.Whole.{told_one, told_none, stopped_one}
 use Rattle.demux_core.proofs.OnePacket.{left_as, none_received, none_known, none_pairs, one_known, to_receive, one_received, one_pairs}
 use Rattle.demux_core.proofs.packet.receive_packet.Goals as goal
-
-pub returns-in-Ok-true-clause-received : goal.returns-in-Ok-true-clause-received
-returns-in-Ok-true-clause-received g c = λ records few all.
-    c.receive_table.ensures.received records few all (sym c.in-Ok-true.ensures.taken ∙ c.in-Ok-true.field-0-test)
-
-pub returns-in-Ok-true-clause-known : goal.returns-in-Ok-true-clause-known
-returns-in-Ok-true-clause-known g c = λ records all.
-    let plan : PlanFields = plan_fields c.args.plan.now in
-    let laws : Laws plan = laws_of plan c.requires.fits.right_changes in
-    let pid : (fields_of c.args.bytes.now).pid ≡ c.args.packet.now.pid = sym (ap (λ (f : PacketFields). f.pid) c.requires.read.fields_are) in
-    sym (known plan laws c.args.services.now.receivers.items c.args.table.now records (packet_record c.args.moment c.args.bytes.now) all
-    c.requires.fits.right_changes c.args.packet.now.pid pid
-    ∙ ap (λ b. b || is_service_pid c.args.services.now.receivers.items c.args.packet.now.pid) (sym c.in-Ok-true.ensures.taken ∙ c.in-Ok-true.field-0-test))
-
-pub returns-in-Ok-true-clause-written : goal.returns-in-Ok-true-clause-written
-returns-in-Ok-true-clause-written g c = λ records few all.
-    c.in-Ok-true.ensures.written records few all (sym c.in-Ok-true.ensures.taken ∙ c.in-Ok-true.field-0-test)
-
-pub returns-in-Err-clause-received : goal.returns-in-Err-clause-received
-returns-in-Err-clause-received g c = λ records few all.
-    c.receive_table.ensures.received records few all c.in-Err.ensures.of_table
-
-pub returns-in-Err-clause-of_plan : goal.returns-in-Err-clause-of_plan
-returns-in-Err-clause-of_plan g c = λ records all.
-    let plan : PlanFields = plan_fields c.args.plan.now in
-    let laws : Laws plan = laws_of plan c.requires.fits.right_changes in
-    let pid : (fields_of c.args.bytes.now).pid ≡ c.args.packet.now.pid = sym (ap (λ (f : PacketFields). f.pid) c.requires.read.fields_are) in
-    known plan laws c.args.services.now.receivers.items c.args.table.now records (packet_record c.args.moment c.args.bytes.now) all
-    c.requires.fits.right_changes c.args.packet.now.pid pid
-    ∙ ap (λ b. b || is_service_pid c.args.services.now.receivers.items c.args.packet.now.pid) c.in-Err.ensures.of_table
 
 pub returns-in-None-clause-received : goal.returns-in-None-clause-received
 returns-in-None-clause-received g c = λ records few all.
     let plan : PlanFields = plan_fields c.args.plan.now in
     let laws : Laws plan = laws_of plan c.requires.fits.right_changes in
     let pid : (fields_of c.args.bytes.now).pid ≡ c.args.packet.now.pid = sym (ap (λ (f : PacketFields). f.pid) c.requires.read.fields_are) in
-    let off : is_table_pid c.args.table.now c.args.packet.now.pid ≡ false = sym c.in-Ok-false.ensures.taken ∙ c.in-Ok-false.field-0-test in
+    let off : is_table_pid c.args.table.now c.args.packet.now.pid ≡ false = sym c.in_ok-receive_table.ensures.taken ∙ c.if-branch.false in
     let left = c.receive_table.ensures.left off in
     let still : is_table_pid c.receive_table.new.table c.args.packet.now.pid ≡ false = ap (λ (t : Option TableReceiver). is_table_pid t c.args.packet.now.pid) left.1 ∙ off in
     let now : HaveAllReceived false plan c.receive_table.new.services.receivers.items c.receive_table.new.table records =
@@ -67,7 +38,7 @@ returns-in-None-clause-known g c = λ records all.
     let plan : PlanFields = plan_fields c.args.plan.now in
     let laws : Laws plan = laws_of plan c.requires.fits.right_changes in
     let pid : (fields_of c.args.bytes.now).pid ≡ c.args.packet.now.pid = sym (ap (λ (f : PacketFields). f.pid) c.requires.read.fields_are) in
-    let off : is_table_pid c.args.table.now c.args.packet.now.pid ≡ false = sym c.in-Ok-false.ensures.taken ∙ c.in-Ok-false.field-0-test in
+    let off : is_table_pid c.args.table.now c.args.packet.now.pid ≡ false = sym c.in_ok-receive_table.ensures.taken ∙ c.if-branch.false in
     let left = c.receive_table.ensures.left off in
     let still : is_table_pid c.receive_table.new.table c.args.packet.now.pid ≡ false = ap (λ (t : Option TableReceiver). is_table_pid t c.args.packet.now.pid) left.1 ∙ off in
     let now : HaveAllReceived false plan c.receive_table.new.services.receivers.items c.receive_table.new.table records =
@@ -81,7 +52,7 @@ returns-in-None-clause-written g c = λ records few all.
     let plan : PlanFields = plan_fields c.args.plan.now in
     let laws : Laws plan = laws_of plan c.requires.fits.right_changes in
     let pid : (fields_of c.args.bytes.now).pid ≡ c.args.packet.now.pid = sym (ap (λ (f : PacketFields). f.pid) c.requires.read.fields_are) in
-    let off : is_table_pid c.args.table.now c.args.packet.now.pid ≡ false = sym c.in-Ok-false.ensures.taken ∙ c.in-Ok-false.field-0-test in
+    let off : is_table_pid c.args.table.now c.args.packet.now.pid ≡ false = sym c.in_ok-receive_table.ensures.taken ∙ c.if-branch.false in
     let left = c.receive_table.ensures.left off in
     let still : is_table_pid c.receive_table.new.table c.args.packet.now.pid ≡ false = ap (λ (t : Option TableReceiver). is_table_pid t c.args.packet.now.pid) left.1 ∙ off in
     let now : HaveAllReceived false plan c.receive_table.new.services.receivers.items c.receive_table.new.table records =
@@ -92,12 +63,12 @@ returns-in-None-clause-written g c = λ records few all.
     c.args.moment c.args.bytes.now c.args.packet.now.pid c.requires.read.readable pid still now
     (sym c.place_of.ensures ∙ c.in-None.is)))
 
-pub returns-in-Ok-clause-received : goal.returns-in-Ok-clause-received
-returns-in-Ok-clause-received g c = λ records few all.
+pub returns-clause-received : goal.returns-clause-received
+returns-clause-received g c = λ records few all.
     let plan : PlanFields = plan_fields c.args.plan.now in
     let laws : Laws plan = laws_of plan c.requires.fits.right_changes in
     let pid : (fields_of c.args.bytes.now).pid ≡ c.args.packet.now.pid = sym (ap (λ (f : PacketFields). f.pid) c.requires.read.fields_are) in
-    let off : is_table_pid c.args.table.now c.args.packet.now.pid ≡ false = sym c.in-Ok-false.ensures.taken ∙ c.in-Ok-false.field-0-test in
+    let off : is_table_pid c.args.table.now c.args.packet.now.pid ≡ false = sym c.in_ok-receive_table.ensures.taken ∙ c.if-branch.false in
     let left = c.receive_table.ensures.left off in
     let still : is_table_pid c.receive_table.new.table c.args.packet.now.pid ≡ false = ap (λ (t : Option TableReceiver). is_table_pid t c.args.packet.now.pid) left.1 ∙ off in
     let now : HaveAllReceived false plan c.receive_table.new.services.receivers.items c.receive_table.new.table records =
@@ -114,12 +85,12 @@ returns-in-Ok-clause-received g c = λ records few all.
     c.in-Some.at c.index_mut.result.now (sym c.place_of.ensures ∙ c.in-Some.is) c.index_mut.ensures.value c.take.new.self c.take.ensures.pid c.take.ensures.before c.take.ensures.frames_before
     (c.take.ensures.received plan.recording it span receiving)
 
-pub returns-in-Err-take-clause-received : goal.returns-in-Err-take-clause-received
-returns-in-Err-take-clause-received g c = λ records few all.
+pub returns-in_err-take-clause-received : goal.returns-in_err-take-clause-received
+returns-in_err-take-clause-received g c = λ records few all.
     let plan : PlanFields = plan_fields c.args.plan.now in
     let laws : Laws plan = laws_of plan c.requires.fits.right_changes in
     let pid : (fields_of c.args.bytes.now).pid ≡ c.args.packet.now.pid = sym (ap (λ (f : PacketFields). f.pid) c.requires.read.fields_are) in
-    let off : is_table_pid c.args.table.now c.args.packet.now.pid ≡ false = sym c.in-Ok-false.ensures.taken ∙ c.in-Ok-false.field-0-test in
+    let off : is_table_pid c.args.table.now c.args.packet.now.pid ≡ false = sym c.in_ok-receive_table.ensures.taken ∙ c.if-branch.false in
     let left = c.receive_table.ensures.left off in
     let still : is_table_pid c.receive_table.new.table c.args.packet.now.pid ≡ false = ap (λ (t : Option TableReceiver). is_table_pid t c.args.packet.now.pid) left.1 ∙ off in
     let now : HaveAllReceived false plan c.receive_table.new.services.receivers.items c.receive_table.new.table records =
@@ -136,12 +107,12 @@ returns-in-Err-take-clause-received g c = λ records few all.
     c.in-Some.at c.index_mut.result.now (sym c.place_of.ensures ∙ c.in-Some.is) c.index_mut.ensures.value c.take.new.self c.take.ensures.pid c.take.ensures.before c.take.ensures.frames_before
     (c.take.ensures.received plan.recording it span receiving)
 
-pub returns-in-Ok-clause-known : goal.returns-in-Ok-clause-known
-returns-in-Ok-clause-known g c = λ records all.
+pub returns-clause-known : goal.returns-clause-known
+returns-clause-known g c = λ records all.
     let plan : PlanFields = plan_fields c.args.plan.now in
     let laws : Laws plan = laws_of plan c.requires.fits.right_changes in
     let pid : (fields_of c.args.bytes.now).pid ≡ c.args.packet.now.pid = sym (ap (λ (f : PacketFields). f.pid) c.requires.read.fields_are) in
-    let off : is_table_pid c.args.table.now c.args.packet.now.pid ≡ false = sym c.in-Ok-false.ensures.taken ∙ c.in-Ok-false.field-0-test in
+    let off : is_table_pid c.args.table.now c.args.packet.now.pid ≡ false = sym c.in_ok-receive_table.ensures.taken ∙ c.if-branch.false in
     let left = c.receive_table.ensures.left off in
     let still : is_table_pid c.receive_table.new.table c.args.packet.now.pid ≡ false = ap (λ (t : Option TableReceiver). is_table_pid t c.args.packet.now.pid) left.1 ∙ off in
     let now : HaveAllReceived false plan c.receive_table.new.services.receivers.items c.receive_table.new.table records =
@@ -150,26 +121,28 @@ returns-in-Ok-clause-known g c = λ records all.
     c.args.moment c.args.bytes.now c.args.packet.now.pid c.requires.read.readable pid still now
     c.in-Some.at c.index_mut.result.now (sym c.place_of.ensures ∙ c.in-Some.is) c.index_mut.ensures.value)
 
-pub returns-in-Err-take-clause-of_plan : goal.returns-in-Err-take-clause-of_plan
-returns-in-Err-take-clause-of_plan g c = λ records all.
+pub returns-in_err-take-clause-of_plan : goal.returns-in_err-take-clause-of_plan
+returns-in_err-take-clause-of_plan g c = λ records all.
     let plan : PlanFields = plan_fields c.args.plan.now in
     let laws : Laws plan = laws_of plan c.requires.fits.right_changes in
     let pid : (fields_of c.args.bytes.now).pid ≡ c.args.packet.now.pid = sym (ap (λ (f : PacketFields). f.pid) c.requires.read.fields_are) in
-    let off : is_table_pid c.args.table.now c.args.packet.now.pid ≡ false = sym c.in-Ok-false.ensures.taken ∙ c.in-Ok-false.field-0-test in
+    let off : is_table_pid c.args.table.now c.args.packet.now.pid ≡ false = sym c.in_ok-receive_table.ensures.taken ∙ c.if-branch.false in
     let left = c.receive_table.ensures.left off in
     let still : is_table_pid c.receive_table.new.table c.args.packet.now.pid ≡ false = ap (λ (t : Option TableReceiver). is_table_pid t c.args.packet.now.pid) left.1 ∙ off in
     let now : HaveAllReceived false plan c.receive_table.new.services.receivers.items c.receive_table.new.table records =
     left_as plan c.args.services.now c.receive_table.new.services c.args.table.now c.receive_table.new.table records left.0 left.1 all in
-    one_known plan laws c.requires.fits.right_changes c.receive_table.new.services.receivers.items c.receive_table.new.table records
+    let failed = err_from_is_err_and c.from_residual-in_err-take.result c.from_residual-in_err-take.ensures.1 in
+    rw failed.1
+    (one_known plan laws c.requires.fits.right_changes c.receive_table.new.services.receivers.items c.receive_table.new.table records
     c.args.moment c.args.bytes.now c.args.packet.now.pid c.requires.read.readable pid still now
-    c.in-Some.at c.index_mut.result.now (sym c.place_of.ensures ∙ c.in-Some.is) c.index_mut.ensures.value
+    c.in-Some.at c.index_mut.result.now (sym c.place_of.ensures ∙ c.in-Some.is) c.index_mut.ensures.value)
 
-pub returns-in-Ok-clause-written : goal.returns-in-Ok-clause-written
-returns-in-Ok-clause-written g c = λ records few all.
+pub returns-clause-written : goal.returns-clause-written
+returns-clause-written g c = λ records few all.
     let plan : PlanFields = plan_fields c.args.plan.now in
     let laws : Laws plan = laws_of plan c.requires.fits.right_changes in
     let pid : (fields_of c.args.bytes.now).pid ≡ c.args.packet.now.pid = sym (ap (λ (f : PacketFields). f.pid) c.requires.read.fields_are) in
-    let off : is_table_pid c.args.table.now c.args.packet.now.pid ≡ false = sym c.in-Ok-false.ensures.taken ∙ c.in-Ok-false.field-0-test in
+    let off : is_table_pid c.args.table.now c.args.packet.now.pid ≡ false = sym c.in_ok-receive_table.ensures.taken ∙ c.if-branch.false in
     let left = c.receive_table.ensures.left off in
     let still : is_table_pid c.receive_table.new.table c.args.packet.now.pid ≡ false = ap (λ (t : Option TableReceiver). is_table_pid t c.args.packet.now.pid) left.1 ∙ off in
     let now : HaveAllReceived false plan c.receive_table.new.services.receivers.items c.receive_table.new.table records =
@@ -187,14 +160,14 @@ returns-in-Ok-clause-written g c = λ records few all.
     (one_pairs plan laws c.requires.fits.right_changes c.receive_table.new.services.receivers.items c.receive_table.new.table records
     c.args.moment c.args.bytes.now c.args.packet.now.pid c.requires.read.readable pid still now
     c.in-Some.at c.index_mut.result.now (sym c.place_of.ensures ∙ c.in-Some.is) c.index_mut.ensures.value)
-    (c.in-Ok.ensures.delivered plan.recording it span receiving))
+    (c.in_ok-take.ensures.delivered plan.recording it span receiving))
 
-pub returns-in-Err-take-clause-failed : goal.returns-in-Err-take-clause-failed
-returns-in-Err-take-clause-failed g c = λ records few all.
+pub returns-in_err-take-clause-failed : goal.returns-in_err-take-clause-failed
+returns-in_err-take-clause-failed g c = λ records few all.
     let plan : PlanFields = plan_fields c.args.plan.now in
     let laws : Laws plan = laws_of plan c.requires.fits.right_changes in
     let pid : (fields_of c.args.bytes.now).pid ≡ c.args.packet.now.pid = sym (ap (λ (f : PacketFields). f.pid) c.requires.read.fields_are) in
-    let off : is_table_pid c.args.table.now c.args.packet.now.pid ≡ false = sym c.in-Ok-false.ensures.taken ∙ c.in-Ok-false.field-0-test in
+    let off : is_table_pid c.args.table.now c.args.packet.now.pid ≡ false = sym c.in_ok-receive_table.ensures.taken ∙ c.if-branch.false in
     let left = c.receive_table.ensures.left off in
     let still : is_table_pid c.receive_table.new.table c.args.packet.now.pid ≡ false = ap (λ (t : Option TableReceiver). is_table_pid t c.args.packet.now.pid) left.1 ∙ off in
     let now : HaveAllReceived false plan c.receive_table.new.services.receivers.items c.receive_table.new.table records =
@@ -206,10 +179,12 @@ returns-in-Err-take-clause-failed g c = λ records few all.
     c.args.moment c.args.bytes.now c.args.packet.now.pid c.requires.read.readable pid still now
     c.in-Some.at c.index_mut.result.now (sym c.place_of.ensures ∙ c.in-Some.is) c.index_mut.ensures.value
     (service_seen c.at.result.now) (slice_get-map service_seen c.args.plan.now.services c.in-Some.at ∙ ap (option_map service_seen) c.at.ensures.read) few in
-    subst (λ o. DeliversFront (g.T.Outlet.StandsFor o) (g.T.Outlet.StandsFor c.take.new.outlet) (g.T.Outlet.Refused c.take.new.outlet) (pairs_of_record plan (records ++ packet_record c.args.moment c.args.bytes.now ∷ []) (length records))) left.2
+    let failed = err_from_is_err_and c.from_residual-in_err-take.result c.from_residual-in_err-take.ensures.1 in
+    rw failed.1
+    (subst (λ o. DeliversFront (g.T.Outlet.StandsFor o) (g.T.Outlet.StandsFor c.take.new.outlet) (g.T.Outlet.Refused c.take.new.outlet) (pairs_of_record plan (records ++ packet_record c.args.moment c.args.bytes.now ∷ []) (length records))) left.2
     (stopped_one (g.T.Outlet.StandsFor c.receive_table.new.outlet) (g.T.Outlet.StandsFor c.take.new.outlet) (g.T.Outlet.Refused c.take.new.outlet) c.in-Some.at
     (added_by plan.recording it span (packet_record c.args.moment c.args.bytes.now)) _
     (one_pairs plan laws c.requires.fits.right_changes c.receive_table.new.services.receivers.items c.receive_table.new.table records
     c.args.moment c.args.bytes.now c.args.packet.now.pid c.requires.read.readable pid still now
     c.in-Some.at c.index_mut.result.now (sym c.place_of.ensures ∙ c.in-Some.is) c.index_mut.ensures.value)
-    (c.in-Err-take.ensures.failed plan.recording it span receiving))
+    (c.in_err-take.ensures.failed plan.recording it span receiving)))

@@ -1,4 +1,5 @@
 use Rattle.std.proofs.Common.{◌∙◌, ◌≡◌, ℕ, ◌≤◌, ap, sym, subst, arith}
+use Rattle.std.proofs.lemmas.Result.{err_from_is_err_and}
 use Rattle.std.proofs.lemmas.List.{length-map}
 use Rattle.ts_spec.specs.Packet.{PacketFields, fields_of}
 use Rattle.plan_spec.specs.Plan.{PlanFields}
@@ -18,8 +19,8 @@ move_services-requires-clause-version g c =
     subst (λ (n : ℕ). c.version_in_force-version.result ≤ n) (length-map c.args.plan.now.changes change_seen)
     (c.version_in_force-version.ensures.most (plan_fields c.args.plan.now) (c.take_for_table.ensures.last (plan_fields c.args.plan.now) c.requires.fits.up_to_last))
 
-pub returns-in-Ok-clause-received : goal.returns-in-Ok-clause-received
-returns-in-Ok-clause-received g c = λ records few all own.
+pub returns-in_ok-move_services-clause-received : goal.returns-in_ok-move_services-clause-received
+returns-in_ok-move_services-clause-received g c = λ records few all own.
     let plan : PlanFields = plan_fields c.args.plan.now in
     int_switched plan (laws_of plan c.requires.fits.right_changes) c.args.services.now.receivers.items c.args.table.now records (packet_record c.args.moment c.args.bytes.now) all
     c.requires.fits.right_changes c.args.packet.now.pid (sym (ap (λ (f : PacketFields). f.pid) c.requires.read.fields_are)) c.take_for_table.new.table own
@@ -27,8 +28,8 @@ returns-in-Ok-clause-received g c = λ records few all own.
     few c.requires.fits.few_changes c.move_services.new.services.receivers.items c.move_services.ensures.count
     (subst (λ (v : ℕ). AllFollow plan v c.args.services.now.receivers.items c.move_services.new.services.receivers.items) c.version_in_force-version.ensures.read c.move_services.ensures.followed)
 
-pub returns-in-Ok-clause-written : goal.returns-in-Ok-clause-written
-returns-in-Ok-clause-written g c = λ records few all own.
+pub returns-in_ok-move_services-clause-written : goal.returns-in_ok-move_services-clause-written
+returns-in_ok-move_services-clause-written g c = λ records few all own.
     let plan : PlanFields = plan_fields c.args.plan.now in
     let pid : (fields_of c.args.bytes.now).pid ≡ c.args.packet.now.pid = sym (ap (λ (f : PacketFields). f.pid) c.requires.read.fields_are) in
     subst (Delivers (g.T.Outlet.StandsFor c.args.outlet.now) (g.T.Outlet.StandsFor c.move_services.new.outlet))
@@ -36,10 +37,10 @@ returns-in-Ok-clause-written g c = λ records few all own.
     c.requires.fits.right_changes c.args.packet.now.pid pid c.take_for_table.new.table own
     (c.take_for_table.ensures.received plan records few all.int c.if-not-take_for_table.false)
     (is_of_read c.args.packet.now.pid c.args.bytes.now c.requires.read.readable pid) c.version_in_force-version.result c.version_in_force-version.ensures.read))
-    (c.in-Ok.ensures.delivered (version_at_end plan records) records (omega (arith, few)) all.services)
+    (c.in_ok-move_services.ensures.delivered (version_at_end plan records) records (omega (arith, few)) all.services)
 
-pub returns-in-Ok-clause-fits : goal.returns-in-Ok-clause-fits
-returns-in-Ok-clause-fits g c = record {
+pub returns-in_ok-move_services-clause-fits : goal.returns-in_ok-move_services-clause-fits
+returns-in_ok-move_services-clause-fits g c = record {
   count_is = c.move_services.ensures.count ∙ c.requires.fits.count_is;
   few = c.requires.fits.few;
   right_changes = c.requires.fits.right_changes;
@@ -47,8 +48,8 @@ returns-in-Ok-clause-fits g c = record {
   up_to_last = c.take_for_table.ensures.last (plan_fields c.args.plan.now) c.requires.fits.up_to_last;
 }
 
-pub returns-in-Err-clause-received : goal.returns-in-Err-clause-received
-returns-in-Err-clause-received g c = λ records few all own.
+pub returns-in_err-move_services-clause-received : goal.returns-in_err-move_services-clause-received
+returns-in_err-move_services-clause-received g c = λ records few all own.
     let plan : PlanFields = plan_fields c.args.plan.now in
     int_switched plan (laws_of plan c.requires.fits.right_changes) c.args.services.now.receivers.items c.args.table.now records (packet_record c.args.moment c.args.bytes.now) all
     c.requires.fits.right_changes c.args.packet.now.pid (sym (ap (λ (f : PacketFields). f.pid) c.requires.read.fields_are)) c.take_for_table.new.table own
@@ -56,19 +57,21 @@ returns-in-Err-clause-received g c = λ records few all own.
     few c.requires.fits.few_changes c.move_services.new.services.receivers.items c.move_services.ensures.count
     (subst (λ (v : ℕ). AllFollow plan v c.args.services.now.receivers.items c.move_services.new.services.receivers.items) c.version_in_force-version.ensures.read c.move_services.ensures.followed)
 
-pub returns-in-Err-clause-failed : goal.returns-in-Err-clause-failed
-returns-in-Err-clause-failed g c = λ records few all.
+pub returns-in_err-move_services-clause-failed : goal.returns-in_err-move_services-clause-failed
+returns-in_err-move_services-clause-failed g c = λ records few all.
     let plan : PlanFields = plan_fields c.args.plan.now in
     let pid : (fields_of c.args.bytes.now).pid ≡ c.args.packet.now.pid = sym (ap (λ (f : PacketFields). f.pid) c.requires.read.fields_are) in
-    subst (DeliversFront (g.T.Outlet.StandsFor c.args.outlet.now) (g.T.Outlet.StandsFor c.move_services.new.outlet) (g.T.Outlet.Refused c.move_services.new.outlet))
+    let failed = err_from_is_err_and c.from_residual.result c.from_residual.ensures.1 in
+    rw failed.1
+    (subst (DeliversFront (g.T.Outlet.StandsFor c.args.outlet.now) (g.T.Outlet.StandsFor c.move_services.new.outlet) (g.T.Outlet.Refused c.move_services.new.outlet))
     (sym (int_gives plan (laws_of plan c.requires.fits.right_changes) c.args.services.now.receivers.items c.args.table.now records (packet_record c.args.moment c.args.bytes.now) all
     c.requires.fits.right_changes c.args.packet.now.pid pid c.take_for_table.new.table (sym c.take_for_table.ensures.taken ∙ c.if-not-take_for_table.false)
     (c.take_for_table.ensures.received plan records few all.int c.if-not-take_for_table.false)
     (is_of_read c.args.packet.now.pid c.args.bytes.now c.requires.read.readable pid) c.version_in_force-version.result c.version_in_force-version.ensures.read))
-    (c.in-Err.ensures.failed (version_at_end plan records) records (omega (arith, few)) all.services)
+    (c.in_err-move_services.ensures.failed (version_at_end plan records) records (omega (arith, few)) all.services))
 
-pub returns-in-Err-clause-fits : goal.returns-in-Err-clause-fits
-returns-in-Err-clause-fits g c = record {
+pub returns-in_err-move_services-clause-fits : goal.returns-in_err-move_services-clause-fits
+returns-in_err-move_services-clause-fits g c = record {
   count_is = c.move_services.ensures.count ∙ c.requires.fits.count_is;
   few = c.requires.fits.few;
   right_changes = c.requires.fits.right_changes;

@@ -1,4 +1,5 @@
 use Rattle.std.proofs.Common.{inl, List, ℕ, Result, Err, append-nil, ◌+◌, [], ◌∷◌, ◌++◌, Some, None, Ok, ap, sym, ◌∙◌, subst}
+use Rattle.std.proofs.lemmas.Result.{err_from_is_err_and}
 use Rattle.std.proofs.KnownBytes.{Consumes-trans}
 use Rattle.pcap_file.specs.Reader.{Takes, rest_of}
 use Rattle.pcap_file.proofs.Shown.{no_fault_in_head}
@@ -30,13 +31,13 @@ records-init g c =
 
 pub records-smaller : goal.records-smaller
 records-smaller g c =
-    let more = c.in-Ok-Record.ensures.more c.records.invariant.0 c.records.invariant.1 c.records.invariant.2.intake (ap (λ n. Ok n) c.in-Ok-Record.field-0-is) in
+    let more = c.in_ok-offer_next.ensures.more c.records.invariant.0 c.records.invariant.1 c.records.invariant.2.intake (ap (λ n. Ok n) c.in-Record.is) in
     nearer (plan_fields c.args.plan.now) c.records.reader c.offer_next.new.reader c.records.offered c.offer_next.new.offered c.records.invariant.0 more.piece c.records.invariant.1 more.bytes
     c.records.invariant.2.intake more.intake
 
 pub records-preserved : goal.records-preserved
 records-preserved g c =
-    let more = c.in-Ok-Record.ensures.more c.records.invariant.0 c.records.invariant.1 c.records.invariant.2.intake (ap (λ n. Ok n) c.in-Ok-Record.field-0-is) in (
+    let more = c.in_ok-offer_next.ensures.more c.records.invariant.0 c.records.invariant.1 c.records.invariant.2.intake (ap (λ n. Ok n) c.in-Record.is) in (
       c.records.invariant.0 ++ more.piece,
       c.records.invariant.1 ++ more.bytes ∷ [],
       record {
@@ -44,39 +45,39 @@ records-preserved g c =
             c.records.invariant.2.consumed more.consumed;
         intake = more.intake;
         taken = taken_in c.records.invariant.0 c.records.reader.held more.more more.piece c.offer_next.new.reader.held (g.I.Source.told c.args.input.now) (g.I.Source.told c.records.input) (g.I.Source.told c.offer_next.new.input) c.records.invariant.2.taken more.takes more.moved;
-        same = c.in-Ok-Record.ensures.cause.kept (λ e. cc) ∙ c.records.invariant.2.same;
-        on = λ was. c.in-Ok-Record.ensures.on (ap (λ n. Ok n) c.in-Ok-Record.field-0-is) (c.records.invariant.2.on was);
+        same = c.in_ok-offer_next.ensures.cause.kept (λ e. cc) ∙ c.records.invariant.2.same;
+        on = λ was. c.in_ok-offer_next.ensures.on (ap (λ n. Ok n) c.in-Record.is) (c.records.invariant.2.on was);
       },
     )
 
-pub returns-in-Ok-End-clause-told : goal.returns-in-Ok-End-clause-told
-returns-in-Ok-End-clause-told g c =
-    let end = ap (λ n. Ok n) c.in-Ok-End.field-0-is in
+pub returns-in-End-clause-told : goal.returns-in-End-clause-told
+returns-in-End-clause-told g c =
+    let end = ap (λ n. Ok n) c.in-End.is in
     gathered_all (plan_fields c.args.plan.now) c.records.reader c.records.offered c.records.invariant.0 c.records.invariant.1
     (g.I.Source.told c.args.input.now).left (rest_of c.records.reader.held (g.I.Source.told c.records.input).left) (record { offered = c.offer_next.new.offered; fault = None })
-    c.records.invariant.2.intake c.records.invariant.2.consumed (c.in-Ok-End.ensures.end c.records.invariant.0 c.records.invariant.1 c.records.invariant.2.intake end)
-    (c.in-Ok-End.ensures.kept_end end) tt
+    c.records.invariant.2.intake c.records.invariant.2.consumed (c.in_ok-offer_next.ensures.end c.records.invariant.0 c.records.invariant.1 c.records.invariant.2.intake end)
+    (c.in_ok-offer_next.ensures.kept_end end) tt
 
-pub returns-in-Ok-End-clause-offered : goal.returns-in-Ok-End-clause-offered
-returns-in-Ok-End-clause-offered g c =
-    subst (λ (o : Offered). IsUnderPlan (plan_fields c.args.plan.now) o) (sym (c.in-Ok-End.ensures.kept_end (ap (λ n. Ok n) c.in-Ok-End.field-0-is)))
+pub returns-in-End-clause-offered : goal.returns-in-End-clause-offered
+returns-in-End-clause-offered g c =
+    subst (λ (o : Offered). IsUnderPlan (plan_fields c.args.plan.now) o) (sym (c.in_ok-offer_next.ensures.kept_end (ap (λ n. Ok n) c.in-End.is)))
     (intake_under (plan_fields c.args.plan.now) c.records.reader c.records.offered c.records.invariant.0 c.records.invariant.1 c.records.invariant.2.intake)
 
-pub returns-in-Ok-Fault-clause-told : goal.returns-in-Ok-Fault-clause-told
-returns-in-Ok-Fault-clause-told g c =
-    let found = ap (λ n. Ok n) c.in-Ok-Fault.field-0-is in
+pub returns-in-Fault-clause-told : goal.returns-in-Fault-clause-told
+returns-in-Fault-clause-told g c =
+    let found = ap (λ n. Ok n) c.in-Fault.is in
     gathered_all (plan_fields c.args.plan.now) c.records.reader c.records.offered c.records.invariant.0 c.records.invariant.1
     (g.I.Source.told c.args.input.now).left (rest_of c.records.reader.held (g.I.Source.told c.records.input).left)
-    (record { offered = c.offer_next.new.offered; fault = Some (record { fault = c.in-Ok-Fault.fault; place = c.records-place.result + 1 }) })
+    (record { offered = c.offer_next.new.offered; fault = Some (record { fault = c.in-Fault.fault; place = c.records-place.result + 1 }) })
     c.records.invariant.2.intake c.records.invariant.2.consumed
-    (c.in-Ok-Fault.ensures.fault c.records.invariant.0 c.records.invariant.1 c.in-Ok-Fault.fault c.records.invariant.2.intake found)
-    (c.in-Ok-Fault.ensures.kept_fault c.in-Ok-Fault.fault found)
+    (c.in_ok-offer_next.ensures.fault c.records.invariant.0 c.records.invariant.1 c.in-Fault.fault c.records.invariant.2.intake found)
+    (c.in_ok-offer_next.ensures.kept_fault c.in-Fault.fault found)
     (place_behind c.records.reader c.records.invariant.0 c.records.invariant.1 (c.records-place.result + 1) c.records.invariant.2.intake.has_read
-    (ap (λ n. n + 1) (c.records-place.ensures.read ∙ c.in-Ok-Fault.ensures.records c.in-Ok-Fault.fault found)))
+    (ap (λ n. n + 1) (c.records-place.ensures.read ∙ c.in_ok-offer_next.ensures.records c.in-Fault.fault found)))
 
-pub returns-in-Ok-Fault-clause-offered : goal.returns-in-Ok-Fault-clause-offered
-returns-in-Ok-Fault-clause-offered g c =
-    subst (λ (o : Offered). IsUnderPlan (plan_fields c.args.plan.now) o) (sym (c.in-Ok-Fault.ensures.kept_fault c.in-Ok-Fault.fault (ap (λ n. Ok n) c.in-Ok-Fault.field-0-is)))
+pub returns-in-Fault-clause-offered : goal.returns-in-Fault-clause-offered
+returns-in-Fault-clause-offered g c =
+    subst (λ (o : Offered). IsUnderPlan (plan_fields c.args.plan.now) o) (sym (c.in_ok-offer_next.ensures.kept_fault c.in-Fault.fault (ap (λ n. Ok n) c.in-Fault.is)))
     (intake_under (plan_fields c.args.plan.now) c.records.reader c.records.offered c.records.invariant.0 c.records.invariant.1 c.records.invariant.2.intake)
 
 pub returns-in-Err-Capture-clause-told : goal.returns-in-Err-Capture-clause-told
@@ -101,28 +102,31 @@ returns-in-Err-OutOfMemory-clause-reads g c =
     let read = c.in-Err-OutOfMemory.ensures.read in
     record { bytes = read.head; takes = read.takes; ahead = inl read.few; shows = tt }
 
-pub returns-in-Ok-End-clause-reads : goal.returns-in-Ok-End-clause-reads
-returns-in-Ok-End-clause-reads g c =
+pub returns-in-End-clause-reads : goal.returns-in-End-clause-reads
+returns-in-End-clause-reads g c =
     let r : Result Gathered ReadFault = Ok (record { offered = c.offer_next.new.offered; fault = None }) in
     let n : Result Next ReadFault = Ok next.End in
-    let stop = rw c.in-Ok-End.field-0-is at (c.in-Ok-End.ensures.reads c.records.invariant.0 c.records.invariant.1 c.records.invariant.2.intake) in
+    let stop = rw c.in-End.is at (c.in_ok-offer_next.ensures.reads c.records.invariant.0 c.records.invariant.1 c.records.invariant.2.intake) in
     reads_all r n c.records.reader.held c.records.invariant.0 c.records.invariant.1 (g.I.Source.told c.args.input.now) (g.I.Source.told c.records.input) (g.I.Source.told c.offer_next.new.input) c.records.invariant.2.taken stop (λ bytes shows behind e. tt)
 
-pub returns-in-Ok-Fault-clause-reads : goal.returns-in-Ok-Fault-clause-reads
-returns-in-Ok-Fault-clause-reads g c =
-    let found = ap (λ n. Ok n) c.in-Ok-Fault.field-0-is in
-    let r : Result Gathered ReadFault = Ok (record { offered = c.offer_next.new.offered; fault = Some (record { fault = c.in-Ok-Fault.fault; place = c.records-place.result + 1 }) }) in
-    let n : Result Next ReadFault = Ok (next.Fault c.in-Ok-Fault.fault) in
-    let stop = rw c.in-Ok-Fault.field-0-is at (c.in-Ok-Fault.ensures.reads c.records.invariant.0 c.records.invariant.1 c.records.invariant.2.intake) in
+pub returns-in-Fault-clause-reads : goal.returns-in-Fault-clause-reads
+returns-in-Fault-clause-reads g c =
+    let found = ap (λ n. Ok n) c.in-Fault.is in
+    let r : Result Gathered ReadFault = Ok (record { offered = c.offer_next.new.offered; fault = Some (record { fault = c.in-Fault.fault; place = c.records-place.result + 1 }) }) in
+    let n : Result Next ReadFault = Ok (next.Fault c.in-Fault.fault) in
+    let stop = rw c.in-Fault.is at (c.in_ok-offer_next.ensures.reads c.records.invariant.0 c.records.invariant.1 c.records.invariant.2.intake) in
     reads_all r n c.records.reader.held c.records.invariant.0 c.records.invariant.1 (g.I.Source.told c.args.input.now) (g.I.Source.told c.records.input) (g.I.Source.told c.offer_next.new.input) c.records.invariant.2.taken stop
     (λ bytes shows behind e.
-    stops_at_fault c.records.invariant.0 bytes behind c.records.invariant.1 c.in-Ok-Fault.fault (c.records-place.result + 1) c.records.invariant.2.intake.has_read.capture.head e shows
+    stops_at_fault c.records.invariant.0 bytes behind c.records.invariant.1 c.in-Fault.fault (c.records-place.result + 1) c.records.invariant.2.intake.has_read.capture.head e shows
     (place_behind c.records.reader c.records.invariant.0 c.records.invariant.1 (c.records-place.result + 1) c.records.invariant.2.intake.has_read
-    (ap (λ n. n + 1) (c.records-place.ensures.read ∙ c.in-Ok-Fault.ensures.records c.in-Ok-Fault.fault found))))
+    (ap (λ n. n + 1) (c.records-place.ensures.read ∙ c.in_ok-offer_next.ensures.records c.in-Fault.fault found))))
 
-pub returns-in-Err-offer_next-clause-reads : goal.returns-in-Err-offer_next-clause-reads
-returns-in-Err-offer_next-clause-reads g c =
-    let r : Result Gathered ReadFault = Err c.in-Err-offer_next.fault in
-    let n : Result Next ReadFault = Err c.in-Err-offer_next.fault in
-    reads_all r n c.records.reader.held c.records.invariant.0 c.records.invariant.1 (g.I.Source.told c.args.input.now) (g.I.Source.told c.records.input) (g.I.Source.told c.offer_next.new.input) c.records.invariant.2.taken
-    (c.in-Err-offer_next.ensures.reads c.records.invariant.0 c.records.invariant.1 c.records.invariant.2.intake) (λ bytes shows behind e. stops_in_error c.records.invariant.1 c.in-Err-offer_next.fault bytes shows)
+pub returns-in_err-offer_next-clause-reads : goal.returns-in_err-offer_next-clause-reads
+returns-in_err-offer_next-clause-reads g c =
+    let fault : ReadFault = c.in_err-offer_next.field-0.0 in
+    let r : Result Gathered ReadFault = Err fault in
+    let n : Result Next ReadFault = Err fault in
+    let failed = err_from_is_err_and c.from_residual.result c.from_residual.ensures.1 in
+    rw (failed.1 ∙ ap (λ e. Err e) failed.2)
+    (reads_all r n c.records.reader.held c.records.invariant.0 c.records.invariant.1 (g.I.Source.told c.args.input.now) (g.I.Source.told c.records.input) (g.I.Source.told c.offer_next.new.input) c.records.invariant.2.taken
+    (c.in_err-offer_next.ensures.reads c.records.invariant.0 c.records.invariant.1 c.records.invariant.2.intake) (λ bytes shows behind e. stops_in_error c.records.invariant.1 fault bytes shows))

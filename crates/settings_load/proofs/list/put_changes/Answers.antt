@@ -1,8 +1,7 @@
-use Rattle.std.proofs.Common.{◌≡◌, ℕ, List, ◌++◌, ◌+◌, ◌∙◌, arith, refl, ap, sym, subst, map, drop, get_or, length, Some}
-use Rattle.std.proofs.lemmas.List.{length-map, drop_all, drop_more}
-use Rattle.std.proofs.lemmas.Option.{get_or_from_slice_get, slice_get_within}
+use Rattle.std.proofs.Common.{ℕ, List, ◌+◌, ◌∙◌, arith, refl, ap, subst, drop}
+use Rattle.std.proofs.lemmas.List.{length-map, drop_all}
+use Rattle.std.proofs.lemmas.Result.{err_from_is_err_and}
 use Rattle.ipe_io.proofs.Told.{stays-refl, stays-trans}
-use Rattle.plan_spec.specs.Plan.{ChangeFields}
 use Rattle.plan.specs.Parts.{service_seen, change_seen}
 use Rattle.plan.specs.PlanView.{plan_fields}
 use Rattle.plan.proofs.VersionLemmas.{changes_are_few}
@@ -40,25 +39,26 @@ loop-place-preserved g c =
           (changes_text plan 1 plan.changes) (change_text plan (at + 1) (change_seen c.at.result.now)) (changes_text plan (at + 1 + 1) (drop (at + 1) plan.changes))
           (subst (λ (t : List ℕ). IsPutTo (g.O.Sink.told c.args.output.now).held (g.O.Sink.told c.loop-place.output).held (changes_text plan 1 plan.changes) t)
           (changes_more plan (at + 1) plan.changes at (change_seen c.at.result.now) there) c.loop-place.invariant.written)
-          c.in-Ok.ensures.written;
-      flushed = stays-trans (g.O.Sink.told c.args.output.now).flushed (g.O.Sink.told c.loop-place.output).flushed (g.O.Sink.told c.put_change.new.output).flushed c.loop-place.invariant.flushed c.in-Ok.ensures.flushed;
-      same = c.in-Ok.ensures.cause.kept ∙ c.loop-place.invariant.same;
+          c.in_ok-put_change.ensures.written;
+      flushed = stays-trans (g.O.Sink.told c.args.output.now).flushed (g.O.Sink.told c.loop-place.output).flushed (g.O.Sink.told c.put_change.new.output).flushed c.loop-place.invariant.flushed c.in_ok-put_change.ensures.flushed;
+      same = c.in_ok-put_change.ensures.cause.kept ∙ c.loop-place.invariant.same;
     }
 
-pub returns-in-Err-clause-written : goal.returns-in-Err-clause-written
-returns-in-Err-clause-written g c =
+pub returns-in_err-put_change-clause-written : goal.returns-in_err-put_change-clause-written
+returns-in_err-put_change-clause-written g c =
     let plan = plan_fields c.args.plan.now in
     let at : ℕ = c.loop-place.place in
     let there = change_there c.args.plan.now.changes at c.at.result.now c.at.ensures.read in
-    part_put (g.O.Sink.told c.args.output.now).held (g.O.Sink.told c.loop-place.output).held (g.O.Sink.told c.put_change.new.output).held
+    let failed = err_from_is_err_and c.from_residual.result c.from_residual.ensures.1 in
+    rw failed.1 (part_put (g.O.Sink.told c.args.output.now).held (g.O.Sink.told c.loop-place.output).held (g.O.Sink.told c.put_change.new.output).held
     (changes_text plan 1 plan.changes) (change_text plan (at + 1) (change_seen c.at.result.now)) (changes_text plan (at + 1 + 1) (drop (at + 1) plan.changes))
     (subst (λ (t : List ℕ). IsPutTo (g.O.Sink.told c.args.output.now).held (g.O.Sink.told c.loop-place.output).held (changes_text plan 1 plan.changes) t)
     (changes_more plan (at + 1) plan.changes at (change_seen c.at.result.now) there) c.loop-place.invariant.written)
-    c.in-Err.ensures.written
+    c.in_err-put_change.ensures.written)
 
-pub returns-in-Err-clause-flushed : goal.returns-in-Err-clause-flushed
-returns-in-Err-clause-flushed g c =
-    stays-trans (g.O.Sink.told c.args.output.now).flushed (g.O.Sink.told c.loop-place.output).flushed (g.O.Sink.told c.put_change.new.output).flushed c.loop-place.invariant.flushed c.in-Err.ensures.flushed
+pub returns-in_err-put_change-clause-flushed : goal.returns-in_err-put_change-clause-flushed
+returns-in_err-put_change-clause-flushed g c =
+    stays-trans (g.O.Sink.told c.args.output.now).flushed (g.O.Sink.told c.loop-place.output).flushed (g.O.Sink.told c.put_change.new.output).flushed c.loop-place.invariant.flushed c.in_err-put_change.ensures.flushed
 
 pub returns-clause-written : goal.returns-clause-written
 returns-clause-written g c =

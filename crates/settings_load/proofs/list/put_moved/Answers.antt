@@ -1,6 +1,7 @@
-use Rattle.std.proofs.Common.{◌≡◌, ℕ, ◌<◌, List, ◌++◌, ◌+◌, ◌∙◌, arith, refl, ap, sym, subst, map, drop, get_or, length}
-use Rattle.std.proofs.lemmas.List.{length-map, get_or-map}
-use Rattle.std.proofs.lemmas.Option.{get_or_from_slice_get, slice_get_within}
+use Rattle.std.proofs.Common.{ℕ, ◌<◌, List, ◌++◌, ◌+◌, ◌∙◌, arith, refl, ap, subst, map, drop, length}
+use Rattle.std.proofs.lemmas.List.{length-map}
+use Rattle.std.proofs.lemmas.Option.{slice_get_within}
+use Rattle.std.proofs.lemmas.Result.{err_from_is_err_and}
 use Rattle.wire_spec.specs.Lists.{joined}
 use Rattle.ipe_io.proofs.Told.{stays-refl, stays-trans}
 use Rattle.plan_spec.specs.Plan.{MovedFields}
@@ -36,29 +37,30 @@ loop-place-preserved g c =
           (subst (λ (t : List ℕ). IsPutTo (g.O.Sink.told c.args.output.now).held (g.O.Sink.told c.loop-place.output).held (joined (map line moved)) t)
           (joined_more line moved at (moved_seen c.at.result.now) (omega (arith, count, within)) ∙ ap (λ (m : MovedFields). line m ++ joined (map line (drop (at + 1) moved))) is)
           c.loop-place.invariant.written)
-          c.in-Ok.ensures.written;
-      flushed = stays-trans (g.O.Sink.told c.args.output.now).flushed (g.O.Sink.told c.loop-place.output).flushed (g.O.Sink.told c.put_service.new.output).flushed c.loop-place.invariant.flushed c.in-Ok.ensures.flushed;
-      same = c.in-Ok.ensures.cause.kept ∙ c.loop-place.invariant.same;
+          c.in_ok-put_service.ensures.written;
+      flushed = stays-trans (g.O.Sink.told c.args.output.now).flushed (g.O.Sink.told c.loop-place.output).flushed (g.O.Sink.told c.put_service.new.output).flushed c.loop-place.invariant.flushed c.in_ok-put_service.ensures.flushed;
+      same = c.in_ok-put_service.ensures.cause.kept ∙ c.loop-place.invariant.same;
     }
 
-pub returns-in-Err-clause-written : goal.returns-in-Err-clause-written
-returns-in-Err-clause-written g c =
+pub returns-in_err-put_service-clause-written : goal.returns-in_err-put_service-clause-written
+returns-in_err-put_service-clause-written g c =
     let moved : List MovedFields = map moved_seen c.args.moved.now in
     let line : MovedFields → List ℕ = moved_line (plan_fields c.args.plan.now) c.args.version in
     let at : ℕ = c.loop-place.place in
     let count = length-map c.args.moved.now moved_seen in
     let within = slice_get_within c.args.moved.now at c.at.result.now c.at.ensures.read in
     let is = moved_at c.args.moved.now at c.at.result.now c.at.ensures.read in
-    part_put (g.O.Sink.told c.args.output.now).held (g.O.Sink.told c.loop-place.output).held (g.O.Sink.told c.put_service.new.output).held
+    let failed = err_from_is_err_and c.from_residual.result c.from_residual.ensures.1 in
+    rw failed.1 (part_put (g.O.Sink.told c.args.output.now).held (g.O.Sink.told c.loop-place.output).held (g.O.Sink.told c.put_service.new.output).held
     (joined (map line moved)) (line (moved_seen c.at.result.now)) (joined (map line (drop (at + 1) moved)))
     (subst (λ (t : List ℕ). IsPutTo (g.O.Sink.told c.args.output.now).held (g.O.Sink.told c.loop-place.output).held (joined (map line moved)) t)
     (joined_more line moved at (moved_seen c.at.result.now) (omega (arith, count, within)) ∙ ap (λ (m : MovedFields). line m ++ joined (map line (drop (at + 1) moved))) is)
     c.loop-place.invariant.written)
-    c.in-Err.ensures.written
+    c.in_err-put_service.ensures.written)
 
-pub returns-in-Err-clause-flushed : goal.returns-in-Err-clause-flushed
-returns-in-Err-clause-flushed g c =
-    stays-trans (g.O.Sink.told c.args.output.now).flushed (g.O.Sink.told c.loop-place.output).flushed (g.O.Sink.told c.put_service.new.output).flushed c.loop-place.invariant.flushed c.in-Err.ensures.flushed
+pub returns-in_err-put_service-clause-flushed : goal.returns-in_err-put_service-clause-flushed
+returns-in_err-put_service-clause-flushed g c =
+    stays-trans (g.O.Sink.told c.args.output.now).flushed (g.O.Sink.told c.loop-place.output).flushed (g.O.Sink.told c.put_service.new.output).flushed c.loop-place.invariant.flushed c.in_err-put_service.ensures.flushed
 
 pub returns-clause-written : goal.returns-clause-written
 returns-clause-written g c =

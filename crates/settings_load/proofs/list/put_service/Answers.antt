@@ -1,4 +1,4 @@
-use Rattle.std.proofs.Common.{◌≡◌, List, ℕ, Option, refl, ap, ◌∙◌, subst}
+use Rattle.std.proofs.Common.{List, ℕ, Option, refl, ap, ◌∙◌, subst}
 use Rattle.std.specs.Option.{unwrap_or}
 use Rattle.wire_spec.specs.Content.{Puts}
 use Rattle.plan.specs.PlanView.{plan_fields}

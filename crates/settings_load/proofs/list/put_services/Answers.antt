@@ -1,5 +1,6 @@
-use Rattle.std.proofs.Common.{◌≡◌, ℕ, List, ◌++◌, ◌+◌, ◌∙◌, arith, refl, subst, map, drop, get_or, length}
+use Rattle.std.proofs.Common.{ℕ, List, ◌+◌, ◌∙◌, arith, refl, subst, map, drop, get_or}
 use Rattle.std.proofs.lemmas.List.{length-map}
+use Rattle.std.proofs.lemmas.Result.{err_from_is_err_and}
 use Rattle.wire_spec.specs.Lists.{joined}
 use Rattle.ipe_io.proofs.Told.{stays-refl, stays-trans}
 use Rattle.plan_spec.specs.Plan.{ServiceFields}
@@ -30,26 +31,27 @@ loop-place-preserved g c =
           (joined (map service_line services)) (service_line (get_or services at no_service)) (joined (map service_line (drop (at + 1) services)))
           (subst (λ (t : List ℕ). IsPutTo (g.O.Sink.told c.args.output.now).held (g.O.Sink.told c.loop-place.output).held (joined (map service_line services)) t)
           (joined_more service_line services at no_service (omega (arith, count, len))) c.loop-place.invariant.written)
-          c.in-Ok.ensures.written;
-      flushed = stays-trans (g.O.Sink.told c.args.output.now).flushed (g.O.Sink.told c.loop-place.output).flushed (g.O.Sink.told c.put_service.new.output).flushed c.loop-place.invariant.flushed c.in-Ok.ensures.flushed;
-      same = c.in-Ok.ensures.cause.kept ∙ c.loop-place.invariant.same;
+          c.in_ok-put_service.ensures.written;
+      flushed = stays-trans (g.O.Sink.told c.args.output.now).flushed (g.O.Sink.told c.loop-place.output).flushed (g.O.Sink.told c.put_service.new.output).flushed c.loop-place.invariant.flushed c.in_ok-put_service.ensures.flushed;
+      same = c.in_ok-put_service.ensures.cause.kept ∙ c.loop-place.invariant.same;
     }
 
-pub returns-in-Err-clause-written : goal.returns-in-Err-clause-written
-returns-in-Err-clause-written g c =
+pub returns-in_err-put_service-clause-written : goal.returns-in_err-put_service-clause-written
+returns-in_err-put_service-clause-written g c =
     let services : List ServiceFields = (plan_fields c.args.plan.now).services in
     let at : ℕ = c.loop-place.place in
     let count = length-map c.args.plan.now.services service_seen in
     let len = c.len-place-end.ensures.read in
-    part_put (g.O.Sink.told c.args.output.now).held (g.O.Sink.told c.loop-place.output).held (g.O.Sink.told c.put_service.new.output).held
+    let failed = err_from_is_err_and c.from_residual.result c.from_residual.ensures.1 in
+    rw failed.1 (part_put (g.O.Sink.told c.args.output.now).held (g.O.Sink.told c.loop-place.output).held (g.O.Sink.told c.put_service.new.output).held
     (joined (map service_line services)) (service_line (get_or services at no_service)) (joined (map service_line (drop (at + 1) services)))
     (subst (λ (t : List ℕ). IsPutTo (g.O.Sink.told c.args.output.now).held (g.O.Sink.told c.loop-place.output).held (joined (map service_line services)) t)
     (joined_more service_line services at no_service (omega (arith, count, len))) c.loop-place.invariant.written)
-    c.in-Err.ensures.written
+    c.in_err-put_service.ensures.written)
 
-pub returns-in-Err-clause-flushed : goal.returns-in-Err-clause-flushed
-returns-in-Err-clause-flushed g c =
-    stays-trans (g.O.Sink.told c.args.output.now).flushed (g.O.Sink.told c.loop-place.output).flushed (g.O.Sink.told c.put_service.new.output).flushed c.loop-place.invariant.flushed c.in-Err.ensures.flushed
+pub returns-in_err-put_service-clause-flushed : goal.returns-in_err-put_service-clause-flushed
+returns-in_err-put_service-clause-flushed g c =
+    stays-trans (g.O.Sink.told c.args.output.now).flushed (g.O.Sink.told c.loop-place.output).flushed (g.O.Sink.told c.put_service.new.output).flushed c.loop-place.invariant.flushed c.in_err-put_service.ensures.flushed
 
 pub returns-clause-written : goal.returns-clause-written
 returns-clause-written g c =

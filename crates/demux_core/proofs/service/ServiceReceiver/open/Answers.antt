@@ -7,18 +7,18 @@ use Rattle.demux_core.specs.Opening.{has_right_rows}
 use Rattle.demux_core.proofs.Opened.{are_rows, window_of}
 use Rattle.demux_core.proofs.service.ServiceReceiver.open.Goals as goal
 
-pub returns-in-Ok : goal.returns-in-Ok
-returns-in-Ok c = record {
+pub returns-in_ok-ule_reception-in-Ule : goal.returns-in_ok-ule_reception-in-Ule
+returns-in_ok-ule_reception-in-Ule c = record {
   opened = λ it is.
       let kind : it.kind ≡ ule c.in-Ule.pid c.in-Ule.address c.in-Ule.packing = is ∙ ap kind_seen c.in-Ule.is in
-      c.first_receiver.ensures.opened (form_of c.args.recording) it (ap pid_of kind) (c.in-Ok.ensures.received (form_of c.args.recording) it (subst (λ (k : KindFields). IsUle k) (sym kind) tt));
+      c.first_receiver.ensures.opened (form_of c.args.recording) it (ap pid_of kind) (c.in_ok-ule_reception-in-Ule.ensures.received (form_of c.args.recording) it (subst (λ (k : KindFields). IsUle k) (sym kind) tt));
 }
 
-pub returns-in-Ok-mpe_reception : goal.returns-in-Ok-mpe_reception
-returns-in-Ok-mpe_reception c = record {
+pub returns-in_ok-mpe_reception-in-Mpe : goal.returns-in_ok-mpe_reception-in-Mpe
+returns-in_ok-mpe_reception-in-Mpe c = record {
   opened = λ it is.
       let kind : it.kind ≡ mpe c.in-Mpe.pid = is ∙ ap kind_seen c.in-Mpe.is in
-      c.first_receiver-in-Ok-mpe_reception.ensures.opened (form_of c.args.recording) it (ap pid_of kind) (c.in-Ok-mpe_reception.ensures.received (form_of c.args.recording) it (subst (λ (k : KindFields). IsMpe k) (sym kind) tt));
+      c.first_receiver-in-Mpe.ensures.opened (form_of c.args.recording) it (ap pid_of kind) (c.in_ok-mpe_reception-in-Mpe.ensures.received (form_of c.args.recording) it (subst (λ (k : KindFields). IsMpe k) (sym kind) tt));
 }
 
 pub fec_reception-requires : goal.fec_reception-requires
@@ -26,11 +26,11 @@ fec_reception-requires c = record {
   rows = are_rows c.in-Fec.rows (sym (ap (λ k. has_right_rows (kind_seen k)) c.in-Fec.is) ∙ c.requires.rows);
 }
 
-pub returns-in-Ok-fec_reception : goal.returns-in-Ok-fec_reception
-returns-in-Ok-fec_reception c = record {
+pub returns-in_ok-reception-in-Fec : goal.returns-in_ok-reception-in-Fec
+returns-in_ok-reception-in-Fec c = record {
   opened = λ it is.
       let kind : it.kind ≡ fec c.in-Fec.pid c.in-Fec.rows c.in-Fec.parity (option_map window_seen c.in-Fec.window) = is ∙ ap kind_seen c.in-Fec.is in
       let sliced = window_of c.in-Fec.window ∙ sym c.is_some.ensures in
-      c.first_receiver-in-Ok-fec_reception.ensures.opened (form_of c.args.recording) it (ap pid_of kind)
-      (c.in-Ok-fec_reception.ensures.received it c.in-Fec.pid c.in-Fec.parity (option_map window_seen c.in-Fec.window) kind sliced);
+      c.first_receiver-in-Fec.ensures.opened (form_of c.args.recording) it (ap pid_of kind)
+      (c.in_ok-reception-in-Fec.ensures.received it c.in-Fec.pid c.in-Fec.parity (option_map window_seen c.in-Fec.window) kind sliced);
 }
