@@ -10,16 +10,21 @@ pub struct Burst<'a> {
     pub deltas: &'a [(u16, u8)],
 }
 
-/// The bytes of the sections in records of this size: the payloads without pointers (ISO/IEC 13818-1 clause 2.4.4.1).
+/// The payload of a record's packet without its pointer (ISO/IEC 13818-1 clause 2.4.4.1).
+fn payload_of(record: &[u8]) -> Option<&[u8]> {
+    let packet = record.get(record.len().saturating_sub(188)..)?;
+    match packet {
+        [_, flags, _, _, _, rest @ ..] if *flags & 0x40 != 0 => Some(rest),
+        [_, _, _, _, rest @ ..] => Some(rest),
+        _ => None,
+    }
+}
+
+/// The bytes of the sections in records of this size.
 fn sections_in(alloc: Global, records: &[u8], size: usize) -> Result<Vec<u8>, Fail> {
     let mut bytes = Vec::new(alloc);
     for record in records.chunks(size.max(1)) {
-        let packet = record
-            .get(record.len().saturating_sub(188)..)
-            .ok_or("no packet")?;
-        let flags = *packet.get(1).ok_or("no packet")?;
-        let payload = if flags & 0x40 == 0 { 4 } else { 5 };
-        bytes.extend_from_slice(packet.get(payload..).ok_or("no payload")?)?;
+        bytes.extend_from_slice(payload_of(record).ok_or("no payload")?)?;
     }
     Ok(bytes)
 }
@@ -34,15 +39,15 @@ fn put_delta(into: &mut Vec<u16>, bytes: &[u8]) -> Result<usize, Fail> {
         return Ok(1);
     }
     into.push(u16::from(*first) << 4 | u16::from(*second >> 4))?;
-    Ok(3 + 256 * usize::from(*high & 0x0F) + usize::from(*low))
+    let length = u16::from_be_bytes([*high & 0x0F, *low]);
+    Ok(usize::from(length).saturating_add(3))
 }
 
-/// delta_t of each section.
-fn deltas_in(alloc: Global, records: &[u8], size: usize) -> Result<Vec<u16>, Fail> {
-    let bytes = sections_in(alloc, records, size)?;
+/// delta_t of each of these sections.
+fn deltas_in(alloc: Global, sections: &[u8]) -> Result<Vec<u16>, Fail> {
     let mut deltas: Vec<u16> = Vec::new(alloc);
-    let mut rest: &[u8] = &bytes;
-    for _ in 0..bytes.len() {
+    let mut rest = sections;
+    for _ in 0..sections.len() {
         let count = put_delta(&mut deltas, rest)?;
         if count == 0 {
             return Ok(deltas);
@@ -52,6 +57,29 @@ fn deltas_in(alloc: Global, records: &[u8], size: usize) -> Result<Vec<u16>, Fai
     Ok(deltas)
 }
 
+/// delta_t that each section of a burst must have.
+fn deltas_due(alloc: Global, burst: &Burst<'_>) -> Result<Vec<u16>, Fail> {
+    let mut due: Vec<u16> = Vec::new(alloc);
+    for (delta, count) in burst.deltas {
+        for _ in 0..*count {
+            due.push(*delta)?;
+        }
+    }
+    Ok(due)
+}
+
+/// The sections of a burst in a stream of records of this size.
+fn sections_of(
+    alloc: Global,
+    stream: &[u8],
+    size: usize,
+    burst: &Burst<'_>,
+) -> Result<Vec<u8>, Fail> {
+    let from = burst.first.saturating_mul(size);
+    let to = burst.last.saturating_add(1).saturating_mul(size);
+    sections_in(alloc, stream.get(from..to).ok_or("no such burst")?, size)
+}
+
 /// Whether the sections of a burst in a stream have the delta_t that they must have.
 pub fn has_deltas(
     alloc: Global,
@@ -59,15 +87,8 @@ pub fn has_deltas(
     size: usize,
     burst: &Burst<'_>,
 ) -> Result<bool, Fail> {
-    let records = stream
-        .get(burst.first.saturating_mul(size)..burst.last.saturating_add(1).saturating_mul(size))
-        .ok_or("no such burst")?;
-    let mut due: Vec<u16> = Vec::new(alloc);
-    for (delta, count) in burst.deltas {
-        for _ in 0..*count {
-            due.push(*delta)?;
-        }
-    }
-    let deltas = deltas_in(alloc, records, size)?;
+    let sections = sections_of(alloc, stream, size, burst)?;
+    let deltas = deltas_in(alloc, &sections)?;
+    let due = deltas_due(alloc, burst)?;
     Ok(deltas.as_slice() == due.as_slice())
 }

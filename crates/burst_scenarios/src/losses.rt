@@ -243,22 +243,26 @@ static OF_MOVING: [Loss; 2] = [
 /// The rules that the INT has, if one came.
 static RULES: [(&str, u64); 1] = [("239.1.0.0/16", 0)];
 
-/// What comes of a loss is what must come.
-fn comes(alloc: Global, sent: &Sent<'_>, stream: &[u8], loss: &Loss<'_>) -> Result<(), Fail> {
-    let shown = if loss.tables == 0 { 0 } else { 1 };
-    let table = TableReport {
+/// What the report says of the INT.
+fn table_of(loss: &Loss<'_>) -> TableReport<'static> {
+    let rules: &[(&str, u64)] = if loss.tables == 0 { &[] } else { &RULES };
+    TableReport {
         units: loss.tables,
         refused: 0,
         version: loss.version,
-        rules: RULES.get(..shown).ok_or("no such rule")?,
-    };
+        rules,
+    }
+}
+
+/// What comes of a loss is what must come.
+fn comes(alloc: Global, sent: &Sent<'_>, stream: &[u8], loss: &Loss<'_>) -> Result<(), Fail> {
     let due = Due {
         records: loss.records,
         tail_bytes: 0,
         other: loss.other,
         numbers: loss.numbers,
         given: loss.given,
-        table: Some(table),
+        table: Some(table_of(loss)),
     };
     let recording = damaged(alloc, stream, sent.size, loss.harms)?;
     comes_as_told(alloc, loss.name, &sent.cast, &recording, &due)

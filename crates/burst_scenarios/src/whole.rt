@@ -10,14 +10,14 @@
 //! Records 200 to 255 are lost.
 use crate::sent::{LECTURE, M2TS};
 use ipencap_engine::Status;
-use scenario_runs::{expect, ran};
+use scenario_runs::{expect, sent};
 use std::alloc::Global;
 use std::test::Fail;
 use test_recordings::Harm::Drop;
 use test_recordings::settings::{FILES, INT, STAMPED, settings_of};
 use test_recordings::{
     CAPTURE_HEAD, Datagram, FileLeft, Given, Left, Numbers, Report, ServiceReport, TableReport,
-    damaged, datagram_of, faultless, put_record, report_of,
+    damaged, datagram_of, faultless, is_piece, put_record, report_of,
 };
 
 /// How many bytes the output and the files take.
@@ -119,25 +119,32 @@ fn capture_with(alloc: Global, lecture: bool, files: bool) -> Result<Vec<u8>, Fa
     Ok(capture)
 }
 
-/// Sends the capture: 1,873 records, of which record 1201 has its time.
-fn sent(alloc: Global, form: &Form<'_>, settings: &str) -> Result<Vec<u8>, Fail> {
+/// The stream of both.
+fn stream_of(alloc: Global, settings: &str) -> Result<Vec<u8>, Fail> {
     let capture = capture_with(alloc, true, true)?;
-    let given = Given {
-        room: ROOM,
-        ..faultless(&["send", "a.toml"], settings.as_bytes(), &capture)
-    };
-    let ended = ran(alloc, &given)?;
-    let stream = ended.outside.output.bytes();
-    if ended.status != Status::Done || stream.len() != form.size.saturating_mul(1873) {
+    sent(alloc, settings, &capture, ROOM)
+}
+
+/// Fails where the stream has not 1,873 records, or record 1201 another time.
+fn expect_records(form: &Form<'_>, stream: &[u8]) -> Result<(), Fail> {
+    if stream.len() != form.size.saturating_mul(1873) {
         return Err("another stream".into());
     }
-    let record = stream
-        .get(form.size.saturating_mul(1201)..)
-        .ok_or("no record 1201")?;
-    if record.get(..form.time.len()) != Some(form.time) {
+    if !is_piece(stream, form.size.saturating_mul(1201), form.time) {
         return Err("another time".into());
     }
-    Ok(Vec::from_slice(alloc, stream)?)
+    Ok(())
+}
+
+/// Sends both, and loses 56 packets.
+fn recording_of(alloc: Global, form: &Form<'_>, settings: &str) -> Result<Vec<u8>, Fail> {
+    let stream = stream_of(alloc, settings)?;
+    expect_records(form, &stream)?;
+    let loss = Drop {
+        first: 200,
+        last: 255,
+    };
+    Ok(damaged(alloc, &stream, form.size, &[loss])?)
 }
 
 /// What must be left: the captures and the report.
@@ -195,12 +202,7 @@ fn gives(
 /// Sends, loses 56 packets, and receives.
 fn comes_whole(alloc: Global, form: &Form<'_>) -> Result<(), Fail> {
     let settings = settings_of(alloc, &[form.recording, INT, LECTURE, FILES, TAGS])?;
-    let stream = sent(alloc, form, &settings)?;
-    let loss = Drop {
-        first: 200,
-        last: 255,
-    };
-    let recording = damaged(alloc, &stream, form.size, &[loss])?;
+    let recording = recording_of(alloc, form, &settings)?;
     let due = due_of(alloc)?;
     gives(alloc, form.name, &settings, &recording, &due)
 }

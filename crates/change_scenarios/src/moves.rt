@@ -37,6 +37,13 @@ struct Streams {
 }
 
 impl Streams {
+    fn new(alloc: Global) -> Result<Streams, Fail> {
+        let once = stream_of(alloc, &FILES_MOVE)?;
+        let twice = stream_of(alloc, &FILES_MOVE_TWICE)?;
+        let other = stream_of(alloc, &OTHERS_MOVE)?;
+        Ok(Streams { once, twice, other })
+    }
+
     fn of(&self, stream: Stream) -> &[u8] {
         match stream {
             Once => &self.once,
@@ -295,11 +302,7 @@ fn comes(alloc: Global, streams: &Streams, case: &Case<'_>) -> Result<(), Fail> 
 /// The version in force is the highest that an accepted INT of the platform has said; a service is heard where this version has it.
 #[test]
 fn a_service_is_heard_where_the_version_in_force_has_it(rt: HostRuntime) -> Result<(), Fail> {
-    let streams = Streams {
-        once: stream_of(rt.alloc(), &FILES_MOVE)?,
-        twice: stream_of(rt.alloc(), &FILES_MOVE_TWICE)?,
-        other: stream_of(rt.alloc(), &OTHERS_MOVE)?,
-    };
+    let streams = Streams::new(rt.alloc())?;
     for case in &CASES {
         comes(rt.alloc(), &streams, case)?;
     }

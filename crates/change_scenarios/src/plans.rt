@@ -1,10 +1,8 @@
 //! Settings with changes, and what is sent under them.
-use ipencap_engine::Status;
-use scenario_runs::ran;
 use std::alloc::Global;
 use std::test::Fail;
 use test_recordings::settings::{FILES, INT, LECTURE, settings_of};
-use test_recordings::{Datagram, Given, capture_of, faultless};
+use test_recordings::{Datagram, capture_of};
 
 /// The shortest cycle.
 pub const CYCLE: &str = "cycle = 100\n";
@@ -148,19 +146,11 @@ pub const BOTH_MOVE: Sent = Sent {
     ],
 };
 
-/// The stream.
+/// The stream, which has 303 packets at most.
 pub fn stream_of(alloc: Global, sent: &Sent) -> Result<Vec<u8>, Fail> {
     let settings = settings_of(alloc, sent.settings)?;
     let capture = capture_of(alloc, sent.datagrams)?;
-    let given = Given {
-        room: 100_000,
-        ..faultless(&["send", "a.toml"], settings.as_bytes(), &capture)
-    };
-    let ended = ran(alloc, &given)?;
-    if ended.status != Status::Done {
-        return Err("not sent".into());
-    }
-    Ok(Vec::from_slice(alloc, ended.outside.output.bytes())?)
+    scenario_runs::sent(alloc, &settings, &capture, 100_000)
 }
 
 /// The records of a stream from one to another.

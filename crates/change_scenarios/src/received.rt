@@ -6,8 +6,8 @@ use std::alloc::Global;
 use std::test::Fail;
 use test_recordings::settings::settings_of;
 use test_recordings::{
-    Datagram, FileLeft, Given, Left, Numbers, Report, ServiceReport, TableReport, capture_of,
-    faultless, report_of,
+    Datagram, FileLeft, Left, Numbers, Report, ServiceReport, TableReport, capture_of, faultless,
+    report_of,
 };
 
 /// What a recording gives of a service: the numbers of the datagrams, and what the report says.
@@ -66,7 +66,37 @@ fn report_due(alloc: Global, due: &Due<'_, '_>) -> Result<String, Fail> {
     Ok(report_of(alloc, &report)?)
 }
 
-/// Receives the recording under the settings that it was sent under, and compares all that is left.
+/// The files that hold these captures, all of them flushed.
+fn files_of<'c>(
+    alloc: Global,
+    services: &[Delivered<'_>],
+    captures: &'c [Vec<u8>],
+) -> Result<Vec<FileLeft<'c>>, Fail> {
+    let mut files = Vec::new(alloc);
+    for (service, bytes) in services.iter().zip(captures) {
+        files.push(FileLeft {
+            name: service.file,
+            bytes,
+            flushed: bytes.len(),
+        })?;
+    }
+    Ok(files)
+}
+
+/// Receives the recording under settings of these parts, and compares all that is left.
+fn leaves(
+    alloc: Global,
+    name: &str,
+    settings: &[&str],
+    recording: &[u8],
+    left: &Left<'_>,
+) -> Result<(), Fail> {
+    let settings = settings_of(alloc, settings)?;
+    let given = faultless(&["receive", "a.toml"], settings.as_bytes(), recording);
+    expect(alloc, name, &given, Status::Done, left)
+}
+
+/// What the recording gives under the settings that it was sent under is what it must give.
 pub fn comes_as_told(
     alloc: Global,
     name: &str,
@@ -74,26 +104,14 @@ pub fn comes_as_told(
     recording: &[u8],
     due: &Due<'_, '_>,
 ) -> Result<(), Fail> {
-    let settings = settings_of(alloc, sent.settings)?;
     let captures = captures_of(alloc, sent, due)?;
+    let files = files_of(alloc, due.services, &captures)?;
     let report = report_due(alloc, due)?;
-    let mut files = Vec::new(alloc);
-    for (service, bytes) in due.services.iter().zip(&captures) {
-        files.push(FileLeft {
-            name: service.file,
-            bytes,
-            flushed: bytes.len(),
-        })?;
-    }
     let left = Left {
         output: report.as_bytes(),
         flushed: report.len(),
         line: "",
         files: &files,
     };
-    let given = Given {
-        room: 10_000,
-        ..faultless(&["receive", "a.toml"], settings.as_bytes(), recording)
-    };
-    expect(alloc, name, &given, Status::Done, &left)
+    leaves(alloc, name, sent.settings, recording, &left)
 }

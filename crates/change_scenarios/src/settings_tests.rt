@@ -2,6 +2,7 @@
 use crate::plans::{CYCLE, MOVED, MOVED_TWICE};
 use ipencap_engine::Status;
 use scenario_runs::expect;
+use std::alloc::Global;
 use std::test::Fail;
 use test_recordings::settings::{FILES, INT, LECTURE, settings_of};
 use test_recordings::{Left, faultless};
@@ -142,18 +143,23 @@ static CASES: [Case; 15] = [
     },
 ];
 
+/// Checks the settings of a case, and compares all that is left.
+fn ends_as_told(alloc: Global, case: &Case<'_>) -> Result<(), Fail> {
+    let settings = settings_of(alloc, case.settings)?;
+    let left = Left {
+        output: case.output.as_bytes(),
+        flushed: case.output.len(),
+        line: case.line,
+        files: &[],
+    };
+    let given = faultless(&["check", "a.toml"], settings.as_bytes(), &[]);
+    expect(alloc, case.line, &given, case.status, &left)
+}
+
 #[test]
 fn changes_are_listed_or_have_the_line_of_their_fault(rt: HostRuntime) -> Result<(), Fail> {
     for case in &CASES {
-        let settings = settings_of(rt.alloc(), case.settings)?;
-        let left = Left {
-            output: case.output.as_bytes(),
-            flushed: case.output.len(),
-            line: case.line,
-            files: &[],
-        };
-        let given = faultless(&["check", "a.toml"], settings.as_bytes(), &[]);
-        expect(rt.alloc(), case.line, &given, case.status, &left)?;
+        ends_as_told(rt.alloc(), case)?;
     }
     Ok(())
 }

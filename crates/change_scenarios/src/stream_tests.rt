@@ -1,6 +1,5 @@
 //! The stream of a plan that changes, packet by packet (ISO/IEC 13818-1 clause 2.4.3.2).
 use crate::plans::{BOTH_MOVE, FILES_MOVE, Sent, records_of, stream_of};
-use std::alloc::Global;
 use std::test::Fail;
 
 /// A slot, and the head of its packet: PID, whether a unit starts in it, counter.
@@ -68,17 +67,16 @@ fn head_at(heads: &[Head], slot: usize) -> [u8; 4] {
     NULL
 }
 
-/// The first slot with another head or another version, or how many packets there are.
-fn difference(alloc: Global, case: &Case<'_>) -> Result<usize, Fail> {
-    let stream = stream_of(alloc, case.sent)?;
+/// The first slot of a stream with another head or another version, or how many packets there are.
+fn difference(stream: &[u8], case: &Case<'_>) -> Result<usize, Fail> {
     for slot in 0..case.packets {
-        let packet = records_of(&stream, slot, slot)?;
+        let packet = records_of(stream, slot, slot)?;
         if !packet.starts_with(&head_at(case.heads, slot)) {
             return Ok(slot);
         }
     }
     for (slot, byte) in case.versions {
-        if records_of(&stream, *slot, *slot)?.get(10) != Some(byte) {
+        if records_of(stream, *slot, *slot)?.get(10) != Some(byte) {
             return Ok(*slot);
         }
     }
@@ -88,12 +86,8 @@ fn difference(alloc: Global, case: &Case<'_>) -> Result<usize, Fail> {
 #[test]
 fn a_part_follows_the_cycle_of_the_part_before_it(rt: HostRuntime) -> Result<(), Fail> {
     for case in &CASES {
-        assert_eq!(rt;
-            difference(rt.alloc(), case)?,
-            case.packets,
-            "{}",
-            case.name
-        );
+        let stream = stream_of(rt.alloc(), case.sent)?;
+        assert_eq!(rt; difference(&stream, case)?, case.packets, "{}", case.name);
     }
     Ok(())
 }

@@ -213,13 +213,24 @@ static CASES: [Case; 13] = [
     },
 ];
 
-/// Receives the sections and the right frame.
-fn comes(alloc: Global, case: &Case<'_>) -> Result<(), Fail> {
+/// The packets of the sections and of the right frame.
+fn recording_of(alloc: Global, case: &Case<'_>) -> Result<Vec<u8>, Fail> {
     let mut sections = Vec::from_slice(alloc, case.sections)?;
     sections.extend_from_slice(&[Data(8, 0), Right])?;
-    let recording = packets_of(alloc, &sections, 512)?;
+    packets_of(alloc, &sections, 512)
+}
+
+/// The datagrams that are given, those of the right frame last.
+fn given_of(alloc: Global, case: &Case<'_>) -> Result<Vec<Span>, Fail> {
     let mut given = Vec::from_slice(alloc, case.given)?;
     given.push(Span { first: 8, last: 9 })?;
+    Ok(given)
+}
+
+/// Receives the sections and the right frame.
+fn comes(alloc: Global, case: &Case<'_>) -> Result<(), Fail> {
+    let recording = recording_of(alloc, case)?;
+    let given = given_of(alloc, case)?;
     let due = Due {
         records: case.numbers.heard,
         tail_bytes: 0,

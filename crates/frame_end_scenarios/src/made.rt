@@ -1,5 +1,5 @@
 //! Sections of a service of frames of 256 rows, by hand -> their packets.
-use std::alloc::Global;
+use std::alloc::{AllocError as OutOfMemory, Global};
 use std::test::Fail;
 use test_recordings::units::OTHER;
 use test_recordings::{Datagram, go_on, on_pid, put_datagram, start};
@@ -96,20 +96,39 @@ fn crc_of(bytes: &[u8]) -> u32 {
     crc
 }
 
-/// The packets of these sections on a PID, two at most for each: a section begins behind the pointer 0 of the first.
+/// A section.
+fn section_of(alloc: Global, made: Made) -> Result<Vec<u8>, Fail> {
+    let mut section = body_of(alloc, made)?;
+    let crc = crc_of(&section);
+    section.extend_from_slice(&crc.to_be_bytes())?;
+    Ok(section)
+}
+
+/// Appends the packets of a section, two at most: it begins behind the pointer 0 of the first. Answers the next counter.
+fn put_packets(
+    into: &mut Vec<u8>,
+    section: &[u8],
+    counter: u8,
+    pid: u16,
+) -> Result<u8, OutOfMemory> {
+    into.extend_from_slice(&on_pid(start(counter, 0, section), pid))?;
+    let next = counter.wrapping_add(1);
+    match section.get(183..) {
+        Some(rest) => {
+            into.extend_from_slice(&on_pid(go_on(next, rest), pid))?;
+            Ok(next.wrapping_add(1))
+        }
+        None => Ok(next),
+    }
+}
+
+/// The packets of these sections on a PID, the first of which has counter 0.
 pub fn packets_of(alloc: Global, sections: &[Made], pid: u16) -> Result<Vec<u8>, Fail> {
     let mut packets = Vec::new(alloc);
     let mut counter: u8 = 0;
     for made in sections {
-        let mut section = body_of(alloc, *made)?;
-        let crc = crc_of(&section);
-        section.extend_from_slice(&crc.to_be_bytes())?;
-        packets.extend_from_slice(&on_pid(start(counter, 0, &section), pid))?;
-        counter = counter.wrapping_add(1);
-        if let Some(rest) = section.get(183..) {
-            packets.extend_from_slice(&on_pid(go_on(counter, rest), pid))?;
-            counter = counter.wrapping_add(1);
-        }
+        let section = section_of(alloc, *made)?;
+        counter = put_packets(&mut packets, &section, counter, pid)?;
     }
     Ok(packets)
 }

@@ -152,39 +152,47 @@ fn record(stream: &[u8], number: usize) -> Result<&[u8], Fail> {
     Ok(stream.chunks(188).nth(number).ok_or("fewer records")?)
 }
 
-/// A datagram before the INT of the change, and one after it, of the same index and at the next address: two frames, of which the
-/// second lacks rows 0 to 19 of column 0.
+/// The INTs of a stream, each with packets after it.
+fn after_ints(alloc: Global, stream: &[u8], before: &[u8], after: &[u8]) -> Result<Vec<u8>, Fail> {
+    let pieces = [record(stream, 0)?, before, record(stream, 100)?, after];
+    Ok(joined(alloc, &pieces)?)
+}
+
+/// A datagram before the INT of the change, and one after it, of the same index and at the next address, and a right frame.
+fn frames_of_one_index(alloc: Global) -> Result<Vec<u8>, Fail> {
+    let stream = stream_of(alloc, &SENT)?;
+    let before = packets_of(alloc, &[Data(0, 0)], 512)?;
+    let after = packets_of(alloc, &[Data(1, 20 + TABLE), Data(8, 0), Right], 700)?;
+    after_ints(alloc, &stream, &before, &after)
+}
+
+/// Datagrams of their header alone.
+const SMALL: Cast = Cast {
+    sizes: &[20; 10],
+    ..SENT
+};
+
+/// Two frames of one index, of which the second lacks rows 0 to 19 of column 0, and the right frame.
+const THREE_FRAMES: Due = Due {
+    records: 7,
+    tail_bytes: 0,
+    other: 0,
+    numbers: Numbers {
+        heard: 5,
+        units: 4,
+        frames: 3,
+        rows_mended: 236,
+        rows_left: 276,
+        ..Numbers::NONE
+    },
+    given: &[Span { first: 0, last: 1 }, Span { first: 8, last: 9 }],
+    table: CHANGED,
+};
+
+/// The change ends the frame: a section of the same index after the change is in another frame.
 #[test]
 fn no_frame_goes_on_over_a_change_of_the_pid(rt: HostRuntime) -> Result<(), Fail> {
-    let stream = stream_of(rt.alloc(), &SENT)?;
-    let before = packets_of(rt.alloc(), &[Data(0, 0)], 512)?;
-    let after = packets_of(rt.alloc(), &[Data(1, 20 + TABLE), Data(8, 0), Right], 700)?;
-    let pieces = [record(&stream, 0)?, &before, record(&stream, 100)?, &after];
-    let recording = joined(rt.alloc(), &pieces)?;
-    let due = Due {
-        records: 7,
-        tail_bytes: 0,
-        other: 0,
-        numbers: Numbers {
-            heard: 5,
-            units: 4,
-            frames: 3,
-            rows_mended: 236,
-            rows_left: 276,
-            ..Numbers::NONE
-        },
-        given: &[Span { first: 0, last: 1 }, Span { first: 8, last: 9 }],
-        table: CHANGED,
-    };
-    let small = Cast {
-        sizes: &[20; 10],
-        ..SENT
-    };
-    comes_as_told(
-        rt.alloc(),
-        "two frames of one index",
-        &small,
-        &recording,
-        &due,
-    )
+    let recording = frames_of_one_index(rt.alloc())?;
+    let name = "two frames of one index";
+    comes_as_told(rt.alloc(), name, &SMALL, &recording, &THREE_FRAMES)
 }

@@ -1,6 +1,6 @@
 //! Datagrams of a service of frames -> their stream; a recording -> what must be left of it: the capture and the report.
 use ipencap_engine::Status;
-use scenario_runs::{expect, ran};
+use scenario_runs::{expect, sent};
 use std::alloc::Global;
 use std::test::Fail;
 use test_recordings::settings::settings_of;
@@ -38,27 +38,6 @@ pub struct Due<'a> {
 /// How many bytes the output and the files take.
 const ROOM: usize = 5_000_000;
 
-/// The stream of all datagrams.
-pub fn stream_of(alloc: Global, cast: &Cast<'_>) -> Result<Vec<u8>, Fail> {
-    let mut numbers: Vec<u8> = Vec::new(alloc);
-    let mut number: u8 = 0;
-    for _ in cast.sizes {
-        numbers.push(number)?;
-        number = number.wrapping_add(1);
-    }
-    let settings = settings_of(alloc, cast.settings)?;
-    let capture = numbered_capture(alloc, 1, cast.sizes, &numbers)?;
-    let given = Given {
-        room: ROOM,
-        ..faultless(&["send", "a.toml"], settings.as_bytes(), &capture)
-    };
-    let ended = ran(alloc, &given)?;
-    if ended.status != Status::Done {
-        return Err("not sent".into());
-    }
-    Ok(Vec::from_slice(alloc, ended.outside.output.bytes())?)
-}
-
 /// The numbers of all spans.
 fn numbers_in(alloc: Global, spans: &[Span]) -> Result<Vec<u8>, Fail> {
     let mut numbers: Vec<u8> = Vec::new(alloc);
@@ -70,7 +49,22 @@ fn numbers_in(alloc: Global, spans: &[Span]) -> Result<Vec<u8>, Fail> {
     Ok(numbers)
 }
 
-/// The report.
+/// The capture of all datagrams.
+fn capture_of_all(alloc: Global, cast: &Cast<'_>) -> Result<Vec<u8>, Fail> {
+    let last = cast.sizes.len().saturating_sub(1);
+    let last = u8::try_from(last).map_err(|_| "more than 256 datagrams")?;
+    let numbers = numbers_in(alloc, &[Span { first: 0, last }])?;
+    numbered_capture(alloc, 1, cast.sizes, &numbers)
+}
+
+/// The stream of all datagrams.
+pub fn stream_of(alloc: Global, cast: &Cast<'_>) -> Result<Vec<u8>, Fail> {
+    let settings = settings_of(alloc, cast.settings)?;
+    let capture = capture_of_all(alloc, cast)?;
+    sent(alloc, &settings, &capture, ROOM)
+}
+
+/// The report, with so many datagrams.
 fn report_due(alloc: Global, due: &Due<'_>, datagrams: usize) -> Result<String, Fail> {
     let lecture = ServiceReport {
         name: "lecture",
@@ -90,26 +84,37 @@ fn report_due(alloc: Global, due: &Due<'_>, datagrams: usize) -> Result<String, 
     Ok(report_of(alloc, &report)?)
 }
 
-/// Receives the recording, and compares all that is left.
-pub fn comes_as_told(
-    alloc: Global,
-    name: &str,
-    cast: &Cast<'_>,
-    recording: &[u8],
-    due: &Due<'_>,
-) -> Result<(), Fail> {
-    let settings = settings_of(alloc, cast.settings)?;
+/// What a reception writes: the capture and the report.
+#[derive(Drop)]
+struct Written {
+    capture: Vec<u8>,
+    report: String,
+}
+
+/// What must be written of a recording.
+fn written_of(alloc: Global, cast: &Cast<'_>, due: &Due<'_>) -> Result<Written, Fail> {
     let numbers = numbers_in(alloc, due.given)?;
     let capture = numbered_capture(alloc, 1, cast.sizes, &numbers)?;
     let report = report_due(alloc, due, numbers.len())?;
+    Ok(Written { capture, report })
+}
+
+/// Receives the recording, and compares all that is left.
+fn gives(
+    alloc: Global,
+    name: &str,
+    settings: &str,
+    recording: &[u8],
+    due: &Written,
+) -> Result<(), Fail> {
     let files = [FileLeft {
         name: "lecture.pcap",
-        bytes: &capture,
-        flushed: capture.len(),
+        bytes: &due.capture,
+        flushed: due.capture.len(),
     }];
     let left = Left {
-        output: report.as_bytes(),
-        flushed: report.len(),
+        output: due.report.as_bytes(),
+        flushed: due.report.len(),
         line: "",
         files: &files,
     };
@@ -118,4 +123,17 @@ pub fn comes_as_told(
         ..faultless(&["receive", "a.toml"], settings.as_bytes(), recording)
     };
     expect(alloc, name, &given, Status::Done, &left)
+}
+
+/// Receives the recording under the settings of the cast, and compares the capture and the report with what is due.
+pub fn comes_as_told(
+    alloc: Global,
+    name: &str,
+    cast: &Cast<'_>,
+    recording: &[u8],
+    due: &Due<'_>,
+) -> Result<(), Fail> {
+    let settings = settings_of(alloc, cast.settings)?;
+    let written = written_of(alloc, cast, due)?;
+    gives(alloc, name, &settings, recording, &written)
 }

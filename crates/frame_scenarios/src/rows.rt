@@ -157,24 +157,34 @@ static CASES: [Case; 8] = [
     },
 ];
 
-/// Sends the frame, damages its sections, and receives it.
-fn comes(alloc: Global, case: &Case<'_>) -> Result<(), Fail> {
+/// The stream of the frame, of which sections are damaged.
+fn recording_of(alloc: Global, case: &Case<'_>) -> Result<Vec<u8>, Fail> {
     let stream = stream_of(alloc, &case.sent)?;
     let harms = flips_of(alloc, &stream, case.damaged)?;
-    let recording = damaged(alloc, &stream, 188, &harms)?;
+    Ok(damaged(alloc, &stream, 188, &harms)?)
+}
+
+/// What the report says of the service, but for its datagrams.
+fn numbers_of(case: &Case<'_>) -> Numbers {
+    Numbers {
+        heard: case.packets,
+        units: case.units,
+        bad_check: case.bad_check,
+        frames: 1,
+        rows_mended: case.mended,
+        rows_left: case.left,
+        ..Numbers::NONE
+    }
+}
+
+/// Sends the frame, damages its sections, and receives it.
+fn comes(alloc: Global, case: &Case<'_>) -> Result<(), Fail> {
+    let recording = recording_of(alloc, case)?;
     let due = Due {
         records: case.packets,
         tail_bytes: 0,
         other: 0,
-        numbers: Numbers {
-            heard: case.packets,
-            units: case.units,
-            bad_check: case.bad_check,
-            frames: 1,
-            rows_mended: case.mended,
-            rows_left: case.left,
-            ..Numbers::NONE
-        },
+        numbers: numbers_of(case),
         given: &[case.given],
         table: None,
     };

@@ -1,11 +1,12 @@
 //! A datagram of 800 bytes in three frames of 300, and one of 400 in two: what goes out, and what comes of it.
 //!
 //! Each is sent by itself, so that both have Frag ID 0.
+use crate::made::{Made, put_frame};
 use crate::report::{Due, Form, Numbers, ServiceDue, comes, goes_out};
 use std::alloc::{AllocError as OutOfMemory, Global};
 use std::test::Fail;
 use test_recordings::Harm::{self, Drop, Flip};
-use test_recordings::{Datagram, damaged, datagram_of, filled};
+use test_recordings::{Datagram, damaged, datagram_of};
 
 const IN_300: Form = Form {
     settings: &[
@@ -78,21 +79,19 @@ static OF_SHORT: [Part; 2] = [
     },
 ];
 
-/// Appends a frame with these bytes of a datagram. Zeros fill it up.
-fn put_frame(
+/// Appends a frame with these bytes of a datagram.
+fn put_part(
     alloc: Global,
     into: &mut Vec<u8>,
     part: &Part<'_>,
     bytes: &[u8],
 ) -> Result<(), OutOfMemory> {
-    let mut frame = Vec::from_slice(alloc, &part.head)?;
-    frame.extend_from_slice(part.before)?;
-    frame.extend_from_slice(bytes)?;
-    frame.extend_from_slice(part.after)?;
-    let rest = IN_300.size.saturating_sub(frame.len());
-    frame.extend_from_slice(&filled(alloc, 0, rest)?)?;
-    into.extend_from_slice(&frame)?;
-    Ok(())
+    let made = Made {
+        head: part.head,
+        pieces: &[part.before, bytes, part.after],
+        times: 1,
+    };
+    put_frame(alloc, into, &made, IN_300.size)
 }
 
 /// The frames of a datagram: each takes the next bytes of it.
@@ -103,7 +102,7 @@ fn frames_of(alloc: Global, datagram: &Datagram, parts: &[Part<'_>]) -> Result<V
     for part in parts {
         let to = from.saturating_add(part.bytes);
         let bytes = datagram.get(from..to).ok_or("no such bytes")?;
-        put_frame(alloc, &mut frames, part, bytes)?;
+        put_part(alloc, &mut frames, part, bytes)?;
         from = to;
     }
     Ok(frames)
@@ -202,6 +201,25 @@ static LOSSES: [Loss; 6] = [
     },
 ];
 
+/// The frames of both datagrams.
+fn stream(alloc: Global) -> Result<Vec<u8>, Fail> {
+    let mut frames = frames_of(alloc, &LONG, &OF_LONG)?;
+    frames.extend_from_slice(&frames_of(alloc, &SHORT, &OF_SHORT)?)?;
+    Ok(frames)
+}
+
+/// Compares what goes out of a datagram with its frames.
+fn goes_out_in(
+    alloc: Global,
+    case: &str,
+    datagram: &Datagram,
+    parts: &[Part<'_>],
+) -> Result<(), Fail> {
+    let frames = frames_of(alloc, datagram, parts)?;
+    goes_out(alloc, case, &IN_300, &[*datagram], &frames)
+}
+
+/// Compares what comes of what is left of the frames of both.
 fn comes_of(alloc: Global, stream: &[u8], loss: &Loss<'_>) -> Result<(), Fail> {
     let service = ServiceDue {
         name: "files",
@@ -220,18 +238,19 @@ fn comes_of(alloc: Global, stream: &[u8], loss: &Loss<'_>) -> Result<(), Fail> {
     comes(alloc, loss.name, &IN_300, &recording, &due)
 }
 
-/// The frames are those of the packing rules, byte for byte; and a datagram is given where all its frames came, also after another one
-/// of its Frag ID.
+/// The frames are those of the packing rules, byte for byte.
 #[test]
 fn long_datagrams_go_over_several_frames(rt: HostRuntime) -> Result<(), Fail> {
-    let alloc = rt.alloc();
-    let mut stream = frames_of(alloc, &LONG, &OF_LONG)?;
-    let short = frames_of(alloc, &SHORT, &OF_SHORT)?;
-    goes_out(alloc, "800 bytes", &IN_300, &[LONG], &stream)?;
-    goes_out(alloc, "400 bytes", &IN_300, &[SHORT], &short)?;
-    stream.extend_from_slice(&short)?;
+    goes_out_in(rt.alloc(), "800 bytes", &LONG, &OF_LONG)?;
+    goes_out_in(rt.alloc(), "400 bytes", &SHORT, &OF_SHORT)
+}
+
+/// A datagram is given where all its frames came, also after another one of its Frag ID.
+#[test]
+fn long_datagrams_are_received_over_losses(rt: HostRuntime) -> Result<(), Fail> {
+    let stream = stream(rt.alloc())?;
     for loss in &LOSSES {
-        comes_of(alloc, &stream, loss)?;
+        comes_of(rt.alloc(), &stream, loss)?;
     }
     Ok(())
 }

@@ -9,13 +9,12 @@
 //!
 //! All datagrams of the lecture have one label, which later packets of a frame re-use; the files have none.
 use crate::report::{Due, Form, Numbers, ServiceDue, comes};
-use ipencap_engine::Status;
-use scenario_runs::ran;
+use scenario_runs::sent;
 use std::alloc::{AllocError as OutOfMemory, Global};
 use std::test::Fail;
 use test_recordings::Harm::{self, Cut, Drop, Flip};
 use test_recordings::settings::settings_of;
-use test_recordings::{Datagram, Given, capture_of, damaged, faultless};
+use test_recordings::{Datagram, capture_of, damaged};
 
 const PAIR: Form = Form {
     settings: &[
@@ -405,17 +404,11 @@ fn offered(alloc: Global) -> Result<Vec<Datagram>, OutOfMemory> {
     Ok(datagrams)
 }
 
-/// The twelve frames.
+/// The twelve frames, for which the output has room.
 fn stream(alloc: Global) -> Result<Vec<u8>, Fail> {
     let settings = settings_of(alloc, PAIR.settings)?;
     let capture = capture_of(alloc, &offered(alloc)?)?;
-    let given = faultless(&["send", "a.toml"], settings.as_bytes(), &capture);
-    let ended = ran(alloc, &given)?;
-    let bytes = ended.outside.output.bytes();
-    if ended.status != Status::Done || bytes.len() != 3600 {
-        return Err("another stream".into());
-    }
-    Ok(Vec::from_slice(alloc, bytes)?)
+    sent(alloc, &settings, &capture, 12 * PAIR.size)
 }
 
 /// The datagrams with these numbers.
@@ -433,8 +426,8 @@ fn given_of(
     Ok(datagrams)
 }
 
-/// What comes of what is left is what must come.
-fn comes_of(alloc: Global, stream: &[u8], harms: &[Harm], loss: &Loss<'_>) -> Result<(), Fail> {
+/// What comes of a recording is what must come.
+fn comes_of_recording(alloc: Global, recording: &[u8], loss: &Loss<'_>) -> Result<(), Fail> {
     let lecture = given_of(alloc, 1, &LECTURE, loss.lecture.given)?;
     let files = given_of(alloc, 2, &FILES, loss.files.given)?;
     let services = [
@@ -458,8 +451,13 @@ fn comes_of(alloc: Global, stream: &[u8], harms: &[Harm], loss: &Loss<'_>) -> Re
         other: 0,
         services: &services,
     };
+    comes(alloc, loss.name, &PAIR, recording, &due)
+}
+
+/// What comes of what is left of the frames is what must come.
+fn comes_of(alloc: Global, stream: &[u8], harms: &[Harm], loss: &Loss<'_>) -> Result<(), Fail> {
     let recording = damaged(alloc, stream, PAIR.size, harms)?;
-    comes(alloc, loss.name, &PAIR, &recording, &due)
+    comes_of_recording(alloc, &recording, loss)
 }
 
 /// The loss law over GSE: what is given was sent, in order and each once, and whatever arrived in all its frames is given.

@@ -4,7 +4,7 @@
 use crate::report::{Due, Form, Numbers, ServiceDue, comes};
 use std::alloc::{AllocError as OutOfMemory, Global};
 use std::test::Fail;
-use test_recordings::{Datagram, filled};
+use test_recordings::Datagram;
 
 /// So many times a frame: its header (EN 302 307-1 clause 5.1.6), and its data field in pieces. Zeros fill it up.
 #[derive(Clone, Copy)]
@@ -111,37 +111,54 @@ const GOOD: Made = Made {
     times: 1,
 };
 
+/// The bytes of a frame.
+fn frame_of(alloc: Global, made: &Made<'_>, size: usize) -> Result<Vec<u8>, OutOfMemory> {
+    let mut frame = Vec::from_slice(alloc, &made.head)?;
+    for piece in made.pieces {
+        frame.extend_from_slice(piece)?;
+    }
+    for _ in frame.len()..size {
+        frame.push(0)?;
+    }
+    Ok(frame)
+}
+
 /// Appends a frame as often as it comes.
-fn put_frame(
+pub fn put_frame(
     alloc: Global,
     into: &mut Vec<u8>,
     made: &Made<'_>,
     size: usize,
 ) -> Result<(), OutOfMemory> {
-    let mut frame = Vec::from_slice(alloc, &made.head)?;
-    for piece in made.pieces {
-        frame.extend_from_slice(piece)?;
-    }
-    let rest = size.saturating_sub(frame.len());
-    frame.extend_from_slice(&filled(alloc, 0, rest)?)?;
+    let frame = frame_of(alloc, made, size)?;
     for _ in 0..made.times {
         into.extend_from_slice(&frame)?;
     }
     Ok(())
 }
 
-/// Receives the frames of a case and the good one after them.
-fn comes_with_the_next(alloc: Global, case: &Case<'_>) -> Result<(), Fail> {
+/// The frames of a case and the good one after them.
+fn recording_of(alloc: Global, case: &Case<'_>) -> Result<Vec<u8>, OutOfMemory> {
     let mut recording = Vec::new(alloc);
     for made in case.frames {
         put_frame(alloc, &mut recording, made, case.form.size)?;
     }
     put_frame(alloc, &mut recording, &GOOD, case.form.size)?;
-    let numbers = Numbers {
+    Ok(recording)
+}
+
+/// The numbers of a case, with the good frame after it.
+fn numbers_of(case: &Case<'_>) -> Numbers {
+    Numbers {
         heard: case.numbers.heard.saturating_add(1),
         units: case.numbers.units.saturating_add(1),
         ..case.numbers
-    };
+    }
+}
+
+/// Compares what comes of a recording of a case and the good frame.
+fn comes_of(alloc: Global, case: &Case<'_>, recording: &[u8]) -> Result<(), Fail> {
+    let numbers = numbers_of(case);
     let given = GIVEN
         .get(..case.given.saturating_add(1))
         .ok_or("too often")?;
@@ -161,7 +178,13 @@ fn comes_with_the_next(alloc: Global, case: &Case<'_>) -> Result<(), Fail> {
         other: case.other,
         services: &[service],
     };
-    comes(alloc, case.name, case.form, &recording, &due)
+    comes(alloc, case.name, case.form, recording, &due)
+}
+
+/// Receives the frames of a case and the good one after them.
+fn comes_with_the_next(alloc: Global, case: &Case<'_>) -> Result<(), Fail> {
+    let recording = recording_of(alloc, case)?;
+    comes_of(alloc, case, &recording)
 }
 
 /// Of each case comes what must come, and the datagram after it.

@@ -86,12 +86,17 @@ fn put_service(into: &mut String, service: &ServiceDue<'_>) -> Result<(), OutOfM
 
 /// The text of the report.
 fn report_of(alloc: Global, due: &Due<'_>) -> Result<String, OutOfMemory> {
+    let lines = [
+        ("records", due.records),
+        ("tail_bytes", due.tail_bytes),
+        ("unreadable", due.unreadable),
+        ("without_payload", 0),
+        ("other", due.other),
+    ];
     let mut text = "scope,name,value\n".to_string(alloc)?;
-    write!(&mut text, "stream,records,{}\n", due.records)?;
-    write!(&mut text, "stream,tail_bytes,{}\n", due.tail_bytes)?;
-    write!(&mut text, "stream,unreadable,{}\n", due.unreadable)?;
-    text.push_str("stream,without_payload,0\n")?;
-    write!(&mut text, "stream,other,{}\n", due.other)?;
+    for (line, number) in lines {
+        write!(&mut text, "stream,{line},{number}\n")?;
+    }
     for service in due.services {
         put_service(&mut text, service)?;
     }
@@ -107,6 +112,41 @@ fn captures_of(alloc: Global, services: &[ServiceDue<'_>]) -> Result<Vec<Vec<u8>
     Ok(captures)
 }
 
+/// The files of all services, with their captures.
+fn files_of<'a>(
+    alloc: Global,
+    services: &[ServiceDue<'a>],
+    captures: &'a [Vec<u8>],
+) -> Result<Vec<FileLeft<'a>>, OutOfMemory> {
+    let mut files = Vec::new(alloc);
+    for (service, bytes) in services.iter().zip(captures) {
+        files.push(FileLeft {
+            name: service.file,
+            bytes,
+            flushed: bytes.len(),
+        })?;
+    }
+    Ok(files)
+}
+
+/// Runs a command under these settings, and compares all that is left.
+fn leaves(
+    alloc: Global,
+    case: &str,
+    form: &Form<'_>,
+    command: &str,
+    input: &[u8],
+    left: &Left<'_>,
+) -> Result<(), Fail> {
+    let words = [command, "a.toml"];
+    let settings = settings_of(alloc, form.settings)?;
+    let given = Given {
+        room: ROOM,
+        ..faultless(&words, settings.as_bytes(), input)
+    };
+    expect(alloc, case, &given, Status::Done, left)
+}
+
 /// Receives a recording, and compares all that is left.
 pub fn comes(
     alloc: Global,
@@ -115,28 +155,26 @@ pub fn comes(
     recording: &[u8],
     due: &Due<'_>,
 ) -> Result<(), Fail> {
-    let settings = settings_of(alloc, form.settings)?;
     let report = report_of(alloc, due)?;
     let captures = captures_of(alloc, due.services)?;
-    let mut files = Vec::new(alloc);
-    for (service, bytes) in due.services.iter().zip(&captures) {
-        files.push(FileLeft {
-            name: service.file,
-            bytes,
-            flushed: bytes.len(),
-        })?;
-    }
+    let files = files_of(alloc, due.services, &captures)?;
     let left = Left {
         output: report.as_bytes(),
         flushed: report.len(),
         line: "",
         files: &files,
     };
-    let given = Given {
-        room: ROOM,
-        ..faultless(&["receive", "a.toml"], settings.as_bytes(), recording)
-    };
-    expect(alloc, case, &given, Status::Done, &left)
+    leaves(alloc, case, form, "receive", recording, &left)
+}
+
+/// The line that is reported where so many datagrams are sent.
+fn line_of(alloc: Global, count: usize) -> Result<String, OutOfMemory> {
+    let mut line = String::new(alloc);
+    write!(
+        &mut line,
+        "ipencap: offered {count}, not IP 0, unrouted 0, too long 0\n"
+    )?;
+    Ok(line)
 }
 
 /// Sends datagrams, and compares the stream and the reported line.
@@ -147,23 +185,13 @@ pub fn goes_out(
     datagrams: &[Datagram],
     stream: &[u8],
 ) -> Result<(), Fail> {
-    let settings = settings_of(alloc, form.settings)?;
     let capture = capture_of(alloc, datagrams)?;
-    let mut line = String::new(alloc);
-    write!(
-        &mut line,
-        "ipencap: offered {}, not IP 0, unrouted 0, too long 0\n",
-        datagrams.len()
-    )?;
+    let line = line_of(alloc, datagrams.len())?;
     let left = Left {
         output: stream,
         flushed: stream.len(),
         line: &line,
         files: &[],
     };
-    let given = Given {
-        room: ROOM,
-        ..faultless(&["send", "a.toml"], settings.as_bytes(), &capture)
-    };
-    expect(alloc, case, &given, Status::Done, &left)
+    leaves(alloc, case, form, "send", &capture, &left)
 }

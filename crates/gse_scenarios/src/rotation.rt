@@ -44,12 +44,19 @@ const CRCS: [u8; 16] = [
 
 const HEAD: &str = "carrier = \"bb\"\nframe_bytes = 300\n";
 
-/// Appends the table of a service.
-fn put_service(into: &mut String, isi: u8) -> Result<(), OutOfMemory> {
-    write!(
-        into,
-        "[[service]]\nname = \"s{isi}\"\nkind = \"gse\"\nisi = {isi}\nrules = [\"239.{isi}.0.0/16\"]\n"
-    )
+/// All services, by their ISIs.
+const ALL: [u8; 16] = [0, 1, 2, 3, 4, 5, 6, 7, 8, 9, 10, 11, 12, 13, 14, 15];
+
+/// The settings of services.
+fn settings(alloc: Global, isis: &[u8]) -> Result<String, OutOfMemory> {
+    let mut text = HEAD.to_string(alloc)?;
+    for isi in isis {
+        write!(
+            &mut text,
+            "[[service]]\nname = \"s{isi}\"\nkind = \"gse\"\nisi = {isi}\nrules = [\"239.{isi}.0.0/16\"]\n"
+        )?;
+    }
+    Ok(text)
 }
 
 fn datagram(isi: u8, number: u8) -> Datagram {
@@ -85,38 +92,26 @@ fn stream(alloc: Global) -> Result<Vec<u8>, Fail> {
     Ok(frames)
 }
 
+/// Compares what goes out of all datagrams with the frames.
+fn all_go_out(alloc: Global, form: &Form<'_>) -> Result<(), Fail> {
+    let offered = offered(alloc)?;
+    let stream = stream(alloc)?;
+    goes_out(alloc, "sixteen services", form, &offered, &stream)
+}
+
 /// One frame of each service, and so on past those that have none left.
 #[test]
 fn services_go_out_in_rotation(rt: HostRuntime) -> Result<(), Fail> {
-    let alloc = rt.alloc();
-    let mut settings = HEAD.to_string(alloc)?;
-    for isi in 0..16u8 {
-        put_service(&mut settings, isi)?;
-    }
+    let settings = settings(rt.alloc(), &ALL)?;
     let form = Form {
         settings: &[&settings],
         size: 300,
     };
-    goes_out(
-        alloc,
-        "sixteen services",
-        &form,
-        &offered(alloc)?,
-        &stream(alloc)?,
-    )
+    all_go_out(rt.alloc(), &form)
 }
 
-/// Two of the services: all others are of other ISIs.
-#[test]
-fn each_service_is_received_by_itself(rt: HostRuntime) -> Result<(), Fail> {
-    let alloc = rt.alloc();
-    let mut settings = HEAD.to_string(alloc)?;
-    put_service(&mut settings, 3)?;
-    put_service(&mut settings, 13)?;
-    let form = Form {
-        settings: &[&settings],
-        size: 300,
-    };
+/// Receives all frames under the settings of two services: the frames of all others are of other ISIs.
+fn two_come(alloc: Global, form: &Form<'_>) -> Result<(), Fail> {
     let three = ServiceDue {
         name: "s3",
         file: "s3.pcap",
@@ -144,5 +139,16 @@ fn each_service_is_received_by_itself(rt: HostRuntime) -> Result<(), Fail> {
         other: 19,
         services: &[three, thirteen],
     };
-    comes(alloc, "two of sixteen", &form, &stream(alloc)?, &due)
+    comes(alloc, "two of sixteen", form, &stream(alloc)?, &due)
+}
+
+/// Two of the services.
+#[test]
+fn each_service_is_received_by_itself(rt: HostRuntime) -> Result<(), Fail> {
+    let settings = settings(rt.alloc(), &[3, 13])?;
+    let form = Form {
+        settings: &[&settings],
+        size: 300,
+    };
+    two_come(rt.alloc(), &form)
 }

@@ -3,7 +3,8 @@ use ipencap_engine::Status;
 use scenario_runs::expect;
 use std::alloc::{AllocError as OutOfMemory, Global};
 use std::test::Fail;
-use test_recordings::{FileLeft, Left, faultless, go_on, small_capture, start};
+use test_recordings::units::CAPTURE;
+use test_recordings::{FileLeft, Left, faultless, go_on, start};
 
 /// Settings of a service `files` on PID 256, and a unit of it with `units::DATAGRAM`.
 #[derive(Clone, Copy)]
@@ -57,16 +58,23 @@ fn put_piece(into: &mut Vec<u8>, piece: &Piece<'_>) -> Result<(), OutOfMemory> {
     Ok(())
 }
 
-/// The packets of a unit, and one with the right unit after them. The counters rise by one.
-fn recording_of(alloc: Global, case: &Case<'_>) -> Result<Vec<u8>, OutOfMemory> {
-    let unit = unit_of(alloc, case.unit)?;
-    let mut recording = Vec::from_slice(alloc, &start(0, case.pointer, &unit))?;
+/// The packets of a unit after this pointer field. The counters rise by one.
+fn packets_of(alloc: Global, pointer: u8, unit: &[u8]) -> Result<Vec<u8>, OutOfMemory> {
+    let mut packets = Vec::from_slice(alloc, &start(0, pointer, unit))?;
     let mut counter: u8 = 1;
     for piece in unit.get(183..).unwrap_or(&[]).chunks(184) {
-        recording.extend_from_slice(&go_on(counter, piece))?;
+        packets.extend_from_slice(&go_on(counter, piece))?;
         counter = counter.wrapping_add(1);
     }
-    recording.extend_from_slice(&start(counter, 0, case.kind.right))?;
+    Ok(packets)
+}
+
+/// The packets of a unit, and one with the right unit after them, whose counter is the next one.
+fn recording_of(alloc: Global, case: &Case<'_>) -> Result<Vec<u8>, OutOfMemory> {
+    let unit = unit_of(alloc, case.unit)?;
+    let mut recording = packets_of(alloc, case.pointer, &unit)?;
+    let counter = recording.len() / 188 % 16;
+    recording.extend_from_slice(&start(counter as u8, 0, case.kind.right))?;
     Ok(recording)
 }
 
@@ -99,26 +107,29 @@ fn report_of(alloc: Global, numbers: &Numbers) -> Result<String, OutOfMemory> {
     Ok(text)
 }
 
-/// Receives the packets of a case: the right unit's datagram comes, nothing else, and the numbers are reported.
-pub fn the_right_unit_comes(alloc: Global, case: &Case<'_>) -> Result<(), Fail> {
-    let recording = recording_of(alloc, case)?;
-    let capture = small_capture(alloc, 1)?;
-    let report = report_of(alloc, &case.numbers)?;
-    let files = [FileLeft {
-        name: "files.pcap",
-        bytes: &capture,
-        flushed: capture.len(),
-    }];
+/// The capture of the right unit's datagram, which is flushed.
+const FILES: [FileLeft; 1] = [FileLeft {
+    name: "files.pcap",
+    bytes: &CAPTURE,
+    flushed: CAPTURE.len(),
+}];
+
+/// Receives a recording: the right unit's datagram comes, nothing else, and this is reported.
+fn comes(alloc: Global, case: &Case<'_>, recording: &[u8], report: &str) -> Result<(), Fail> {
     let left = Left {
         output: report.as_bytes(),
         flushed: report.len(),
         line: "",
-        files: &files,
+        files: &FILES,
     };
-    let given = faultless(
-        &["receive", "a.toml"],
-        case.kind.settings.as_bytes(),
-        &recording,
-    );
+    let settings = case.kind.settings.as_bytes();
+    let given = faultless(&["receive", "a.toml"], settings, recording);
     expect(alloc, case.name, &given, Status::Done, &left)
+}
+
+/// Receives the packets of a case: the right unit's datagram comes, nothing else, and the numbers are reported.
+pub fn the_right_unit_comes(alloc: Global, case: &Case<'_>) -> Result<(), Fail> {
+    let recording = recording_of(alloc, case)?;
+    let report = report_of(alloc, &case.numbers)?;
+    comes(alloc, case, &recording, &report)
 }

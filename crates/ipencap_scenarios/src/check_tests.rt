@@ -1,6 +1,7 @@
 //! What no clause says of `check SETTINGS`: that a run over objects in memory ends so, with ample memory.
 use ipencap_engine::Status;
 use scenario_runs::expect;
+use std::alloc::Global;
 use std::test::Fail;
 use test_recordings::settings::{FILES, INT, STAMPED, settings_of};
 use test_recordings::{Failing, Given, Left, faultless, filled};
@@ -221,44 +222,43 @@ static CASES: [Case; 25] = [
     },
 ];
 
+/// Checks the settings of a case, and compares all that is left.
+fn ends_so(alloc: Global, case: &Case<'_>) -> Result<(), Fail> {
+    let settings = settings_of(alloc, case.settings)?;
+    let given = Given {
+        name: case.shelved,
+        room: case.room,
+        fails: case.fails,
+        ..faultless(&["check", "a.toml"], settings.as_bytes(), &[])
+    };
+    let left = Left {
+        output: case.output.as_bytes(),
+        flushed: case.flushed,
+        line: case.line,
+        files: &[],
+    };
+    expect(alloc, case.name, &given, case.status, &left)
+}
+
 #[test]
 fn settings_are_listed_or_have_the_line_of_their_fault(rt: HostRuntime) -> Result<(), Fail> {
     for case in &CASES {
-        let settings = settings_of(rt.alloc(), case.settings)?;
-        let given = Given {
-            name: case.shelved,
-            room: case.room,
-            fails: case.fails,
-            ..faultless(&["check", "a.toml"], settings.as_bytes(), &[])
-        };
-        let left = Left {
-            output: case.output.as_bytes(),
-            flushed: case.flushed,
-            line: case.line,
-            files: &[],
-        };
-        expect(rt.alloc(), case.name, &given, case.status, &left)?;
+        ends_so(rt.alloc(), case)?;
     }
     Ok(())
+}
+
+/// Checks a file of so many of one byte, which is refused with this line.
+fn is_refused(alloc: Global, byte: u8, count: usize, line: &str) -> Result<(), Fail> {
+    let settings = filled(alloc, byte, count)?;
+    let given = faultless(&["check", "a.toml"], &settings, &[]);
+    expect(alloc, line, &given, Status::Settings, &Left::line(line))
 }
 
 /// Bytes that are no text, the longest file, and one byte more.
 #[test]
 fn a_file_is_a_text_of_1048576_bytes_at_most(rt: HostRuntime) -> Result<(), Fail> {
-    for (byte, count, line) in [
-        (0xFFu8, 1usize, "ipencap: settings 1\n"),
-        (0x20, 1_048_576, "ipencap: settings 2 service\n"),
-        (0x20, 1_048_577, "ipencap: settings too long\n"),
-    ] {
-        let settings = filled(rt.alloc(), byte, count)?;
-        let given = faultless(&["check", "a.toml"], &settings, &[]);
-        expect(
-            rt.alloc(),
-            line,
-            &given,
-            Status::Settings,
-            &Left::line(line),
-        )?;
-    }
-    Ok(())
+    is_refused(rt.alloc(), 0xFF, 1, "ipencap: settings 1\n")?;
+    is_refused(rt.alloc(), 0x20, 1_048_576, "ipencap: settings 2 service\n")?;
+    is_refused(rt.alloc(), 0x20, 1_048_577, "ipencap: settings too long\n")
 }

@@ -2,10 +2,12 @@
 use crate::send_tests::BASEBAND;
 use ipencap_engine::Status;
 use scenario_runs::expect;
+use std::alloc::{AllocError as OutOfMemory, Global};
 use std::test::Fail;
+use test_recordings::units::CAPTURE;
 use test_recordings::{
     Failing, FileLeft, Given, Left, Numbers, Report, ServiceReport, faultless, mixed_recording,
-    report_of, small_capture,
+    report_of,
 };
 
 /// Files in SNDUs on PID 256, in a plain recording.
@@ -175,33 +177,54 @@ static CASES: [Case; 11] = [
     },
 ];
 
+/// The text of a report, empty where there is none.
+fn text_of(alloc: Global, report: &Option<Report<'_>>) -> Result<String, OutOfMemory> {
+    match report {
+        Some(report) => report_of(alloc, report),
+        None => Ok(String::new(alloc)),
+    }
+}
+
+/// Receives these bytes, and compares the report and the files, and what else is left.
+fn leaves(
+    alloc: Global,
+    case: &Case<'_>,
+    input: &[u8],
+    report: &str,
+    files: &[FileLeft<'_>],
+) -> Result<(), Fail> {
+    let left = Left {
+        output: report.as_bytes(),
+        flushed: report.len(),
+        line: case.line,
+        files,
+    };
+    let given = Given {
+        name: case.shelved,
+        fails: case.fails,
+        ..faultless(&["receive", "a.toml"], case.settings.as_bytes(), input)
+    };
+    expect(alloc, case.name, &given, case.status, &left)
+}
+
+/// Receives the front of a recording, and compares all that is left.
+fn comes(alloc: Global, recording: &[u8], case: &Case<'_>) -> Result<(), Fail> {
+    let input = recording.get(..case.bytes).ok_or("no such front")?;
+    let files = [FileLeft {
+        name: "files.pcap",
+        bytes: CAPTURE.get(..case.file).ok_or("no such front")?,
+        flushed: case.flushed,
+    }];
+    let files = files.get(..case.files).ok_or("two files")?;
+    let report = text_of(alloc, &case.report)?;
+    leaves(alloc, case, input, &report, files)
+}
+
 #[test]
 fn a_recording_gives_its_capture_and_the_report(rt: HostRuntime) -> Result<(), Fail> {
     let recording = mixed_recording(rt.alloc())?;
-    let capture = small_capture(rt.alloc(), 1)?;
     for case in &CASES {
-        let files = [FileLeft {
-            name: "files.pcap",
-            bytes: capture.get(..case.file).ok_or("no such front")?,
-            flushed: case.flushed,
-        }];
-        let report = match &case.report {
-            Some(report) => report_of(rt.alloc(), report)?,
-            None => String::new(rt.alloc()),
-        };
-        let left = Left {
-            output: report.as_bytes(),
-            flushed: report.len(),
-            line: case.line,
-            files: files.get(..case.files).ok_or("two files")?,
-        };
-        let input = recording.get(..case.bytes).ok_or("no such front")?;
-        let given = Given {
-            name: case.shelved,
-            fails: case.fails,
-            ..faultless(&["receive", "a.toml"], case.settings.as_bytes(), input)
-        };
-        expect(rt.alloc(), case.name, &given, case.status, &left)?;
+        comes(rt.alloc(), &recording, case)?;
     }
     Ok(())
 }

@@ -5,7 +5,7 @@ use scenario_runs::expect;
 use std::alloc::Global;
 use std::test::Fail;
 use test_recordings::settings::FILES;
-use test_recordings::{Failing, Given, Left, capture_of_files, faultless, filled, packet_of_files};
+use test_recordings::{Failing, Given, Left, capture_of_files, faultless, packet_of_files};
 
 /// Files in baseband frames of 300 bytes, on ISI 1.
 pub const BASEBAND: &str = "carrier = \"bb\"
@@ -180,10 +180,8 @@ static IN_FRAMES: [Case; 3] = [
     },
 ];
 
-/// Sends the capture of a case, and compares what is left with this stream.
-fn goes_out(alloc: Global, case: &Case<'_>, stream: &[u8]) -> Result<(), Fail> {
-    let capture = capture_of_files(alloc, case.datagrams)?;
-    let input = capture.get(..case.bytes).ok_or("no such front")?;
+/// Sends a capture, and compares what is left with these bytes of a stream.
+fn leaves(alloc: Global, case: &Case<'_>, input: &[u8], output: &[u8]) -> Result<(), Fail> {
     let given = Given {
         name: case.shelved,
         room: case.room,
@@ -191,12 +189,20 @@ fn goes_out(alloc: Global, case: &Case<'_>, stream: &[u8]) -> Result<(), Fail> {
         ..faultless(&["send", "a.toml"], case.settings.as_bytes(), input)
     };
     let left = Left {
-        output: stream.get(..case.written).ok_or("no such front")?,
+        output,
         flushed: case.flushed,
         line: case.line,
         files: &[],
     };
     expect(alloc, case.name, &given, case.status, &left)
+}
+
+/// Sends the capture of a case, and compares what is left with this stream.
+fn goes_out(alloc: Global, case: &Case<'_>, stream: &[u8]) -> Result<(), Fail> {
+    let output = stream.get(..case.written).ok_or("no such front")?;
+    let capture = capture_of_files(alloc, case.datagrams)?;
+    let input = capture.get(..case.bytes).ok_or("no such front")?;
+    leaves(alloc, case, input, output)
 }
 
 #[test]
@@ -208,10 +214,16 @@ fn a_capture_is_sent_up_to_a_fault(rt: HostRuntime) -> Result<(), Fail> {
     Ok(())
 }
 
+/// The whole frame.
+fn frame_of_300() -> [u8; 300] {
+    let mut frame = [0; 300];
+    frame[..80].copy_from_slice(&FRAME);
+    frame
+}
+
 #[test]
 fn a_capture_is_sent_in_frames_up_to_a_fault(rt: HostRuntime) -> Result<(), Fail> {
-    let mut frame = Vec::from_slice(rt.alloc(), &FRAME)?;
-    frame.extend_from_slice(&filled(rt.alloc(), 0, 220)?)?;
+    let frame = frame_of_300();
     for case in &IN_FRAMES {
         goes_out(rt.alloc(), case, &frame)?;
     }

@@ -2,6 +2,7 @@
 //! memory, and what small recordings give.
 use ipencap_engine::Status;
 use scenario_runs::expect;
+use std::alloc::Global;
 use std::test::Fail;
 use test_recordings::{FileLeft, Left, SmallPacket, faultless, small_capture, small_recording};
 
@@ -29,15 +30,10 @@ const REFUSED: [&[&str]; 15] = [
 #[test]
 fn words_that_form_no_command_add_no_file(rt: HostRuntime) -> Result<(), Fail> {
     let input = small_recording(rt.alloc(), &[FIRST], 0)?;
+    let left = Left::line(USAGE);
     for words in REFUSED {
         let given = faultless(words, &[], &input);
-        expect(
-            rt.alloc(),
-            "refused",
-            &given,
-            Status::Usage,
-            &Left::line(USAGE),
-        )?;
+        expect(rt.alloc(), "refused", &given, Status::Usage, &left)?;
     }
     Ok(())
 }
@@ -132,24 +128,29 @@ static CASES: [Case; 9] = [
     },
 ];
 
+/// Receives the recording of a case, and compares the file with the front of a capture.
+fn comes(alloc: Global, capture: &[u8], case: &Case<'_>) -> Result<(), Fail> {
+    let file = FileLeft {
+        name: "ule.pcap",
+        bytes: capture.get(..case.bytes).ok_or("no such front")?,
+        flushed: case.bytes,
+    };
+    let left = Left {
+        output: &[],
+        flushed: 0,
+        line: "",
+        files: &[file],
+    };
+    let input = small_recording(alloc, case.packets, case.tail)?;
+    let given = faultless(&["ule", "256"], &[], &input);
+    expect(alloc, case.name, &given, Status::Done, &left)
+}
+
 #[test]
 fn recordings_give_their_datagrams(rt: HostRuntime) -> Result<(), Fail> {
     let capture = small_capture(rt.alloc(), 3)?;
     for case in &CASES {
-        let input = small_recording(rt.alloc(), case.packets, case.tail)?;
-        let file = FileLeft {
-            name: "ule.pcap",
-            bytes: capture.get(..case.bytes).ok_or("no such front")?,
-            flushed: case.bytes,
-        };
-        let left = Left {
-            output: &[],
-            flushed: 0,
-            line: "",
-            files: &[file],
-        };
-        let given = faultless(&["ule", "256"], &[], &input);
-        expect(rt.alloc(), case.name, &given, Status::Done, &left)?;
+        comes(rt.alloc(), &capture, case)?;
     }
     Ok(())
 }

@@ -1,5 +1,5 @@
 //! Each call of each object fails in turn while a recording is received.
-use crate::pair::{sent, settings_of_pair};
+use crate::pair::{settings_of_pair, stream_of_pair};
 use ipencap_engine::Status;
 use scenario_runs::{Ended, ran};
 use std::alloc::Global;
@@ -54,7 +54,7 @@ struct Pair {
 
 fn sent_pair(alloc: Global) -> Result<Pair, Fail> {
     let settings = settings_of_pair(alloc, "", "", "")?;
-    let stream = sent(alloc, &settings)?;
+    let stream = stream_of_pair(alloc, &settings)?;
     Ok(Pair { settings, stream })
 }
 

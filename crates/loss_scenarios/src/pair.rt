@@ -1,10 +1,9 @@
 //! What is sent, damaged on its way, and received: settings and datagrams.
-use ipencap_engine::Status;
-use scenario_runs::ran;
+use scenario_runs::sent;
 use std::alloc::Global;
 use std::test::Fail;
 use test_recordings::settings::{FILES, INT, LECTURE, settings_of};
-use test_recordings::{CAPTURE_HEAD, faultless, joined, numbered_capture};
+use test_recordings::{CAPTURE_HEAD, joined, numbered_capture};
 
 /// How many bytes each datagram of the lecture has, and each of the files.
 pub const LECTURE_SIZES: [u16; 3] = [150, 350, 100];
@@ -28,16 +27,16 @@ pub fn settings_of_pair(
     Ok(settings_of(alloc, &[whole, INT, LECTURE, lecture, FILES, files])?)
 }
 
-/// What is sent of all datagrams under these settings.
-pub fn sent(alloc: Global, settings: &str) -> Result<Vec<u8>, Fail> {
+/// The capture of all datagrams: the files, and after them the lecture.
+fn capture_of_pair(alloc: Global) -> Result<Vec<u8>, Fail> {
     let files = numbered_capture(alloc, 2, &FILE_SIZES, &ALL_FILES)?;
     let lecture = numbered_capture(alloc, 1, &LECTURE_SIZES, &ALL_LECTURE)?;
     let rest = lecture.get(CAPTURE_HEAD.len()..).ok_or("no head")?;
-    let capture = joined(alloc, &[&files, rest])?;
-    let given = faultless(&["send", "a.toml"], settings.as_bytes(), &capture);
-    let ended = ran(alloc, &given)?;
-    if ended.status != Status::Done {
-        return Err("not sent".into());
-    }
-    Ok(Vec::from_slice(alloc, ended.outside.output.bytes())?)
+    Ok(joined(alloc, &[&files, rest])?)
+}
+
+/// The stream of all datagrams under these settings.
+pub fn stream_of_pair(alloc: Global, settings: &str) -> Result<Vec<u8>, Fail> {
+    let capture = capture_of_pair(alloc)?;
+    sent(alloc, settings, &capture, 10_000)
 }

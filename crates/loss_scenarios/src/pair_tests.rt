@@ -1,6 +1,6 @@
 //! The pair end to end: what is sent is received as the loss law promises, whatever happens on the way.
 use crate::losses::{Delivered, LOSSES, Loss, NO_LOSS, WHOLE_FILES, WHOLE_LECTURE};
-use crate::pair::{FILE_SIZES, LECTURE_SIZES, sent, settings_of_pair};
+use crate::pair::{FILE_SIZES, LECTURE_SIZES, settings_of_pair, stream_of_pair};
 use ipencap_engine::Status;
 use scenario_runs::expect;
 use std::alloc::Global;
@@ -75,7 +75,7 @@ const NO_LINES: Lines = Lines {
 /// Sends all datagrams, and lets the loss happen.
 fn recording_of(alloc: Global, loss: &Loss<'_>, lines: &Lines<'_>) -> Result<Vec<u8>, Fail> {
     let settings = settings_of_pair(alloc, loss.form.line, "", lines.sent)?;
-    let stream = sent(alloc, &settings)?;
+    let stream = stream_of_pair(alloc, &settings)?;
     Ok(damaged(alloc, &stream, loss.form.size, loss.harms)?)
 }
 

@@ -5,4 +5,4 @@
 
 mod runs;
 
-pub use runs::{Ended, expect, ran};
+pub use runs::{Ended, expect, ran, sent};

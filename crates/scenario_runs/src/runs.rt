@@ -2,7 +2,7 @@
 use ipencap_engine::{Status, run};
 use std::alloc::Global;
 use std::test::Fail;
-use test_recordings::{Given, Left, Outside, words_of};
+use test_recordings::{Given, Left, Outside, faultless, words_of};
 
 /// How a run has ended, and what it has left.
 #[derive(Drop)]
@@ -25,6 +25,19 @@ pub fn ran(alloc: Global, given: &Given<'_>) -> Result<Ended, Fail> {
         &mut outside.complaints,
     );
     Ok(Ended { status, outside })
+}
+
+/// What `send` writes of a capture: `room` bytes at most.
+pub fn sent(alloc: Global, settings: &str, capture: &[u8], room: usize) -> Result<Vec<u8>, Fail> {
+    let given = Given {
+        room,
+        ..faultless(&["send", "a.toml"], settings.as_bytes(), capture)
+    };
+    let ended = ran(alloc, &given)?;
+    if ended.status != Status::Done {
+        return Err("not sent".into());
+    }
+    Ok(Vec::from_slice(alloc, ended.outside.output.bytes())?)
 }
 
 /// Runs the program, and compares all that it leaves. A difference fails as a text: the case, and what differs.

@@ -3,7 +3,7 @@ use ipe_io::{MemRack, MemShelf, MemSink, MemSource};
 use std::alloc::{AllocError as OutOfMemory, Global};
 
 /// A call that fails, by its number among those of its object, from 0.
-#[derive(Clone, Copy)]
+#[derive(Clone, Copy, PartialEq, Eq)]
 pub enum Failing {
     Shelf(u32),
     Input(u32),
@@ -111,44 +111,51 @@ impl<'a> Left<'a> {
     }
 }
 
-/// The numbers of the calls that fail, by their objects.
-#[derive(Drop)]
-struct Calls {
-    shelf: Vec<u32>,
-    input: Vec<u32>,
-    output: Vec<u32>,
-    rack: Vec<u32>,
-}
-
-/// The calls that fail, by their objects.
-fn calls_of(alloc: Global, fails: &[Failing]) -> Result<Calls, OutOfMemory> {
-    let mut calls = Calls {
-        shelf: Vec::new(alloc),
-        input: Vec::new(alloc),
-        output: Vec::new(alloc),
-        rack: Vec::new(alloc),
-    };
+/// The numbers of the calls that fail of one object, of which `first` is the first call.
+fn calls_of(alloc: Global, fails: &[Failing], first: Failing) -> Result<Vec<u32>, OutOfMemory> {
+    let mut calls = Vec::new(alloc);
     for failing in fails {
-        match *failing {
-            Failing::Shelf(call) => calls.shelf.push(call)?,
-            Failing::Input(call) => calls.input.push(call)?,
-            Failing::Output(call) => calls.output.push(call)?,
-            Failing::Rack(call) => calls.rack.push(call)?,
+        if failing.at(0) == first {
+            calls.push(failing.call())?;
         }
     }
     Ok(calls)
 }
 
+fn shelf_of(alloc: Global, given: &Given<'_>) -> Result<MemShelf, OutOfMemory> {
+    let fails = calls_of(alloc, given.fails, Failing::Shelf(0))?;
+    MemShelf::new(alloc, given.name, given.settings, &fails)
+}
+
+fn input_of(alloc: Global, given: &Given<'_>) -> Result<MemSource, OutOfMemory> {
+    let fails = calls_of(alloc, given.fails, Failing::Input(0))?;
+    MemSource::new(alloc, given.input, 100, &fails)
+}
+
+fn output_of(alloc: Global, given: &Given<'_>) -> Result<MemSink, OutOfMemory> {
+    let fails = calls_of(alloc, given.fails, Failing::Output(0))?;
+    MemSink::new(alloc, given.room, &fails)
+}
+
+fn rack_of(alloc: Global, given: &Given<'_>) -> Result<MemRack, OutOfMemory> {
+    let fails = calls_of(alloc, given.fails, Failing::Rack(0))?;
+    MemRack::new(alloc, 2, given.room.max(10_000), &fails)
+}
+
 impl Outside {
     /// The objects that a run is given.
     pub fn new(alloc: Global, given: &Given<'_>) -> Result<Outside, OutOfMemory> {
-        let calls = calls_of(alloc, given.fails)?;
+        let shelf = shelf_of(alloc, given)?;
+        let input = input_of(alloc, given)?;
+        let output = output_of(alloc, given)?;
+        let rack = rack_of(alloc, given)?;
+        let complaints = MemSink::new(alloc, 200, &[])?;
         Ok(Outside {
-            shelf: MemShelf::new(alloc, given.name, given.settings, &calls.shelf)?,
-            input: MemSource::new(alloc, given.input, 100, &calls.input)?,
-            output: MemSink::new(alloc, given.room, &calls.output)?,
-            rack: MemRack::new(alloc, 2, given.room.max(10_000), &calls.rack)?,
-            complaints: MemSink::new(alloc, 200, &[])?,
+            shelf,
+            input,
+            output,
+            rack,
+            complaints,
         })
     }
 
