@@ -13,8 +13,6 @@ mod mac_text;
 mod macs;
 mod pieces;
 mod rules;
-#[cfg(test)]
-mod tests;
 mod texts;
 
 pub use filter::{Label, wants};

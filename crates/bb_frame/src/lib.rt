@@ -7,8 +7,6 @@
 
 mod frame;
 mod reader;
-#[cfg(test)]
-mod tests;
 
 pub use frame::{Frame, FrameFault, parse, seal, write};
 pub use reader::FrameReader;

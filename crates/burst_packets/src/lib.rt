@@ -5,8 +5,6 @@
 #![tactic(auto)]
 
 mod bursts;
-#[cfg(test)]
-mod tests;
 mod timing;
 
 pub use bursts::{BurstPackets, Shape};

@@ -22,6 +22,3 @@ pub use place::TableAnswer;
 pub use run::{is_start, next_start, run_end};
 pub use solving::RowCounts;
 pub use table::Table;
-
-#[cfg(test)]
-mod tests;

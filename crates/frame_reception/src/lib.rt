@@ -20,6 +20,3 @@ pub use laws::{
     what_frames_delivered_stays,
 };
 pub use reception::FrameReception;
-
-#[cfg(test)]
-mod tests;

@@ -11,8 +11,6 @@ mod columns;
 mod frames;
 mod packets;
 mod sections;
-#[cfg(test)]
-mod tests;
 mod unit_buffer;
 mod units;
 

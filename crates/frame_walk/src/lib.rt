@@ -7,6 +7,3 @@
 mod walk;
 
 pub use walk::Walk;
-
-#[cfg(test)]
-mod tests;

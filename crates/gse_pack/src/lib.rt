@@ -12,8 +12,6 @@ mod pdu;
 mod places;
 mod rules;
 mod service;
-#[cfg(test)]
-mod tests;
 
 pub use frames::Frames;
 pub use packer::Packer;

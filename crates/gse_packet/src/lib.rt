@@ -9,8 +9,6 @@ mod label;
 mod packet;
 mod reader;
 mod sums;
-#[cfg(test)]
-mod tests;
 mod written;
 
 pub use packet::{Gse, GseFault};

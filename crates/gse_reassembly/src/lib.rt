@@ -6,8 +6,6 @@
 
 mod laws;
 mod slots;
-#[cfg(test)]
-mod tests;
 
 pub use laws::slots_stand_for_packets;
 pub use slots::{Outcome, Part, Slot, Slots};

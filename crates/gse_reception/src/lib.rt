@@ -10,8 +10,6 @@ mod handling;
 mod laws;
 mod packet;
 mod reception;
-#[cfg(test)]
-mod tests;
 
 pub use counts::GseCounts;
 pub use laws::{a_frame_of_another_isi_changes_nothing, what_frames_delivered_stays};

@@ -23,6 +23,3 @@ pub use laws::{
 pub use reading::{IntReadFault, version_of};
 pub use sizes::{entry_size, section_size};
 pub use table::{IntEntry, IntFault, IntTable};
-
-#[cfg(test)]
-mod tests;

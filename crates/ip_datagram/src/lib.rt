@@ -9,8 +9,6 @@ mod header;
 mod hint;
 mod laws;
 mod list;
-#[cfg(test)]
-mod tests;
 mod types;
 
 pub use address::{IpAddress, destination};

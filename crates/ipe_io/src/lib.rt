@@ -9,8 +9,6 @@ mod failing_calls;
 mod faults;
 mod file_rack;
 mod file_shelf;
-#[cfg(test)]
-mod file_tests;
 mod helpers;
 mod mem_file;
 mod mem_rack;
@@ -21,8 +19,6 @@ mod outside;
 mod shelved_file;
 mod std_sink;
 mod std_source;
-#[cfg(test)]
-mod tests;
 mod write_behind;
 
 pub use faults::{AddFault, Failed, LoadFault, RecordFault, Recording};

@@ -10,8 +10,6 @@ mod lines;
 mod parts;
 mod report;
 mod service_part;
-#[cfg(test)]
-mod tests;
 
 pub use counts::{ServiceCounts, StreamCounts};
 pub use report::Report;

@@ -18,6 +18,3 @@ pub use laws::{
 };
 pub use mpe::{Mpe, MpeFault, mpe_size, read_mpe, write_mpe, write_mpe_around};
 pub use real_time::RealTime;
-
-#[cfg(test)]
-mod tests;

@@ -13,8 +13,6 @@ mod laws;
 mod numbers;
 mod reader;
 mod records;
-#[cfg(test)]
-mod tests;
 
 pub use captured::{LinkType, datagram_of};
 pub use faults::{CaptureFault, NextFault, OpenFault};

@@ -4,13 +4,9 @@
 //! Begin with `encode_row` for one row, and with `Columns` for a whole frame.
 #![tactic(auto)]
 
-#[cfg(test)]
-mod caller;
 mod columns;
 mod generator;
 mod row;
-#[cfg(test)]
-mod tests;
 
 pub use columns::Columns;
 pub use row::encode_row;

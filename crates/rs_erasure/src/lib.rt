@@ -17,6 +17,3 @@ mod weights;
 
 pub use row::{RowAnswer, decode_row};
 pub use run::{decode_run, decode_run_with_values, find_run_values};
-
-#[cfg(test)]
-mod tests;

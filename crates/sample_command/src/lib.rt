@@ -11,8 +11,6 @@ mod losses;
 mod outlet;
 mod records;
 mod summary;
-#[cfg(test)]
-mod tests;
 
 pub use command::sample;
 pub use laws::a_sample_has_one_summary;

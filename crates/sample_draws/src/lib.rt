@@ -8,8 +8,6 @@ mod datagrams;
 mod draws;
 mod laws;
 mod offer;
-#[cfg(test)]
-mod tests;
 
 pub use draws::Draws;
 pub use laws::a_sample_offers_datagrams;

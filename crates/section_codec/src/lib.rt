@@ -15,6 +15,3 @@ pub use section::{
     SectionFault, SectionRef, parse, parse_checked, size, table_id, write, write_around,
     write_in_two,
 };
-
-#[cfg(test)]
-mod tests;

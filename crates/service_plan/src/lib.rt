@@ -16,8 +16,6 @@ mod read;
 mod service_draft;
 mod services;
 mod settings_draft;
-#[cfg(test)]
-mod tests;
 mod top;
 mod unique_checks;
 mod window_checks;

@@ -9,8 +9,6 @@ mod line;
 mod list;
 mod load;
 mod pieces;
-#[cfg(test)]
-mod tests;
 
 pub use fault::{FileFault, SettingsError};
 pub use line::put_fault;

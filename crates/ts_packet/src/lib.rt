@@ -8,8 +8,6 @@
 mod continuity;
 mod laws;
 mod packet;
-#[cfg(test)]
-mod tests;
 
 pub use continuity::{Continuity, Link};
 pub use laws::{null_packet_is_read, written_packets_are_read};

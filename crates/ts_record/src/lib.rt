@@ -9,8 +9,6 @@ mod lending;
 mod moments;
 mod pieces;
 mod reader;
-#[cfg(test)]
-mod tests;
 
 pub use laws::cuts_are_unique;
 pub use lending::{LentRecord, lend_record};

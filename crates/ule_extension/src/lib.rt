@@ -11,6 +11,3 @@ mod payload;
 pub use chain::{ExtFault, Payload, walk};
 pub use laws::a_chain_has_one_end;
 pub use payload::{PayloadFault, bridged, datagram};
-
-#[cfg(test)]
-mod tests;

@@ -12,6 +12,3 @@ mod sndu;
 pub use form::UleForm;
 pub use laws::{a_written_sndu_reads_back, sndus_are_lawful, sndus_are_units};
 pub use sndu::{Sndu, UleFault, read, read_checked, size, write, write_around};
-
-#[cfg(test)]
-mod tests;

@@ -12,10 +12,6 @@ mod laws;
 mod listening;
 mod packer;
 mod reading;
-#[cfg(test)]
-mod small;
-#[cfg(test)]
-mod tests;
 
 pub use form::{Span, UnitForm};
 pub use joiner::Joiner;

@@ -1,0 +1,135 @@
+//! Each public call, on numbers worked by hand.
+use crate::lines::numbers_of;
+use mpe_section::RealTime;
+use std::alloc::Global;
+use std::test::Fail;
+use time_slice::{Membership, Window, Windows, delta};
+
+/// A moment, the next one and the units of time in ten milliseconds; after `|` delta_t: whole tens of milliseconds, rounded down, and 4,095
+/// at most, which is all that 12 bits hold.
+const DELTAS: &str = "0 9999 10000|0
+0 10000 10000|1
+5 40960004 10000|4095
+0 269999 270000|0";
+
+/// delta_t from a moment to the next one.
+fn delta_of(alloc: Global, words: &str) -> Result<String, Fail> {
+    let numbers = numbers_of(alloc, words)?;
+    let [now, next, ten] = *numbers.as_slice() else {
+        return Err(Fail::new("three numbers"));
+    };
+    if now > next || ten > 1_000_000 || next - now >= 4096 * ten {
+        return Err(Fail::new("too far"));
+    }
+    Ok(format!(in alloc; "{}", delta(now, next, ten))?)
+}
+
+#[test]
+fn delta_is_rounded_down(rt: HostRuntime) -> Result<(), Fail> {
+    let alloc = rt.alloc();
+    for line in DELTAS.lines() {
+        let (words, want) = line.split_once('|').ok_or("no bar")?;
+        assert_eq!(rt; delta_of(alloc, words)?.as_str(), want, "{words}");
+    }
+    Ok(())
+}
+
+/// Sections that are seen or asked about, each with its moment and its delta_t; after `|` whether they are of the frame under way. Time
+/// slicing: an announced burst begins ten milliseconds later, and not a microsecond before. A delta_t of 0 announces none.
+const SLICED: &str = "belongs 5 1|true
+see 5 1|
+belongs 10004 7|true
+belongs 10005 7|false
+see 20000 2|
+belongs 20005 7|true
+forget 0 0|
+belongs 40000 7|true
+see 5 0|
+belongs 4611686018427387903 7|true";
+
+/// Without time slicing the number of the frame alone decides. Number 0 follows 4,095.
+const NUMBERED: &str = "see 5 4095|
+belongs 9999999 4095|true
+belongs 5 0|false";
+
+/// real_time_parameters with this delta_t.
+fn time(delta: u16) -> RealTime {
+    RealTime {
+        delta,
+        table_boundary: false,
+        frame_boundary: false,
+        address: 0,
+    }
+}
+
+/// What a call answers.
+fn answer_of(
+    alloc: Global,
+    membership: &mut Membership,
+    words: &str,
+) -> Result<&'static str, Fail> {
+    let (call, numbers) = words.split_once(' ').ok_or("no number")?;
+    let numbers = numbers_of(alloc, numbers)?;
+    let [moment, delta] = *numbers.as_slice() else {
+        return Err(Fail::new("two numbers"));
+    };
+    let time = time(u16::try_from(delta)?);
+    match call {
+        "see" => membership.see(moment, &time),
+        "forget" => membership.forget(),
+        _ => {
+            return Ok(if membership.belongs(moment, &time) {
+                "true"
+            } else {
+                "false"
+            });
+        }
+    }
+    Ok("")
+}
+
+#[test]
+fn a_section_belongs_to_the_frame_under_way(rt: HostRuntime) -> Result<(), Fail> {
+    let alloc = rt.alloc();
+    for (sliced, calls) in [(true, SLICED), (false, NUMBERED)] {
+        let mut membership = Membership::new(sliced, 10000);
+        for line in calls.lines() {
+            let (words, want) = line.split_once('|').ok_or("no bar")?;
+            let answer = answer_of(alloc, &mut membership, words)?;
+            assert_eq!(rt; answer, want, "{words}");
+        }
+    }
+    Ok(())
+}
+
+/// Slots of a cycle, and after `|` the service that has it and the number of the slot in its window, where two windows touch.
+const SLOTS: &str = "99|None
+100|Some((3, 0))
+101|Some((3, 1))
+102|Some((1, 0))
+106|Some((1, 4))
+107|None";
+
+#[test]
+fn each_slot_has_one_owner(rt: HostRuntime) -> Result<(), Fail> {
+    let alloc = rt.alloc();
+    let list = [
+        Window {
+            service: 3,
+            start: 100,
+            length: 2,
+        },
+        Window {
+            service: 1,
+            start: 102,
+            length: 5,
+        },
+    ];
+    let windows = Windows::over(&list);
+    for line in SLOTS.lines() {
+        let (slot, want) = line.split_once('|').ok_or("no bar")?;
+        let owner = format!(in alloc; "{:?}", windows.owner(slot.parse::<u32>()?))?;
+        assert_eq!(rt; owner.as_str(), want, "{slot}");
+    }
+    Ok(())
+}

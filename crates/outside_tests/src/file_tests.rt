@@ -1,0 +1,264 @@
+//! What no clause says of the real objects: what the system sees of them. The files stand in the current folder.
+use crate::calls::{Calls, difference, loaded, sink_answer};
+use ipe_io::{
+    AddFault, Failed, FileRack, FileShelf, Rack, Shelf, Sink, Source, StdSink, StdSource, fill,
+    put_all, put_file,
+};
+use std::alloc::{AllocError as OutOfMemory, Global};
+use std::fs::File;
+use std::io::Write;
+use std::test::Fail;
+use std::{fs, io};
+
+/// That many bytes, in which no two that are 65,536 apart are equal.
+fn long_text(alloc: Global, size: u32) -> Result<Vec<u8>, OutOfMemory> {
+    let mut text = Vec::new(alloc);
+    for at in 0..size {
+        text.push((at % 251) as u8)?;
+    }
+    Ok(text)
+}
+
+/// Whether the shelf loads these bytes.
+fn loads<S: Shelf>(alloc: Global, shelf: &mut S, name: &str, want: &[u8]) -> bool {
+    match shelf.load(alloc, name) {
+        Ok(bytes) => bytes.as_slice() == want,
+        Err(_) => false,
+    }
+}
+
+/// Adds two files, and between them one in a folder that is not there, and writes a text to each, the second in two pieces. Answers
+/// whether each call did what it must.
+fn add_and_write<R: Rack>(
+    alloc: Global,
+    rack: &mut R,
+    first: &[u8],
+    second: &[u8],
+    flush: bool,
+) -> bool {
+    if rack.add(alloc, "ipe_io_a") != Ok(0) {
+        return false;
+    }
+    if rack.add(alloc, "no_such_folder/ipe_io") != Err(AddFault::Failed) {
+        return false;
+    }
+    if rack.add(alloc, "ipe_io_b") != Ok(1) {
+        return false;
+    }
+    let (front, back) = second.split_at(second.len() / 2);
+    if put_file(rack, 0, first).is_err()
+        || put_file(rack, 1, front).is_err()
+        || put_file(rack, 1, back).is_err()
+    {
+        return false;
+    }
+    !flush || rack.flush(0).is_ok() && rack.flush(1).is_ok()
+}
+
+/// Whether the calls of a rack did what they must, what its second file holds before and after the flush of all, and what the load of a
+/// file that is not there answers.
+fn held_back(rt: HostRuntime) -> Result<String, Fail> {
+    let alloc = rt.alloc();
+    let mut rack = FileRack::new(alloc, rt);
+    let mut shelf = FileShelf::new(rt);
+    let done = add_and_write(alloc, &mut rack, b"", b"123", false);
+    let before = loaded(alloc, &mut shelf, "ipe_io_b")?;
+    let flush = rack.flush_all();
+    let after = loaded(alloc, &mut shelf, "ipe_io_b")?;
+    let none = loaded(alloc, &mut shelf, "ipe_io_none")?;
+    Ok(format!(in alloc; "{done} [{before}] {flush:?} [{after}] {none}")?)
+}
+
+/// The same of a rack that was dropped without a flush.
+fn dropped(rt: HostRuntime) -> Result<String, Fail> {
+    let alloc = rt.alloc();
+    let mut rack = FileRack::new(alloc, rt);
+    let done = add_and_write(alloc, &mut rack, b"4", b"567", false);
+    drop(rack);
+    let after = loaded(alloc, &mut FileShelf::new(rt), "ipe_io_b")?;
+    Ok(format!(in alloc; "{done} [{after}]")?)
+}
+
+/// Whether two files of a new rack that is flushed hold these texts and nothing else.
+fn rewritten(rt: HostRuntime, first: &[u8], second: &[u8]) -> bool {
+    let alloc = rt.alloc();
+    let mut rack = FileRack::new(alloc, rt);
+    let mut shelf = FileShelf::new(rt);
+    add_and_write(alloc, &mut rack, first, second, true)
+        && loads(alloc, &mut shelf, "ipe_io_a", first)
+        && loads(alloc, &mut shelf, "ipe_io_b", second)
+}
+
+/// Three runs over the same two files, with texts of these lengths: how many did what they must.
+fn runs_that_rewrite(rt: HostRuntime) -> Result<u32, Fail> {
+    let text = long_text(rt.alloc(), 70_000)?;
+    let mut runs: u32 = 0;
+    for (first, second) in [(70_000, 65_537), (65_536, 3), (1, 0)] {
+        let first = text.get(..first).ok_or("a short text")?;
+        let second = text.get(7..7 + second).ok_or("a short text")?;
+        if rewritten(rt, first, second) {
+            runs = runs.saturating_add(1);
+        }
+    }
+    Ok(runs)
+}
+
+/// Files of the folder: a rack writes them, a shelf loads them, and what a rack holds back is written by a flush, and when the rack is
+/// dropped. Each run's rack empties the files that are there: shorter texts replace longer ones, also ones longer than the 64 KiB that
+/// are held back.
+#[test]
+fn a_rack_writes_files(rt: HostRuntime) -> Result<(), Fail> {
+    assert_eq!(rt; held_back(rt)?.as_str(), "true [] Ok(()) [123] Failed");
+    assert_eq!(rt; dropped(rt)?.as_str(), "true [567]");
+    assert_eq!(rt; runs_that_rewrite(rt)?, 3);
+    fs::remove_file(&rt, "ipe_io_a")?;
+    fs::remove_file(&rt, "ipe_io_b")?;
+    Ok(())
+}
+
+/// A file that takes one byte a call.
+#[derive(Drop)]
+struct ByteByByte {
+    file: File,
+}
+
+impl Write for ByteByByte {
+    fn write(&mut self, piece: &[u8]) -> io::Result<usize> {
+        self.file.write(&piece[..piece.len().min(1)])
+    }
+
+    fn flush(&mut self) -> io::Result<()> {
+        self.file.flush()
+    }
+}
+
+/// A sink, and a shelf that loads the file which it writes.
+#[derive(Drop)]
+struct Written<K: Sink + Drop, S: Shelf + Drop> {
+    sink: K,
+    shelf: S,
+}
+
+/// `load` answers what the file holds; other calls are those of the sink.
+impl<K: Sink + Drop, S: Shelf + Drop> Calls for Written<K, S> {
+    fn answer(&mut self, alloc: Global, call: &str) -> Result<String, Fail> {
+        match call {
+            "load" => loaded(alloc, &mut self.shelf, "ipe_io_c"),
+            _ => sink_answer(alloc, &mut self.sink, call),
+        }
+    }
+}
+
+/// The sink holds nothing back, and its writer takes one byte a call.
+const BYTE_BY_BYTE: &str = "write abc|Ok(1)
+write |Ok(0)
+put bcdef|Ok(())
+load|abcdef";
+
+/// The sink holds bytes back.
+const BUFFERED: &str = "put 98|Ok(())
+put 7|Ok(())
+load|
+flush|Ok(())
+load|987";
+
+/// What differs in the calls of the first sink.
+fn byte_by_byte_difference(rt: HostRuntime) -> Result<String, Fail> {
+    let file = fs::create(&rt, "ipe_io_c")?;
+    let sink = StdSink::new(ByteByByte { file });
+    let shelf = FileShelf::new(rt);
+    difference(rt.alloc(), &mut Written { sink, shelf }, BYTE_BY_BYTE)
+}
+
+/// What differs in the calls of the second sink.
+fn buffered_difference(rt: HostRuntime) -> Result<String, Fail> {
+    let sink = StdSink::buffered(rt.alloc(), fs::create(&rt, "ipe_io_c")?)?;
+    let shelf = FileShelf::new(rt);
+    difference(rt.alloc(), &mut Written { sink, shelf }, BUFFERED)
+}
+
+/// A sink reports what its writer took, and no more. One that holds nothing back writes at once, the other at the flush.
+#[test]
+fn a_sink_writes_a_file(rt: HostRuntime) -> Result<(), Fail> {
+    assert_eq!(rt; byte_by_byte_difference(rt)?.as_str(), "");
+    assert_eq!(rt; buffered_difference(rt)?.as_str(), "");
+    fs::remove_file(&rt, "ipe_io_c")?;
+    Ok(())
+}
+
+/// Writes and flushes a text: 1,024 bytes, then 69,632, more than are held back, and then 1,024 each time.
+fn put_text<K: Sink>(sink: &mut K, text: &[u8]) -> Result<(), Failed> {
+    let (short, rest) = text.split_at(text.len().min(1024));
+    let (long, rest) = rest.split_at(rest.len().min(69_632));
+    put_all(sink, short)?;
+    put_all(sink, long)?;
+    for piece in rest.chunks(1024) {
+        put_all(sink, piece)?;
+    }
+    sink.flush()
+}
+
+/// The end of each call that writes a text to a file and then a byte 8, whether a shelf loads the text, and why it loads no more.
+fn long_written(rt: HostRuntime, text: &[u8]) -> Result<String, Fail> {
+    let alloc = rt.alloc();
+    let mut sink = StdSink::buffered(alloc, fs::create(&rt, "ipe_io_d")?)?;
+    let mut shelf = FileShelf::new(rt);
+    let whole = put_text(&mut sink, text);
+    let same = loads(alloc, &mut shelf, "ipe_io_d", text);
+    let last = put_text(&mut sink, b"8");
+    let fault = shelf.load(alloc, "ipe_io_d").err();
+    Ok(format!(in alloc; "{whole:?} {same} {last:?} {fault:?}")?)
+}
+
+/// How many pieces of 188 bytes of a source are those of the text, how many of them are lent, not moved, and how many bytes are left in
+/// `rest` after them.
+fn lent_and_moved<S: Source>(source: &mut S, text: &[u8], rest: &mut [u8; 188]) -> (u32, u32, u32) {
+    let mut same: u32 = 0;
+    let mut lent: u32 = 0;
+    for want in text.chunks_exact(188) {
+        if let Some(piece) = source.lend(188) {
+            lent = lent.saturating_add(1);
+            if piece == want {
+                same = same.saturating_add(1);
+            }
+        } else if fill(source, rest) == Ok(188) && rest.as_slice() == want {
+            same = same.saturating_add(1);
+        }
+    }
+    (
+        same,
+        lent,
+        fill(source, rest).map_or(999, |count| count as u32),
+    )
+}
+
+/// The numbers of that text's file, and the last byte.
+fn read_back(rt: HostRuntime, text: &[u8]) -> Result<String, Fail> {
+    let alloc = rt.alloc();
+    let mut source = StdSource::new(alloc, fs::open(&rt, "ipe_io_d")?)?;
+    let mut rest = [0; 188];
+    let (same, lent, left) = lent_and_moved(&mut source, text, &mut rest);
+    Ok(format!(in alloc; "{same} {lent} {left} {:?}", rest.get(100))?)
+}
+
+/// The longest text that a shelf loads, written and read.
+fn longest(rt: HostRuntime) -> Result<String, Fail> {
+    let text = long_text(rt.alloc(), 1_048_576)?;
+    let written = long_written(rt, &text)?;
+    let read = read_back(rt, &text)?;
+    Ok(format!(in rt.alloc(); "{written}, {read}")?)
+}
+
+/// The longest file that a shelf loads has 1,048,576 bytes. A file is read as it was written: what a source lends and what it moves are
+/// together its bytes in order. The first record of 188 bytes and each that lies across one of 15 ends of the buffer of 65,536 bytes is
+/// moved, and those after it are lent: all but 16 of 5,577, and 101 bytes are left, of which the last is the 8.
+#[test]
+fn the_longest_file_is_read_as_it_was_written(rt: HostRuntime) -> Result<(), Fail> {
+    let text = longest(rt)?;
+    assert_eq!(rt;
+        text.as_str(),
+        "Ok(()) true Ok(()) Some(TooLong), 5577 5561 101 Some(56)"
+    );
+    fs::remove_file(&rt, "ipe_io_d")?;
+    Ok(())
+}

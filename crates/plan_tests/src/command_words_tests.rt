@@ -1,0 +1,72 @@
+//! What no clause says: that with ample memory words are read so.
+
+use command_words::{Command, WordsFault, parse_words};
+use std::alloc::Global;
+use std::test::Fail;
+
+/// What words are read as; no words where the text is empty.
+fn read_of(alloc: Global, text: &str) -> Result<String, Fail> {
+    let mut words = Vec::new(alloc);
+    if !text.is_empty() {
+        for word in text.split('/') {
+            words.push(word.to_string(alloc)?)?;
+        }
+    }
+    let read = match parse_words(alloc, &words) {
+        Ok(Command::Send(name)) => format!(in alloc; "send {name}")?,
+        Ok(Command::Receive(name)) => format!(in alloc; "receive {name}")?,
+        Ok(Command::Check(name)) => format!(in alloc; "check {name}")?,
+        Ok(Command::Ule(pid)) => format!(in alloc; "ule {pid}")?,
+        Ok(Command::Sample(number)) => format!(in alloc; "sample {number}")?,
+        Err(WordsFault::Usage) => "usage".to_string(alloc)?,
+        Err(WordsFault::OutOfMemory) => "out of memory".to_string(alloc)?,
+    };
+    Ok(read)
+}
+
+/// Words, with a slash between two, and what they are read as.
+const LINES: &str = "send/a.toml|send a.toml
+receive/a.toml|receive a.toml
+check/a-b|check a-b
+check/check|check check
+ule/0|ule 0
+ule/0256|ule 256
+ule/8190|ule 8190
+sample/0000000001|sample 1
+sample/4294967295|sample 4294967295
+|usage
+send|usage
+send/a/b|usage
+send/|usage
+send/-a|usage
+sen/a|usage
+Send/a|usage
+help/a|usage
+help/send|usage
+--help|usage
+--help/a|usage
+-h/a|usage
+--version/a|usage
+--/a|usage
+check/--|usage
+/a|usage
+ule/|usage
+ule/8191|usage
+ule/00256|usage
+ule/0x100|usage
+ule/+256|usage
+ule/-1|usage
+sample/4294967296|usage
+sample/00000000001|usage
+sample/1 |usage";
+
+#[test]
+fn words_are_read_so(rt: HostRuntime) -> Result<(), Fail> {
+    let alloc = rt.alloc();
+    for line in LINES.lines() {
+        let (words, want) = line.split_once('|').ok_or("no bar")?;
+        let read = read_of(alloc, words)?;
+        assert_eq!(rt; read.as_str(), want, "{words}");
+    }
+    Ok(())
+}

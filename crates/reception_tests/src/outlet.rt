@@ -1,0 +1,88 @@
+//! An outlet that counts, and how counts rise, as text.
+use ipe_io::{Failed, Outlet};
+use std::alloc::AllocError as OutOfMemory;
+
+/// The service of all tests.
+pub(crate) const SERVICE: u32 = 3;
+
+/// RFC 791 section 3.1: a datagram of 20 bytes, its header alone, to 239.1.2.3.
+pub(crate) const DATAGRAM: [u8; 20] = [
+    0x45, 0, 0, 20, 0, 0, 0, 0, 0x40, 0x11, 0, 0, 10, 0, 0, 1, 239, 1, 2, 3,
+];
+
+/// An outlet of eight services that takes so many datagrams and refuses all after them.
+#[derive(Clone, Copy)]
+pub(crate) struct Noted {
+    /// How many more it takes.
+    room: u64,
+    /// How often it took `DATAGRAM` for the service.
+    delivered: u64,
+    /// How often it took another, or one for another service.
+    others: u64,
+    /// How often it refused one.
+    refused: u64,
+}
+
+impl Noted {
+    pub(crate) fn new(room: u64) -> Noted {
+        Noted {
+            room,
+            delivered: 0,
+            others: 0,
+            refused: 0,
+        }
+    }
+}
+
+impl Outlet for Noted {
+    ghost use Rattle.std.specs.Prelude.{◌≡◌};
+
+    ghost services = { λ _. 8 };
+
+    ghost faults = { λ noted. noted.refused };
+
+    ghost StandsFor = { λ _ _. Unit {0} };
+
+    ghost Refused = { λ _ _ _. Unit {0} };
+
+    fn deliver(&mut self, service: u32, datagram: &[u8]) -> Result<(), Failed> {
+        if self.room == 0 {
+            self.refused = self.refused.saturating_add(1);
+            return Err(Failed);
+        }
+        self.room -= 1;
+        if service == SERVICE && datagram == DATAGRAM.as_slice() {
+            self.delivered = self.delivered.saturating_add(1);
+        } else {
+            self.others = self.others.saturating_add(1);
+        }
+        Ok(())
+    }
+}
+
+/// Appends a number's name and how much it rose, where it did.
+pub(crate) fn put_rise(
+    text: &mut String,
+    name: &str,
+    old: u64,
+    new: u64,
+) -> Result<(), OutOfMemory> {
+    if new > old {
+        if !text.is_empty() {
+            text.push(' ')?;
+        }
+        write!(text, "{name} {}", new - old)?;
+    }
+    Ok(())
+}
+
+/// Appends what an outlet took and refused since an earlier state.
+pub(crate) fn put_deliveries(
+    text: &mut String,
+    old: &Noted,
+    new: &Noted,
+) -> Result<(), OutOfMemory> {
+    put_rise(text, "delivered", old.delivered, new.delivered)?;
+    put_rise(text, "others", old.others, new.others)?;
+    put_rise(text, "refused", old.refused, new.refused)
+}

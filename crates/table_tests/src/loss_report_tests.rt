@@ -1,0 +1,180 @@
+//! Whole reports, compared with texts written by hand.
+
+use addr_rules::{Rule, parse_rule};
+use ip_datagram::IpAddress;
+use loss_report::{Report, ServiceCounts, StreamCounts};
+use std::alloc::Global;
+use std::test::Fail;
+
+/// Two services, a table and a version: an MPE-FEC service of which 56 packets were lost in a row, and a ULE service that lost none.
+const REALISTIC: &[u8] = b"scope,name,value
+stream,records,1817
+stream,tail_bytes,0
+stream,unreadable,0
+stream,without_payload,0
+stream,other,0
+lecture,heard,1046
+lecture,repeats,0
+lecture,gaps,1
+lecture,units,155
+lecture,bad_check,0
+lecture,delimited,1
+lecture,bad_length,0
+lecture,unread,0
+lecture,filtered,0
+lecture,frames,1
+lecture,rows_mended,1024
+lecture,rows_left,0
+lecture,datagrams,100
+files,heard,770
+files,repeats,0
+files,gaps,0
+files,units,100
+files,bad_check,0
+files,delimited,0
+files,bad_length,0
+files,unread,0
+files,filtered,0
+files,frames,0
+files,rows_mended,0
+files,rows_left,0
+files,datagrams,100
+table,units,1
+table,refused,0
+table,version,31
+rule,239.1.0.0/16,1
+rule,239.2.0.0/16,2
+";
+
+/// No service, each number of the stream another, the largest among them; an IPv6 rule of the prefix for documentation
+/// (RFC 3849), all of it and none of it, and an IPv4 rule with numbers of one to three digits.
+const RULES: &[u8] = b"scope,name,value
+stream,records,18446744073709551615
+stream,tail_bytes,187
+stream,unreadable,10
+stream,without_payload,9
+stream,other,1
+table,units,3
+table,refused,255
+rule,2001:0db8:0000:0000:00ab:cdef:0000:0001/128,0
+rule,0000:0000:0000:0000:0000:0000:0000:0000/0,255
+rule,10.0.255.99/32,10
+";
+
+const NOTHING: ServiceCounts = ServiceCounts {
+    heard: 0,
+    repeats: 0,
+    gaps: 0,
+    units: 0,
+    bad_check: 0,
+    delimited: 0,
+    bad_length: 0,
+    unread: 0,
+    filtered: 0,
+    frames: 0,
+    rows_mended: 0,
+    rows_left: 0,
+    datagrams: 0,
+};
+
+fn v4(address: [u8; 4], slash: u8) -> Rule {
+    Rule {
+        address: IpAddress::V4(address),
+        slash,
+    }
+}
+
+fn v6(address: [u8; 16], slash: u8) -> Rule {
+    Rule {
+        address: IpAddress::V6(address),
+        slash,
+    }
+}
+
+#[test]
+fn a_whole_report_is_printed(rt: HostRuntime) -> Result<(), Fail> {
+    let stream = StreamCounts {
+        records: 1817,
+        tail_bytes: 0,
+        unreadable: 0,
+        without_payload: 0,
+        other: 0,
+    };
+    let lecture = ServiceCounts {
+        heard: 1046,
+        gaps: 1,
+        units: 155,
+        delimited: 1,
+        frames: 1,
+        rows_mended: 1024,
+        datagrams: 100,
+        ..NOTHING
+    };
+    let files = ServiceCounts {
+        heard: 770,
+        units: 100,
+        datagrams: 100,
+        ..NOTHING
+    };
+    let mut report = Report::new(rt.alloc(), stream);
+    report.add_service("lecture", lecture)?;
+    report.add_service("files", files)?;
+    report.add_table(1, 0)?;
+    report.add_version(31)?;
+    report.add_rule(&v4([239, 1, 0, 0], 16), 1)?;
+    report.add_rule(&v4([239, 2, 0, 0], 16), 2)?;
+    let text = report.text(rt.alloc())?;
+    assert_eq!(rt; text.as_slice(), REALISTIC);
+    Ok(())
+}
+
+#[test]
+fn rules_of_both_versions_are_printed(rt: HostRuntime) -> Result<(), Fail> {
+    let stream = StreamCounts {
+        records: 18446744073709551615,
+        tail_bytes: 187,
+        unreadable: 10,
+        without_payload: 9,
+        other: 1,
+    };
+    let documented = [
+        0x20, 1, 0x0D, 0xB8, 0, 0, 0, 0, 0, 0xAB, 0xCD, 0xEF, 0, 0, 0, 1,
+    ];
+    let mut report = Report::new(rt.alloc(), stream);
+    report.add_table(3, 255)?;
+    report.add_rule(&v6(documented, 128), 0)?;
+    report.add_rule(&v6([0; 16], 0), 255)?;
+    report.add_rule(&v4([10, 0, 255, 99], 32), 10)?;
+    let text = report.text(rt.alloc())?;
+    assert_eq!(rt; text.as_slice(), RULES);
+    Ok(())
+}
+
+/// What is read of the rule in the last line of a report.
+fn read_again(alloc: Global, rule: &Rule) -> Result<Option<Rule>, Fail> {
+    let stream = StreamCounts {
+        records: 0,
+        tail_bytes: 0,
+        unreadable: 0,
+        without_payload: 0,
+        other: 0,
+    };
+    let mut report = Report::new(alloc, stream);
+    report.add_rule(rule, 1)?;
+    let bytes = report.text(alloc)?;
+    let text = std::str::from_utf8(&bytes)?;
+    let (_, line) = text.split_once("rule,").ok_or("no line of a rule")?;
+    let (printed, _) = line.split_once(',').ok_or("no second comma")?;
+    Ok(parse_rule(printed))
+}
+
+#[test]
+fn a_printed_rule_is_read_again(rt: HostRuntime) -> Result<(), Fail> {
+    let mut global = [0; 16];
+    global[0] = 0xFF;
+    global[1] = 0x0E;
+    for rule in [v4([239, 1, 0, 0], 16), v4([0; 4], 0), v6(global, 16)] {
+        assert_eq!(rt; read_again(rt.alloc(), &rule)?, Some(rule));
+    }
+    Ok(())
+}

@@ -1,0 +1,156 @@
+//! Addresses and texts from the standards, and texts at their edges.
+use crate::cases::assert_cases;
+use addr_rules::{Label, MacList, Rule, RuleList, mac_of, matches, parse_mac, parse_rule, wants};
+use hex::FromHex;
+use ip_datagram::IpAddress;
+use std::alloc::Global;
+use std::test::Fail;
+
+/// What the text of a rule is read as: the bytes of its address, and how many bits count.
+fn rule_of(alloc: Global, given: &str) -> Result<String, Fail> {
+    let text = match parse_rule(given) {
+        Some(
+            Rule {
+                address: IpAddress::V4(bytes),
+                slash,
+            },
+        ) => format!(in alloc; "{bytes:?} {slash}")?,
+        Some(
+            Rule {
+                address: IpAddress::V6(bytes),
+                slash,
+            },
+        ) => format!(in alloc; "{} {slash}", hex::encode(alloc, bytes)?)?,
+        None => "none".to_string(alloc)?,
+    };
+    Ok(text)
+}
+
+/// Spellings of RFC 4291 section 2.2, and what is left out of them here. 2001:db8::/32 is for documentation (RFC 3849).
+const RULES: &str = "\
+239.1.0.0/16|[239, 1, 0, 0] 16
+0.0.0.0/0|[0, 0, 0, 0] 0
+10.0.0.255/32|[10, 0, 0, 255] 32
+10.0.0.255/33|none
+10.0.0.255/31|none
+10.0.0.256/32|none
+10.0.00.0/8|none
+10.0.0/8|none
+10.0.0.0.0/8|none
+10.0.0.0/08|none
+10.0.0.0|none
+2001:db8::1/128|20010db8000000000000000000000001 128
+2001:DB8:0:0:0:0:0:0001/128|20010db8000000000000000000000001 128
+2001:db8:0:0:0:0::1/128|20010db8000000000000000000000001 128
+::/0|00000000000000000000000000000000 0
+ff0e::/16|ff0e0000000000000000000000000000 16
+ff0e::/14|none
+2001:db8:0:0:0:0:0::1/128|none
+2001:db8::0::1/128|none
+2001:db8:::1/128|none
+2001:db8:1/128|none
+20010:db8::/32|none
+::/129|none";
+
+/// What the text of a MAC address is read as.
+fn mac_in(alloc: Global, given: &str) -> Result<String, Fail> {
+    let text = match parse_mac(given) {
+        Some(mac) => hex::encode(alloc, mac)?,
+        None => "none".to_string(alloc)?,
+    };
+    Ok(text)
+}
+
+const MACS: &str = "\
+02:00:5e:AB:cd:0F|02005eabcd0f
+02:00:5e:AB:cd:0|none
+02:00:5e:AB:cd:0F:|none
+02-00-5e-AB-cd-0F|none
+02:00:5e:AB:cg:0F|none";
+
+#[test]
+fn rules_and_mac_addresses_are_read(rt: HostRuntime) -> Result<(), Fail> {
+    assert_cases(&rt, rt.alloc(), rule_of, RULES)?;
+    assert_cases(&rt, rt.alloc(), mac_in, MACS)
+}
+
+/// The MAC address of the destination that a rule has, where that of unicast is 02:02:02:02:02:02.
+fn mac_to(alloc: Global, given: &str) -> Result<String, Fail> {
+    let rule = parse_rule(given).ok_or("no rule")?;
+    Ok(hex::encode(alloc, mac_of(&rule.address, [2; 6]))?)
+}
+
+/// RFC 1112 section 6.4 and RFC 2464 section 7.
+const DESTINATIONS: &str = "\
+239.129.2.3/32|01005e010203
+224.0.0.1/32|01005e000001
+240.0.0.1/32|020202020202
+255.255.255.255/32|ffffffffffff
+ff0e::102:304/128|333301020304
+2001:db8::1/128|020202020202";
+
+#[test]
+fn destinations_have_their_mac_address(rt: HostRuntime) -> Result<(), Fail> {
+    assert_cases(&rt, rt.alloc(), mac_to, DESTINATIONS)
+}
+
+/// Whether the first rule matches the address of the second.
+fn is_matched(alloc: Global, given: &str) -> Result<String, Fail> {
+    let (rule, other) = given.split_once(' ').ok_or("one rule")?;
+    let rule = parse_rule(rule).ok_or("no rule")?;
+    let other = parse_rule(other).ok_or("no rule")?;
+    Ok(format!(in alloc; "{}", matches(&rule, &other.address))?)
+}
+
+const MATCHES: &str = "\
+239.1.128.0/17 239.1.255.9/32|true
+239.1.128.0/17 239.1.127.9/32|false
+239.1.128.0/17 238.1.128.0/32|false
+239.1.128.0/17 ::/128|false";
+
+/// The label of these digits.
+fn label_of(digits: &str) -> Result<Label, Fail> {
+    match digits.len() {
+        6 => Ok(Label::Three(<[u8; 3]>::from_hex(digits)?)),
+        12 => Ok(Label::Six(<[u8; 6]>::from_hex(digits)?)),
+        _ => Ok(Label::Broadcast),
+    }
+}
+
+/// Whether a filter of one MAC address, or of none, wants a label.
+fn is_wanted(alloc: Global, given: &str) -> Result<String, Fail> {
+    let (mac, label) = given.split_once(' ').ok_or("no label")?;
+    let mut filter = MacList::new(alloc);
+    if let Some(mac) = parse_mac(mac) {
+        filter.push(mac)?;
+    }
+    Ok(format!(in alloc; "{}", wants(&filter, &label_of(label)?))?)
+}
+
+const LABELS: &str = "\
+none 010203|true
+02:02:02:02:02:02 020202020202|true
+02:02:02:02:02:02 030303030303|false
+02:02:02:02:02:02 ffffffffffff|true
+02:02:02:02:02:02 020202|false
+02:02:02:02:02:02 broadcast|true";
+
+#[test]
+fn bits_and_labels_are_compared(rt: HostRuntime) -> Result<(), Fail> {
+    assert_cases(&rt, rt.alloc(), is_matched, MATCHES)?;
+    assert_cases(&rt, rt.alloc(), is_wanted, LABELS)
+}
+
+#[test]
+fn lists_have_what_was_pushed(rt: HostRuntime) -> Result<(), Fail> {
+    let rule = parse_rule("239.1.128.0/17").ok_or("no rule")?;
+    let mut rules = RuleList::new(rt.alloc());
+    rules.push(rule)?;
+    assert_eq!(rt; rules.len(), 1);
+    assert_eq!(rt; *rules.at(0), rule);
+    let mut filter = MacList::new(rt.alloc());
+    filter.push([2; 6])?;
+    assert_eq!(rt; filter.len(), 1);
+    assert_eq!(rt; *filter.at(0), [2; 6]);
+    Ok(())
+}

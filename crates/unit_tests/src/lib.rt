@@ -1,0 +1,26 @@
+//! Tests of what carries units: bytes and texts by hand -> [ip_datagram, addr_rules, ts_packet, unit_stream, section_codec, mpe_section,
+//! ule_unit, ule_extension] -> fields, bytes and faults.
+//!
+//! Tests alone. They stand apart from the crates that they test, so that each of these is proved once.
+#![tactic(auto)]
+
+#[cfg(test)]
+mod addr_rules_tests;
+#[cfg(test)]
+mod cases;
+#[cfg(test)]
+mod ip_datagram_tests;
+#[cfg(test)]
+mod mpe_section_tests;
+#[cfg(test)]
+mod section_codec_tests;
+#[cfg(test)]
+mod small_form;
+#[cfg(test)]
+mod ts_packet_tests;
+#[cfg(test)]
+mod ule_extension_tests;
+#[cfg(test)]
+mod ule_unit_tests;
+#[cfg(test)]
+mod unit_stream_tests;

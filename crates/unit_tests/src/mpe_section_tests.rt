@@ -1,0 +1,180 @@
+//! Sections by the syntax of EN 301 192, written by hand; an independent program gave their CRC_32.
+use crate::cases::{assert_cases, bytes_of};
+use hex::FromHex;
+use mpe_section::{Fec, RealTime, read_fec, read_mpe, write_fec, write_mpe, write_mpe_around};
+use section_codec::SectionRef;
+use std::alloc::Global;
+use std::test::Fail;
+
+const MAC: [u8; 6] = [1, 0, 0x5E, 1, 2, 3];
+
+/// An IPv4 datagram of its header alone, to 239.1.2.3.
+const DATAGRAM: &str = "4500001400000000401100000a000001ef010203";
+
+/// delta_t, table_boundary, frame_boundary and address.
+fn text_of(alloc: Global, real_time: &RealTime) -> Result<String, Fail> {
+    let RealTime {
+        delta,
+        table_boundary,
+        frame_boundary,
+        address,
+    } = *real_time;
+    Ok(format!(in alloc; "{delta} {table_boundary} {frame_boundary} {address}")?)
+}
+
+/// A table_id and a body -> MAC address, real-time parameters and datagram, or the fault.
+fn mpe_of(alloc: Global, given: &str) -> Result<String, Fail> {
+    let (table_id, body) = given.split_once(' ').ok_or("no body")?;
+    let [table_id] = <[u8; 1]>::from_hex(table_id)?;
+    let body = bytes_of(alloc, body)?;
+    let text = match read_mpe(&SectionRef {
+        table_id,
+        body: &body,
+    }) {
+        Ok(mpe) => {
+            let mac = hex::encode(alloc, mpe.mac)?;
+            let real_time = text_of(alloc, &mpe.real_time)?;
+            let datagram = hex::encode(alloc, mpe.datagram)?;
+            format!(in alloc; "{mac} {real_time} {datagram}")?
+        }
+        Err(fault) => format!(in alloc; "{fault:?}")?,
+    };
+    Ok(text)
+}
+
+/// EN 301 192 clause 7: each field at its place, the first four bytes of the address as parameters too, and bytes after the
+/// datagram. Then one byte is changed, the table_id is another, or the datagram is missing.
+const DATAGRAMS: &str = "\
+3e 0302c1 0000 015e0001 45000014 00000000401100000a000001 ef010203 ff|01005e010203 21 true true 131073 4500001400000000401100000a000001ef010203
+3e 0302c0 0000 015e0001 45000014 00000000401100000a000001 ef010203|Next
+3e 0302e1 0000 015e0001 45000014 00000000401100000a000001 ef010203|Scrambled
+3e 0302c5 0000 015e0001 45000014 00000000401100000a000001 ef010203|Scrambled
+3e 0302c3 0000 015e0001 45000014 00000000401100000a000001 ef010203|LlcSnap
+3e 0302c1 0100 015e0001 45000014 00000000401100000a000001 ef010203|Numbers
+3e 0302c1 0001 015e0001 45000014 00000000401100000a000001 ef010203|Numbers
+3e 0302c1 0000 015e0001 55000014 00000000401100000a000001 ef010203|Datagram(Version)
+3e 0302c1 0000 015e0001 45000015 00000000401100000a000001 ef010203|Datagram(Length)
+3f 0302c1 0000 015e0001 45000014 00000000401100000a000001 ef010203|Table
+3e 0302c1 0000|Datagram(Short)";
+
+#[test]
+fn datagrams_are_read_and_each_fault_is_named(rt: HostRuntime) -> Result<(), Fail> {
+    assert_cases(&rt, rt.alloc(), mpe_of, DATAGRAMS)
+}
+
+/// The same section is written, and no byte after it; what it has around the datagram; and one with delta_t 200, table_boundary
+/// and address 6,720 in the place of the address's first four bytes (EN 301 192 clause 9).
+#[test]
+fn datagrams_are_written(rt: HostRuntime) -> Result<(), Fail> {
+    let alloc = rt.alloc();
+    let datagram = <[u8; 20]>::from_hex(DATAGRAM)?;
+    let mut into = [0xEE; 37];
+    let end = write_mpe(MAC, None, &datagram, &mut into);
+    assert_eq!(rt; end, 36);
+    let want = "3eb0210302c10000015e00014500001400000000401100000a000001ef010203599a2733ee";
+    assert_eq!(rt; hex::encode(alloc, into)?.as_str(), want);
+    let mut around = [0; 16];
+    let head = write_mpe_around(MAC, &datagram, &mut around);
+    assert_eq!(rt; head, 12);
+    assert_eq!(rt;
+        hex::encode(alloc, around)?.as_str(),
+        "3eb0210302c10000015e0001599a2733"
+    );
+    let real_time = RealTime {
+        delta: 200,
+        table_boundary: true,
+        frame_boundary: false,
+        address: 6720,
+    };
+    let end = write_mpe(MAC, Some(real_time), &datagram, &mut into);
+    assert_eq!(rt; end, 36);
+    let want = "3eb0210302c100000c881a404500001400000000401100000a000001ef0102033a8978beee";
+    assert_eq!(rt; hex::encode(alloc, into)?.as_str(), want);
+    Ok(())
+}
+
+/// EN 301 192 clause 7: the longest datagram fills a section of 4,096 bytes.
+#[test]
+fn a_datagram_of_4080_bytes_fills_a_section(rt: HostRuntime) -> Result<(), Fail> {
+    let mut datagram = [0u8; 4080];
+    datagram[..20].copy_from_slice(&<[u8; 20]>::from_hex(
+        "45000ff000000000401100000a000001ef010203",
+    )?);
+    let mut into = [0u8; 4096];
+    let end = write_mpe(MAC, None, &datagram, &mut into);
+    assert_eq!(rt; end, 4096);
+    let want =
+        "3ebffd 0302c1 0000 015e0001 45000ff0 00000000401100000a000001 ef010203 00*4060 64a8f067";
+    assert!(rt; into.as_slice() == bytes_of(rt.alloc(), want)?.as_slice());
+    Ok(())
+}
+
+/// Rows, a table_id and a body -> padding columns, section_number, last_section_number, real-time parameters and column, or the
+/// fault.
+fn fec_of(alloc: Global, given: &str) -> Result<String, Fail> {
+    let (rows, section) = given.split_once(' ').ok_or("no section")?;
+    let (table_id, body) = section.split_once(' ').ok_or("no body")?;
+    let [table_id] = <[u8; 1]>::from_hex(table_id)?;
+    let body = bytes_of(alloc, body)?;
+    let section = SectionRef {
+        table_id,
+        body: &body,
+    };
+    let text = match read_fec(&section, rows.parse::<u16>()?) {
+        Ok(fec) => {
+            let real_time = text_of(alloc, &fec.real_time)?;
+            let column = hex::encode(alloc, fec.column)?;
+            format!(in alloc;
+                "{} {} {} {real_time} {column}",
+                fec.padding, fec.number, fec.last
+            )?
+        }
+        Err(fault) => format!(in alloc; "{fault:?}")?,
+    };
+    Ok(text)
+}
+
+/// EN 301 192 clause 9: two rows, and each fault by one byte that is changed or missing.
+const COLUMNS: &str = "\
+2 78 beffff 05 3f 00140500 0708|190 5 63 1 false true 1280 0708
+512 78 beffff 05 3f 00140500 07*256|Rows
+1 78 befffe 05 3f 00000000 07|Next
+1 78 bfffff 05 3f 00000000 07|Padding
+1 78 beffff 05 04 00000000 07|Number
+1 78 beffff 05 40 00000000 07|Number
+0 3e beffff 05 3f 000000|Table
+0 78 beffff 05 3f 000000|Rows";
+
+#[test]
+fn columns_are_read_and_each_fault_is_named(rt: HostRuntime) -> Result<(), Fail> {
+    assert_cases(&rt, rt.alloc(), fec_of, COLUMNS)
+}
+
+/// EN 301 192 clause 9: a column of 256 rows is written, and read again.
+#[test]
+fn a_column_is_written_and_read(rt: HostRuntime) -> Result<(), Fail> {
+    let column = [7u8; 256];
+    let fec = Fec {
+        padding: 190,
+        number: 5,
+        last: 63,
+        real_time: RealTime {
+            delta: 1,
+            table_boundary: false,
+            frame_boundary: true,
+            address: 1280,
+        },
+        column: &column,
+    };
+    let mut into = [0u8; 272];
+    let end = write_fec(&fec, &mut into);
+    assert_eq!(rt; end, 272);
+    let want = "78b10d beffff 05 3f 00140500 07*256 abbaf929";
+    assert!(rt; into.as_slice() == bytes_of(rt.alloc(), want)?.as_slice());
+    let section = SectionRef {
+        table_id: 0x78,
+        body: &into[3..268],
+    };
+    assert_eq!(rt; read_fec(&section, 256), Ok(fec));
+    Ok(())
+}

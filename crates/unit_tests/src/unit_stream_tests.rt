@@ -1,0 +1,196 @@
+//! Packets by hand and the events that they give; units by hand and the packets that they fill.
+use crate::cases::{assert_cases, bytes_of};
+use crate::small_form::SmallForm;
+use std::alloc::{AllocError, Global};
+use std::test::Fail;
+use ts_packet::{Link, Packet};
+use unit_stream::{JoinEvent, Joiner, Listener, Packer, UnitForm, count_packets};
+
+/// Writes an event.
+fn write_event(text: &mut String, event: &JoinEvent<'_>) -> Result<(), AllocError> {
+    match event {
+        JoinEvent::Unit { moment, bytes } => write!(text, "unit {moment} {bytes:?};"),
+        JoinEvent::BadCheck => write!(text, "bad check;"),
+        JoinEvent::Delimit => write!(text, "delimit;"),
+        JoinEvent::BadLength => write!(text, "bad length;"),
+    }
+}
+
+/// A packet with the bytes of its payload: how it follows, and whether a unit starts in it.
+#[derive(Drop)]
+struct Step {
+    link: Link,
+    starts: bool,
+    payload: Vec<u8>,
+}
+
+impl Step {
+    /// Reads the three.
+    fn of(alloc: Global, given: &str) -> Result<Step, Fail> {
+        let (link, given) = given.split_once(' ').ok_or("no indicator")?;
+        let (starts, payload) = given.split_once(' ').ok_or("no payload")?;
+        let link = match link {
+            "First" => Link::First,
+            "Next" => Link::Next,
+            "Repeat" => Link::Repeat,
+            _ => Link::Gap,
+        };
+        Ok(Step {
+            link,
+            starts: starts == "1",
+            payload: bytes_of(alloc, payload)?,
+        })
+    }
+
+    fn packet(&self) -> Packet<'_> {
+        Packet {
+            pid: 256,
+            starts: self.starts,
+            counter: 0,
+            broken: false,
+            payload: &self.payload,
+        }
+    }
+}
+
+/// Writes the next event, and answers whether there was one.
+fn write_next(
+    joiner: &mut Joiner<SmallForm, Global>,
+    packet: &Packet<'_>,
+    text: &mut String,
+) -> Result<bool, AllocError> {
+    match joiner.next(packet) {
+        None => Ok(false),
+        Some(event) => {
+            write_event(text, &event)?;
+            Ok(true)
+        }
+    }
+}
+
+/// The events of a packet, which `next` gives.
+fn events_of(
+    alloc: Global,
+    joiner: &mut Joiner<SmallForm, Global>,
+    step: &Step,
+    moment: u64,
+) -> Result<String, AllocError> {
+    let packet = step.packet();
+    let mut text = String::new(alloc);
+    joiner.feed(step.link, &packet, moment);
+    for _ in 0..10 {
+        if !write_next(joiner, &packet, &mut text)? {
+            break;
+        }
+    }
+    Ok(text)
+}
+
+/// Writes what it hears, up to the first event that fails.
+#[derive(Drop)]
+struct Writer {
+    text: String,
+    result: Result<(), AllocError>,
+}
+
+impl Listener for Writer {
+    ghost Hears = { λ _ _ _. Unit {0} };
+
+    fn hear(&mut self, event: &JoinEvent<'_>) {
+        if self.result.is_ok() {
+            self.result = write_event(&mut self.text, event);
+        }
+    }
+}
+
+/// The events of a packet, which a listener hears.
+fn heard_events(
+    alloc: Global,
+    joiner: &mut Joiner<SmallForm, Global>,
+    step: &Step,
+    moment: u64,
+) -> Result<String, AllocError> {
+    let mut writer = Writer {
+        text: String::new(alloc),
+        result: Ok(()),
+    };
+    joiner.take(step.link, &step.packet(), moment, &mut writer);
+    writer.result?;
+    Ok(writer.text)
+}
+
+/// The packets of one recording, each with how it follows, its start indicator, its payload and its events. A unit's first byte
+/// is its length, and a moment is a packet's place.
+const STEPS: &str = "\
+First 1 00 04 07 07|
+Next 0 08 63|unit 0 [4, 7, 7, 8];
+Next 1 00 04 07 07|
+Next 1 01 08 03 01 01 ff|unit 2 [4, 7, 7, 8];unit 3 [3, 1, 1];
+Next 1 00 04 07 07|
+Next 1 02 08 08 02 05|delimit;unit 5 [2, 5];
+Next 1 00 04 07 07|
+Next 1 09 01|delimit;
+Next 1 00 04 07 07|
+Gap 0 08 63|delimit;
+Next 1 00 04 07 07|
+Gap 1 09 01|delimit;
+Next 1 00 01 02 05|bad length;
+Next 1 00 02 09 03 01 01|bad check;unit 13 [3, 1, 1];
+Next 1 00 04 07 07|
+Repeat 1 00 04 07 07|
+Next 0 08|unit 14 [4, 7, 7, 8];
+Next 1 00 06 07|
+Next 0 07 07|
+Next 0 08 08 09|unit 17 [6, 7, 7, 7, 8, 8];";
+
+#[test]
+fn packets_give_their_events_in_order(rt: HostRuntime) -> Result<(), Fail> {
+    let alloc = rt.alloc();
+    let mut joiner = Joiner::<SmallForm, Global>::over(vec![in alloc; 0u8; SmallForm::LONGEST]?);
+    let mut telling = Joiner::<SmallForm, Global>::over(vec![in alloc; 0u8; SmallForm::LONGEST]?);
+    for (place, line) in STEPS.lines().enumerate() {
+        let (given, want) = line.split_once('|').ok_or("no bar")?;
+        let step = Step::of(alloc, given)?;
+        let moment = place as u64;
+        let events = events_of(alloc, &mut joiner, &step, moment)?;
+        assert_eq!(rt; events.as_str(), want, "in packet {moment}");
+        let heard = heard_events(alloc, &mut telling, &step, moment)?;
+        assert_eq!(rt; heard.as_str(), want, "heard in packet {moment}");
+    }
+    Ok(())
+}
+
+/// The first 7 bytes of each packet that units of 4, 3 and 200 bytes fill, and how many there are; then the room in the first
+/// packet of the same units again, and its counter.
+fn packets_of(alloc: Global, given: &str) -> Result<String, Fail> {
+    let mut bytes = [7u8; 207];
+    bytes[0] = 4;
+    bytes[4] = 3;
+    bytes[7] = 200;
+    let ends = [4, 7, 207];
+    let packing = given == "with packing";
+    let mut packer = Packer::<SmallForm>::new(256, packing);
+    let mut packet = [0; 188];
+    let mut text = String::new(alloc);
+    for _ in 0..9 {
+        if !packer.next(&bytes, &ends, &mut packet) {
+            break;
+        }
+        write!(text, "{} ", hex::encode(alloc, &packet[..7])?)?;
+    }
+    let count = count_packets::<SmallForm>(&ends, packing);
+    packer.again();
+    let room = packer.next_around(&ends, &mut packet);
+    write!(text, "{count}; {room:?} {:02x}", packet[3])?;
+    Ok(text)
+}
+
+/// The first packet's room stands after its pointer.
+const PACKETS: &str = "\
+with packing|47410010000407 47010011070707 2; Some(Room { from: 5, size: 183 }) 12
+without|47410010000407 47410011000307 4741001200c807 47010013070707 4; Some(Room { from: 5, size: 4 }) 14";
+
+#[test]
+fn units_are_packetized(rt: HostRuntime) -> Result<(), Fail> {
+    assert_cases(&rt, rt.alloc(), packets_of, PACKETS)
+}
