@@ -8,7 +8,10 @@ use test_recordings::Harm;
 /// whose section_length is in the next packet goes on there.
 fn size_at(packet: &[u8], place: usize) -> usize {
     match packet.get(place..) {
-        Some([_, high, low, ..]) => 3 + 256 * usize::from(*high & 0x0F) + usize::from(*low),
+        Some([_, high, low, ..]) => {
+            let length = u16::from_be_bytes([*high & 0x0F, *low]);
+            usize::from(length).saturating_add(3)
+        }
         _ => 188,
     }
 }

@@ -1,7 +1,7 @@
 //! SNDUs and packets by hand -> a recording, the run of `ule 256` over it, and the file that it must write.
 use crate::damage_cases::HURT;
 use crate::gap_cases::{OTHERS_BETWEEN, POINTERS, SIXTEEN_LOST};
-use crate::header_cases::HEADED;
+use crate::header_cases::{HEADED, Headed};
 use ipencap_engine::Status;
 use scenario_runs::expect;
 use std::alloc::Global;
@@ -66,14 +66,17 @@ pub const OTHER: Sndu = Sndu {
     crc: [0x44, 0x29, 0xA9, 0xC4],
 };
 
-/// The file that `ule 256` writes is the one that it must be, flushed.
-fn comes(alloc: Global, case: &Case<'_>) -> Result<(), Fail> {
+/// The packets of a case.
+fn recording_in(alloc: Global, case: &Case<'_>) -> Result<Vec<u8>, Fail> {
     let stream = stream_of(alloc, case.stream)?;
-    let recording = recording_of(alloc, &stream, case.packets)?;
-    let capture = capture_of_sndus(alloc, case.want)?;
+    Ok(recording_of(alloc, &stream, case.packets)?)
+}
+
+/// Runs `ule 256` over a recording, which must write this capture, flushed, and nothing else.
+fn writes(alloc: Global, name: &str, recording: &[u8], capture: &[u8]) -> Result<(), Fail> {
     let files = [FileLeft {
         name: "ule.pcap",
-        bytes: &capture,
+        bytes: capture,
         flushed: capture.len(),
     }];
     let left = Left {
@@ -82,8 +85,15 @@ fn comes(alloc: Global, case: &Case<'_>) -> Result<(), Fail> {
         line: "",
         files: &files,
     };
-    let given = faultless(&["ule", "256"], &[], &recording);
-    expect(alloc, case.name, &given, Status::Done, &left)
+    let given = faultless(&["ule", "256"], &[], recording);
+    expect(alloc, name, &given, Status::Done, &left)
+}
+
+/// The datagrams of a case are delivered, and no other.
+fn comes(alloc: Global, case: &Case<'_>) -> Result<(), Fail> {
+    let recording = recording_in(alloc, case)?;
+    let capture = capture_of_sndus(alloc, case.want)?;
+    writes(alloc, case.name, &recording, &capture)
 }
 
 #[test]
@@ -97,33 +107,41 @@ fn packets_by_hand_give_their_datagrams(rt: HostRuntime) -> Result<(), Fail> {
     Ok(())
 }
 
+/// The packet of an SNDU with these headers and of the one after it.
+const HEADED_AND_LAST: PacketOf = PacketOf::Start {
+    counter: 0,
+    pointer: 0,
+    from: 0,
+    to: 183,
+};
+
+/// The datagram after these headers is delivered or not, and that of the next SNDU is.
+fn headed_comes(alloc: Global, headed: &Headed<'_>) -> Result<(), Fail> {
+    let first = Sndu {
+        head: headed.head,
+        crc: headed.crc,
+        ..SHORT
+    };
+    let case = Case {
+        name: headed.name,
+        stream: &[first, LAST],
+        packets: &[HEADED_AND_LAST],
+        want: if headed.is_delivered {
+            &[SHORT, LAST]
+        } else {
+            &[LAST]
+        },
+    };
+    comes(alloc, &case)
+}
+
 /// RFC 4326 sections 4.4, 4.7 and 5: a datagram is delivered if its EtherType stands after optional headers alone.
 ///
 /// Profile: a bridged frame gives no datagram, and an NPA address is not compared.
 #[test]
 fn extension_headers_lead_to_a_datagram(rt: HostRuntime) -> Result<(), Fail> {
     for headed in &HEADED {
-        let first = Sndu {
-            head: headed.head,
-            crc: headed.crc,
-            ..SHORT
-        };
-        let case = Case {
-            name: headed.name,
-            stream: &[first, LAST],
-            packets: &[PacketOf::Start {
-                counter: 0,
-                pointer: 0,
-                from: 0,
-                to: 183,
-            }],
-            want: if headed.is_delivered {
-                &[SHORT, LAST]
-            } else {
-                &[LAST]
-            },
-        };
-        comes(rt.alloc(), &case)?;
+        headed_comes(rt.alloc(), headed)?;
     }
     Ok(())
 }
