@@ -1,13 +1,13 @@
 //! Receptions of small recordings into objects in memory: files, report, and each call that fails.
 
-use crate::receiver_cases::packet_of_frame;
+use crate::receiver_cases::{packet_of_frame, plan_of};
 use ipe_io::StdSource;
 use receive_command::{ReceiveFault, receive_recording, ule};
-use service_plan::{Plan, read_plan, ule_plan};
+use service_plan::{Plan, ule_plan};
 use std::alloc::Global;
 use std::test::Fail;
-use test_recordings::settings::{FRAMES, INT, ONE_AND_TWO, settings_of};
-use test_recordings::units::{INT_OF_TWO, WRONG_HASH};
+use test_recordings::settings::{FRAMES, INT, ONE_AND_TWO};
+use test_recordings::units::{CAPTURE, INT_OF_TWO, WRONG_HASH};
 use test_recordings::{
     Failing, FileLeft, Given, Left, Numbers, Outside, Report, ServiceReport, TableReport,
     faultless, recording_of_two, report_of, small_capture,
@@ -255,14 +255,6 @@ static CASES: [Case; 20] = [
     },
 ];
 
-/// The plan of these settings.
-fn plan_of(alloc: Global, settings: &[&str]) -> Result<Plan, Fail> {
-    match read_plan(alloc, settings_of(alloc, settings)?.as_bytes()) {
-        Ok(plan) => Ok(plan),
-        Err(_) => Err("settings".into()),
-    }
-}
-
 /// How a reception ended, and what it left.
 #[derive(Drop)]
 struct Ended {
@@ -313,16 +305,12 @@ fn expect_none(alloc: Global, case: &str, difference: &str) -> Result<(), Fail> 
 }
 
 /// The files of both services, as far as they are added and hold their capture.
-fn files_of<'a>(
-    alloc: Global,
-    held: &[Held],
-    capture: &'a [u8],
-) -> Result<Vec<FileLeft<'a>>, Fail> {
+fn files_of(alloc: Global, held: &[Held]) -> Result<Vec<FileLeft<'static>>, Fail> {
     let mut files = Vec::new(alloc);
     for (at, held) in held.iter().enumerate() {
         files.push(FileLeft {
             name: if at == 0 { "one.pcap" } else { "two.pcap" },
-            bytes: capture.get(..held.bytes).ok_or("no such front")?,
+            bytes: CAPTURE.get(..held.bytes).ok_or("no such front")?,
             flushed: held.flushed,
         })?;
     }
@@ -339,8 +327,7 @@ fn text_of(alloc: Global, report: &Option<Report<'_>>) -> Result<String, Fail> {
 
 /// What differs from what a case must leave.
 fn difference_of_two(alloc: Global, ended: &Ended, case: &Case<'_>) -> Result<&'static str, Fail> {
-    let capture = small_capture(alloc, 1)?;
-    let files = files_of(alloc, case.files, &capture)?;
+    let files = files_of(alloc, case.files)?;
     let report = text_of(alloc, &case.report)?;
     Ok(difference(ended, case.end, &report, &files))
 }
@@ -373,6 +360,54 @@ fn recordings_are_received_and_each_failing_call_ends_it(rt: HostRuntime) -> Res
     Ok(())
 }
 
+/// A service that is received alone, and what can be left of its reception.
+#[derive(Clone, Copy)]
+struct Alone<'a> {
+    name: &'a str,
+    /// Its file, and the capture whose front the file holds.
+    file: &'a str,
+    capture: &'a [u8],
+    /// What is reported where the reception ends without a fault.
+    report: Option<Report<'a>>,
+}
+
+/// PID 256, of which nothing is reported.
+const PID_256: Alone = Alone {
+    name: "PID 256",
+    file: "ule.pcap",
+    capture: &CAPTURE,
+    report: None,
+};
+
+/// The text of its report where the reception ends so.
+fn text_at_end(
+    alloc: Global,
+    alone: &Alone<'_>,
+    end: Result<(), ReceiveFault>,
+) -> Result<String, Fail> {
+    match end {
+        Ok(()) => text_of(alloc, &alone.report),
+        Err(_) => Ok(String::new(alloc)),
+    }
+}
+
+/// Compares what is left of it.
+fn expect_alone(
+    alloc: Global,
+    alone: &Alone<'_>,
+    ended: &Ended,
+    end: Result<(), ReceiveFault>,
+    file: Held,
+) -> Result<(), Fail> {
+    let files = [FileLeft {
+        name: alone.file,
+        bytes: alone.capture.get(..file.bytes).ok_or("no such front")?,
+        flushed: file.flushed,
+    }];
+    let report = text_at_end(alloc, alone, end)?;
+    expect_none(alloc, alone.name, difference(ended, end, &report, &files))
+}
+
 /// The report of an empty recording has a head and 18 lines.
 const NO_RECORD: Report = Report {
     records: 0,
@@ -386,22 +421,24 @@ const NO_RECORD: Report = Report {
     table: None,
 };
 
+/// PID 256 of an empty recording.
+const OF_NO_RECORD: Alone = Alone {
+    name: "no record",
+    report: Some(NO_RECORD),
+    ..PID_256
+};
+
+/// The file's head, flushed.
+const FLUSHED_HEAD: Held = Held {
+    bytes: 24,
+    flushed: 24,
+};
+
 /// Receives an empty recording, and compares what is left.
 fn none_comes(alloc: Global) -> Result<(), Fail> {
     let plan = ule_plan(alloc, 256)?;
     let ended = received(alloc, &plan, &faultless(&[], &[], &[]))?;
-    let report = report_of(alloc, &NO_RECORD)?;
-    let head = small_capture(alloc, 0)?;
-    let files = [FileLeft {
-        name: "ule.pcap",
-        bytes: &head,
-        flushed: 24,
-    }];
-    expect_none(
-        alloc,
-        "no record",
-        difference(&ended, Ok(()), &report, &files),
-    )
+    expect_alone(alloc, &OF_NO_RECORD, &ended, Ok(()), FLUSHED_HEAD)
 }
 
 #[test]
@@ -447,35 +484,6 @@ fn ule_received(alloc: Global, given: &Given<'_>) -> Result<Ended, Fail> {
     Ok(Ended { end, outside })
 }
 
-/// What differs from what must be left of one service: its file, the front of a capture, and the report.
-fn difference_of_one(
-    ended: &Ended,
-    end: Result<(), ReceiveFault>,
-    report: &str,
-    name: &str,
-    capture: &[u8],
-    file: Held,
-) -> Result<&'static str, Fail> {
-    let files = [FileLeft {
-        name,
-        bytes: capture.get(..file.bytes).ok_or("no such front")?,
-        flushed: file.flushed,
-    }];
-    Ok(difference(ended, end, report, &files))
-}
-
-/// Compares what is left of PID 256.
-fn expect_ule(
-    alloc: Global,
-    ended: &Ended,
-    end: Result<(), ReceiveFault>,
-    file: Held,
-) -> Result<(), Fail> {
-    let capture = small_capture(alloc, 1)?;
-    let difference = difference_of_one(ended, end, "", "ule.pcap", &capture, file)?;
-    expect_none(alloc, "PID 256", difference)
-}
-
 /// Receives PID 256 where a call fails, and compares what is left.
 fn ule_comes(alloc: Global, input: &[u8], case: &OneCase) -> Result<(), Fail> {
     let fails = [case.fails];
@@ -484,7 +492,7 @@ fn ule_comes(alloc: Global, input: &[u8], case: &OneCase) -> Result<(), Fail> {
         ..faultless(&[], &[], input)
     };
     let ended = ule_received(alloc, &given)?;
-    expect_ule(alloc, &ended, case.end, case.file)
+    expect_alone(alloc, &PID_256, &ended, case.end, case.file)
 }
 
 #[test]
@@ -508,7 +516,7 @@ fn received_from_lent(alloc: Global) -> Result<Ended, Fail> {
 /// Compares what is left of it.
 fn lent_comes(alloc: Global) -> Result<(), Fail> {
     let ended = received_from_lent(alloc)?;
-    expect_ule(alloc, &ended, Ok(()), FLUSHED)
+    expect_alone(alloc, &PID_256, &ended, Ok(()), FLUSHED)
 }
 
 /// Records that are lent out of the input's buffer are received as those that are read.
@@ -595,42 +603,43 @@ const FRAME_REPORT: Report = Report {
     ..NO_RECORD
 };
 
-/// Compares what is left of the frame.
-fn expect_frame(
+/// Receives a service alone where a call fails, and compares what is left.
+fn alone_comes(
     alloc: Global,
-    ended: &Ended,
-    end: Result<(), ReceiveFault>,
-    file: Held,
+    plan: &Plan,
+    alone: &Alone<'_>,
+    input: &[u8],
+    case: &OneCase,
 ) -> Result<(), Fail> {
-    let capture = small_capture(alloc, 3)?;
-    let report = match end {
-        Ok(()) => Some(FRAME_REPORT),
-        Err(_) => None,
-    };
-    let report = text_of(alloc, &report)?;
-    let difference = difference_of_one(ended, end, &report, "lecture.pcap", &capture, file)?;
-    expect_none(alloc, "a frame under way", difference)
-}
-
-/// Receives the frame where a call fails, and compares what is left.
-fn frame_comes(alloc: Global, plan: &Plan, case: &OneCase) -> Result<(), Fail> {
-    let input = packet_of_frame();
     let fails = [case.fails];
     let given = Given {
         fails: &fails,
-        ..faultless(&[], &[], &input)
+        ..faultless(&[], &[], input)
     };
     let ended = received(alloc, plan, &given)?;
-    expect_frame(alloc, &ended, case.end, case.file)
+    expect_alone(alloc, alone, &ended, case.end, case.file)
+}
+
+/// Receives the frame, and compares what is left where each call fails.
+fn frame_comes(alloc: Global, plan: &Plan) -> Result<(), Fail> {
+    let input = packet_of_frame();
+    let capture = small_capture(alloc, 3)?;
+    let alone = Alone {
+        name: "a frame under way",
+        file: "lecture.pcap",
+        capture: &capture,
+        report: Some(FRAME_REPORT),
+    };
+    for case in &FRAME_CASES {
+        alone_comes(alloc, plan, &alone, &input, case)?;
+    }
+    Ok(())
 }
 
 #[test]
 fn a_frame_under_way_at_the_end_is_written(rt: HostRuntime) -> Result<(), Fail> {
     let plan = plan_of(rt.alloc(), &[FRAMES])?;
-    for case in &FRAME_CASES {
-        frame_comes(rt.alloc(), &plan, case)?;
-    }
-    Ok(())
+    frame_comes(rt.alloc(), &plan)
 }
 
 /// Settings of a service on ISI 3.
@@ -712,33 +721,21 @@ const BASEBAND_REPORT: Report = Report {
     ..NO_RECORD
 };
 
-/// Compares what is left of the frames.
-fn expect_frames(
-    alloc: Global,
-    ended: &Ended,
-    end: Result<(), ReceiveFault>,
-    file: Held,
-) -> Result<(), Fail> {
-    let capture = small_capture(alloc, 1)?;
-    let report = match end {
-        Ok(()) => Some(BASEBAND_REPORT),
-        Err(_) => None,
-    };
-    let report = text_of(alloc, &report)?;
-    let difference = difference_of_one(ended, end, &report, "files.pcap", &capture, file)?;
-    expect_none(alloc, "baseband frames", difference)
-}
+/// The service of the frames.
+const IN_FRAMES: Alone = Alone {
+    name: "baseband frames",
+    file: "files.pcap",
+    report: Some(BASEBAND_REPORT),
+    ..PID_256
+};
 
-/// Receives the frames where a call fails, and compares what is left.
-fn frames_come(alloc: Global, plan: &Plan, case: &OneCase) -> Result<(), Fail> {
+/// Receives the frames, and compares what is left where each call fails.
+fn frames_come(alloc: Global, plan: &Plan) -> Result<(), Fail> {
     let input = recording_of_frames();
-    let fails = [case.fails];
-    let given = Given {
-        fails: &fails,
-        ..faultless(&[], &[], &input)
-    };
-    let ended = received(alloc, plan, &given)?;
-    expect_frames(alloc, &ended, case.end, case.file)
+    for case in &BASEBAND_CASES {
+        alone_comes(alloc, plan, &IN_FRAMES, &input, case)?;
+    }
+    Ok(())
 }
 
 /// Under settings of baseband frames the recording is one of frames: a cut last frame is no frame, and its bytes are counted.
@@ -747,8 +744,5 @@ fn a_recording_of_frames_is_received_and_each_failing_call_ends_it(
     rt: HostRuntime,
 ) -> Result<(), Fail> {
     let plan = plan_of(rt.alloc(), &[BASEBAND])?;
-    for case in &BASEBAND_CASES {
-        frames_come(rt.alloc(), &plan, case)?;
-    }
-    Ok(())
+    frames_come(rt.alloc(), &plan)
 }

@@ -1,7 +1,20 @@
-//! Records by hand, for tests.
+//! Plans and records by hand, for tests.
+use service_plan::{Plan, read_plan};
+use std::alloc::Global;
+use std::test::Fail;
+use test_recordings::settings::settings_of;
 use test_recordings::units::{INT, NEXT_INT, SECTION, SNDU};
 use test_recordings::{go_on, on_pid, start};
 use ts_record::Record;
+
+/// The plan of these settings.
+pub(crate) fn plan_of(alloc: Global, settings: &[&str]) -> Result<Plan, Fail> {
+    let settings = settings_of(alloc, settings)?;
+    match read_plan(alloc, settings.as_bytes()) {
+        Ok(plan) => Ok(plan),
+        Err(_) => Err("settings".into()),
+    }
+}
 
 /// A record, by what its packet holds.
 #[derive(Clone, Copy)]

@@ -2,15 +2,15 @@
 ghost use Rattle.std.specs.Prelude.{◌≡◌, ◌≤◌, ◌<◌, length};
 ghost use Rattle.plan.specs.PlanView.{plan_fields};
 
-use crate::receiver_cases::{Part, record_of};
+use crate::receiver_cases::{Part, plan_of, record_of};
 use bumpalo::Bump;
 use demux_core::PacketReceiver;
 use loss_report::{ServiceCounts, StreamCounts};
-use service_plan::{Plan, read_plan, ule_plan};
+use service_plan::{Plan, ule_plan};
 use std::alloc::Global;
 use std::test::Fail;
 use test_recordings::NotedOutlet;
-use test_recordings::settings::{FRAMES, INT, ONE_AND_TWO, THREE, settings_of};
+use test_recordings::settings::{FRAMES, INT, ONE_AND_TWO, THREE};
 use test_recordings::units::{INT as FIRST_INT, NEXT_INT};
 use ts_record::Record;
 
@@ -473,23 +473,27 @@ fn difference(ended: &Ended, case: &Case<'_>) -> &'static str {
     ""
 }
 
+/// Receives the records of a case; what differs from what they must leave.
+fn difference_of(alloc: Global, plan: &Plan, case: &Case<'_>) -> Result<&'static str, Fail> {
+    let ended = ran(alloc, plan, case.parts, case.refuses_from)?;
+    Ok(difference(&ended, case))
+}
+
 #[test]
 fn services_do_not_disturb_each_other(rt: HostRuntime) -> Result<(), Fail> {
-    let settings = settings_of(rt.alloc(), &[INT, ONE_AND_TWO, THREE])?;
-    let plan = read_plan(rt.alloc(), settings.as_bytes()).map_err(|_| "settings")?;
+    let plan = plan_of(rt.alloc(), &[INT, ONE_AND_TWO, THREE])?;
     for case in &CASES {
-        let ended = ran(rt.alloc(), &plan, case.parts, case.refuses_from)?;
-        assert_eq!(rt; difference(&ended, case), "", "{}", case.name);
+        let difference = difference_of(rt.alloc(), &plan, case)?;
+        assert_eq!(rt; difference, "", "{}", case.name);
     }
     assert!(rt; NEXT_INT != FIRST_INT);
     Ok(())
 }
 
-/// The plan of one PID: no INT, and the packets of all other PIDs are other.
-#[test]
-fn one_pid_is_received_by_itself(rt: HostRuntime) -> Result<(), Fail> {
-    let plan = ule_plan(rt.alloc(), 256)?;
-    let parts = [
+/// PID 256 has two datagrams, and the packets of all other PIDs are other.
+const ONE_PID: Case = Case {
+    name: "one PID",
+    parts: &[
         Part::Sndu {
             pid: 256,
             counter: 0,
@@ -503,19 +507,22 @@ fn one_pid_is_received_by_itself(rt: HostRuntime) -> Result<(), Fail> {
             pid: 256,
             counter: 1,
         },
-    ];
-    let case = Case {
-        order: &[0, 0],
-        stream: StreamCounts {
-            records: 4,
-            other: 2,
-            ..EMPTY
-        },
-        services: [TWO, NONE, NONE],
-        ..NO_RECORD
-    };
-    let ended = ran(rt.alloc(), &plan, &parts, 100)?;
-    assert_eq!(rt; difference(&ended, &case), "");
+    ],
+    order: &[0, 0],
+    stream: StreamCounts {
+        records: 4,
+        other: 2,
+        ..EMPTY
+    },
+    services: [TWO, NONE, NONE],
+    ..NO_RECORD
+};
+
+/// The plan of one PID has no INT.
+#[test]
+fn one_pid_is_received_by_itself(rt: HostRuntime) -> Result<(), Fail> {
+    let plan = ule_plan(rt.alloc(), 256)?;
+    assert_eq!(rt; difference_of(rt.alloc(), &plan, &ONE_PID)?, "");
     Ok(())
 }
 
@@ -560,19 +567,22 @@ static FRAMES_UNDER_WAY: [Case; 3] = [
     },
 ];
 
+/// Receives the frame of a case; what differs from what it must leave. After a refused datagram none is offered.
+fn difference_of_frame(alloc: Global, plan: &Plan, case: &Case<'_>) -> Result<&'static str, Fail> {
+    let ended = ran(alloc, plan, case.parts, case.refuses_from)?;
+    if ended.noted.calls() != case.refuses_from.min(3) {
+        return Ok("how many datagrams are offered");
+    }
+    Ok(difference(&ended, case))
+}
+
 /// A frame under way is closed at the end. Where one of its datagrams is refused, the next is not offered, and all is counted.
 #[test]
 fn a_frame_under_way_is_delivered_at_the_end(rt: HostRuntime) -> Result<(), Fail> {
-    let plan = read_plan(rt.alloc(), FRAMES.as_bytes()).map_err(|_| "settings")?;
+    let plan = plan_of(rt.alloc(), &[FRAMES])?;
     for case in &FRAMES_UNDER_WAY {
-        let ended = ran(rt.alloc(), &plan, case.parts, case.refuses_from)?;
-        assert_eq!(rt; difference(&ended, case), "", "{}", case.name);
-        assert_eq!(rt;
-            ended.noted.calls(),
-            case.refuses_from.min(3),
-            "{}",
-            case.name
-        );
+        let difference = difference_of_frame(rt.alloc(), &plan, case)?;
+        assert_eq!(rt; difference, "", "{}", case.name);
     }
     Ok(())
 }

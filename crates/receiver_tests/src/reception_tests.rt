@@ -28,19 +28,42 @@ fn take<K: UnitReader>(
     }
 }
 
-/// Whether a case gives its numbers, and as many right datagrams.
-fn is_counted<K: UnitReader>(alloc: Global, good: &[u8], case: &Case<'_>) -> Result<bool, Fail> {
+/// A reception that has taken nothing.
+fn reception_of<K: UnitReader>(alloc: Global) -> Result<Reception<K, Global>, Fail> {
+    let buffer = vec![in alloc; 0u8; K::LONGEST]?;
+    Ok(Reception::over(buffer))
+}
+
+/// A filter that lists an address, or none.
+fn filter_of(alloc: Global, listed: Option<[u8; 6]>) -> Result<MacList, Fail> {
     let mut filter = MacList::new(alloc);
-    if let Some(mac) = case.filter {
+    if let Some(mac) = listed {
         filter.push(mac)?;
     }
-    let mut reception = Reception::<K, Global>::over(vec![in alloc; 0u8; K::LONGEST]?);
-    let mut noted = NotedOutlet::new(100);
+    Ok(filter)
+}
+
+/// Takes the packets of a case, and the one of a good unit.
+fn take_case<K: UnitReader>(
+    reception: &mut Reception<K, Global>,
+    filter: &MacList,
+    case: &Case<'_>,
+    good: &[u8],
+    noted: &mut NotedOutlet,
+) -> Result<(), Failed> {
     let first = start(0, case.pointer, case.unit);
     for _ in 0..case.times {
-        take(&mut reception, &first, &filter, &mut noted)?;
+        take(reception, &first, filter, noted)?;
     }
-    take(&mut reception, &start(1, 0, good), &filter, &mut noted)?;
+    take(reception, &start(1, 0, good), filter, noted)
+}
+
+/// Whether a case gives its numbers, and as many right datagrams.
+fn is_counted<K: UnitReader>(alloc: Global, good: &[u8], case: &Case<'_>) -> Result<bool, Fail> {
+    let filter = filter_of(alloc, case.filter)?;
+    let mut reception = reception_of::<K>(alloc)?;
+    let mut noted = NotedOutlet::new(100);
+    take_case(&mut reception, &filter, case, good, &mut noted)?;
     let right = noted.order().len() as u64;
     Ok(reception.counts() == case.counts && right == case.counts.datagrams)
 }
@@ -58,10 +81,9 @@ fn each_packet_and_a_good_unit_after_it_are_counted(rt: HostRuntime) -> Result<(
     Ok(())
 }
 
-/// RFC 4326 section 5: 2,000 optional headers of two bytes, in 22 packets, and a packet that does not follow.
-#[test]
-fn two_thousand_headers_are_passed(rt: HostRuntime) -> Result<(), Fail> {
-    let mut unit = [0u8; 4028];
+/// An SNDU with 2,000 optional headers of two bytes (RFC 4326 section 5) and the datagram.
+fn two_thousand_headers() -> [u8; 4028] {
+    let mut unit = [0; 4028];
     unit[..4].copy_from_slice(&[0x8F, 0xB8, 1, 0]);
     for place in 0..1999usize {
         unit[4 + 2 * place] = 1;
@@ -69,16 +91,29 @@ fn two_thousand_headers_are_passed(rt: HostRuntime) -> Result<(), Fail> {
     unit[4002] = 8;
     unit[4004..4024].copy_from_slice(&DATAGRAM);
     unit[4024..].copy_from_slice(&[0xD4, 0xEF, 0x46, 0xC7]);
-    let filter = MacList::new(rt.alloc());
-    let buffer = vec![in rt.alloc(); 0u8; UleForm::LONGEST]?;
-    let mut reception = Reception::<UleForm, Global>::over(buffer);
-    let mut noted = NotedOutlet::new(100);
-    take(&mut reception, &start(0, 0, &unit), &filter, &mut noted)?;
-    for place in 0..21usize {
-        let packet = go_on(place as u8 + 1, &unit[183 + 184 * place..]);
-        take(&mut reception, &packet, &filter, &mut noted)?;
+    unit
+}
+
+/// Takes the 22 packets of that unit, and one that does not follow.
+fn take_headers(
+    reception: &mut Reception<UleForm, Global>,
+    filter: &MacList,
+    noted: &mut NotedOutlet,
+) -> Result<(), Failed> {
+    let unit = two_thousand_headers();
+    take(reception, &start(0, 0, &unit), filter, noted)?;
+    for (number, piece) in unit[183..].chunks(184).enumerate() {
+        take(reception, &go_on(number as u8 + 1, piece), filter, noted)?;
     }
-    take(&mut reception, &start(0, 0, &SNDU), &filter, &mut noted)?;
+    take(reception, &start(0, 0, &SNDU), filter, noted)
+}
+
+#[test]
+fn two_thousand_headers_are_passed(rt: HostRuntime) -> Result<(), Fail> {
+    let filter = MacList::new(rt.alloc());
+    let mut reception = reception_of::<UleForm>(rt.alloc())?;
+    let mut noted = NotedOutlet::new(100);
+    take_headers(&mut reception, &filter, &mut noted)?;
     let counts = Counts {
         heard: 23,
         gaps: 1,
@@ -119,22 +154,37 @@ static REFUSALS: [Refusal; 3] = [
     },
 ];
 
+/// The packet with both units.
+fn packet_of_two() -> [u8; 188] {
+    let mut units = [0; 56];
+    units[..28].copy_from_slice(&SNDU);
+    units[28..].copy_from_slice(&SNDU);
+    start(0, 0, &units)
+}
+
+/// Whether the units are offered as a case says.
+fn is_refused(alloc: Global, packet: &[u8; 188], case: &Refusal) -> Result<bool, Fail> {
+    let filter = MacList::new(alloc);
+    let mut reception = reception_of::<UleForm>(alloc)?;
+    let mut noted = NotedOutlet::new(case.refuses_from);
+    let taken = take(&mut reception, packet, &filter, &mut noted);
+    Ok(
+        taken.is_ok() == case.is_ok
+            && noted.calls() == case.calls
+            && noted.order().len() == case.right,
+    )
+}
+
 /// Where the outlet refuses the first of two units, the second is not offered.
 #[test]
 fn after_a_refused_datagram_none_is_offered(rt: HostRuntime) -> Result<(), Fail> {
-    let mut units = [0u8; 56];
-    units[..28].copy_from_slice(&SNDU);
-    units[28..].copy_from_slice(&SNDU);
-    let packet = start(0, 0, &units);
-    let filter = MacList::new(rt.alloc());
+    let packet = packet_of_two();
     for case in &REFUSALS {
-        let buffer = vec![in rt.alloc(); 0u8; UleForm::LONGEST]?;
-        let mut reception = Reception::<UleForm, Global>::over(buffer);
-        let mut noted = NotedOutlet::new(case.refuses_from);
-        let taken = take(&mut reception, &packet, &filter, &mut noted);
-        assert_eq!(rt; taken.is_ok(), case.is_ok);
-        assert_eq!(rt; noted.calls(), case.calls);
-        assert_eq!(rt; noted.order().len(), case.right);
+        assert!(rt;
+            is_refused(rt.alloc(), &packet, case)?,
+            "call {}",
+            case.refuses_from
+        );
     }
     Ok(())
 }
@@ -180,17 +230,31 @@ static TABLES: [Table; 5] = [
     },
 ];
 
+/// A reception of an INT that has taken nothing.
+fn table_of(
+    alloc: Global,
+    platform: u32,
+    last_version: u8,
+) -> Result<TableReception<Global>, Fail> {
+    let buffer = vec![in alloc; 0u8; SectionForm::LONGEST]?;
+    let kept = vec![in alloc; 0u8; SectionForm::LONGEST]?;
+    Ok(TableReception::over(buffer, kept, platform, last_version))
+}
+
+/// Takes the packet with a section.
+fn take_section(reception: &mut TableReception<Global>, counter: u8, section: &[u8]) {
+    let bytes = start(counter, 0, section);
+    if let Ok(packet) = parse(&bytes) {
+        reception.take(&bytes, &packet, 0);
+    }
+}
+
 /// EN 301 192 clause 8.4: each section counts, and the first with table_id 0x4C is kept.
 #[test]
 fn the_first_section_of_an_int_is_kept(rt: HostRuntime) -> Result<(), Fail> {
-    let buffer = vec![in rt.alloc(); 0u8; SectionForm::LONGEST]?;
-    let kept = vec![in rt.alloc(); 0u8; SectionForm::LONGEST]?;
-    let mut reception = TableReception::over(buffer, kept, 1, 0);
+    let mut reception = table_of(rt.alloc(), 1, 0)?;
     for (counter, case) in TABLES.iter().enumerate() {
-        let bytes = start(counter as u8, 0, case.section);
-        if let Ok(packet) = parse(&bytes) {
-            reception.take(&bytes, &packet, 0);
-        }
+        take_section(&mut reception, counter as u8, case.section);
         assert_eq!(rt; reception.units(), case.units);
         let want: Option<&[u8]> = if case.is_kept { Some(&INT) } else { None };
         assert_eq!(rt; reception.section(), want);
@@ -246,43 +310,57 @@ static VERSIONS: [InForce; 4] = [
     },
 ];
 
-/// EN 301 192 clause 8.4: of the platform's sections the greatest version of the plan is in force; those of another put none in force.
+/// EN 301 192 clause 8.4: of the platform's sections the greatest version of the plan is in force.
 #[test]
 fn a_later_version_is_put_in_force(rt: HostRuntime) -> Result<(), Fail> {
-    for platform in 1..3u32 {
-        let buffer = vec![in rt.alloc(); 0u8; SectionForm::LONGEST]?;
-        let kept = vec![in rt.alloc(); 0u8; SectionForm::LONGEST]?;
-        let mut reception = TableReception::over(buffer, kept, platform, 1);
-        for (counter, case) in VERSIONS.iter().enumerate() {
-            let bytes = start(counter as u8, 0, case.section);
-            if let Ok(packet) = parse(&bytes) {
-                reception.take(&bytes, &packet, 0);
-            }
-            let of_platform = platform == 1;
-            let version = if of_platform { case.version } else { 0 };
-            assert_eq!(rt; reception.version(), version);
-            let shown = if of_platform { case.shown } else { &INT_OF_TWO };
-            assert_eq!(rt; reception.section(), Some(shown));
-        }
-        assert_eq!(rt; reception.units(), 4);
+    let mut reception = table_of(rt.alloc(), 1, 1)?;
+    for (counter, case) in VERSIONS.iter().enumerate() {
+        take_section(&mut reception, counter as u8, case.section);
+        assert_eq!(rt; reception.version(), case.version);
+        assert_eq!(rt; reception.section(), Some(case.shown));
     }
+    assert_eq!(rt; reception.units(), 4);
     Ok(())
+}
+
+/// The sections of another platform put none in force, and the first of them is shown.
+#[test]
+fn sections_of_another_platform_put_none_in_force(rt: HostRuntime) -> Result<(), Fail> {
+    let mut reception = table_of(rt.alloc(), 2, 1)?;
+    for (counter, case) in VERSIONS.iter().enumerate() {
+        take_section(&mut reception, counter as u8, case.section);
+        assert_eq!(rt; reception.version(), 0);
+        assert_eq!(rt; reception.section(), Some(INT_OF_TWO.as_slice()));
+    }
+    assert_eq!(rt; reception.units(), 4);
+    Ok(())
+}
+
+/// Takes the beginning of a unit, begins anew, and takes the rest of the unit and a whole one. Whether nothing is counted where the
+/// reception begins anew.
+fn begin_anew_in_a_unit(
+    reception: &mut Reception<UleForm, Global>,
+    filter: &MacList,
+    noted: &mut NotedOutlet,
+) -> Result<bool, Failed> {
+    let mut unit = [0u8; 200];
+    unit[..4].copy_from_slice(&[0x80, 0xC4, 8, 0]);
+    take(reception, &start(0, 0, &unit), filter, noted)?;
+    reception.begin_anew();
+    let is_anew = reception.counts() == Counts::new();
+    take(reception, &go_on(1, &unit[183..]), filter, noted)?;
+    take(reception, &start(2, 0, &SNDU), filter, noted)?;
+    Ok(is_anew)
 }
 
 /// Where a reception begins anew, the unit under way is dropped without an event, and nothing is counted.
 #[test]
 fn a_unit_under_way_ends_where_a_reception_begins_anew(rt: HostRuntime) -> Result<(), Fail> {
-    let mut unit = [0u8; 200];
-    unit[..4].copy_from_slice(&[0x80, 0xC4, 8, 0]);
     let filter = MacList::new(rt.alloc());
-    let buffer = vec![in rt.alloc(); 0u8; UleForm::LONGEST]?;
-    let mut reception = Reception::<UleForm, Global>::over(buffer);
+    let mut reception = reception_of::<UleForm>(rt.alloc())?;
     let mut noted = NotedOutlet::new(100);
-    take(&mut reception, &start(0, 0, &unit), &filter, &mut noted)?;
-    reception.begin_anew();
-    assert_eq!(rt; reception.counts(), Counts::new());
-    take(&mut reception, &go_on(1, &unit[183..]), &filter, &mut noted)?;
-    take(&mut reception, &start(2, 0, &SNDU), &filter, &mut noted)?;
+    let is_anew = begin_anew_in_a_unit(&mut reception, &filter, &mut noted)?;
+    assert!(rt; is_anew);
     let counts = Counts {
         heard: 2,
         units: 1,
