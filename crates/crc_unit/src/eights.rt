@@ -7,21 +7,21 @@ ghost use Rattle.std.specs.Prelude.{◌≡◌};
 ghost use Rattle.wire_spec.specs.Crc.{crc32_remainder};
 
 use crate::plain;
-use crate::table::{AFTER_8_TO_32, AFTER_40_TO_64, entry_of};
+use crate::table::{TABLES, entry_of};
 
 /// The register after eight bytes, of which the first four are added to its own.
 fn eight_step(register: u32, eight: &[u8; 8]) -> u32
     ensures { result ≡ crc32_run register eight.now }
 {
     let own = register.to_be_bytes();
-    entry_of(&AFTER_40_TO_64[3], own[0] ^ eight[0])
-        ^ entry_of(&AFTER_40_TO_64[2], own[1] ^ eight[1])
-        ^ entry_of(&AFTER_40_TO_64[1], own[2] ^ eight[2])
-        ^ entry_of(&AFTER_40_TO_64[0], own[3] ^ eight[3])
-        ^ entry_of(&AFTER_8_TO_32[3], eight[4])
-        ^ entry_of(&AFTER_8_TO_32[2], eight[5])
-        ^ entry_of(&AFTER_8_TO_32[1], eight[6])
-        ^ entry_of(&AFTER_8_TO_32[0], eight[7])
+    entry_of(&TABLES[7], own[0] ^ eight[0])
+        ^ entry_of(&TABLES[6], own[1] ^ eight[1])
+        ^ entry_of(&TABLES[5], own[2] ^ eight[2])
+        ^ entry_of(&TABLES[4], own[3] ^ eight[3])
+        ^ entry_of(&TABLES[3], eight[4])
+        ^ entry_of(&TABLES[2], eight[5])
+        ^ entry_of(&TABLES[1], eight[6])
+        ^ entry_of(&TABLES[0], eight[7])
 }
 
 /// The register after bytes.

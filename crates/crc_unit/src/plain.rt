@@ -6,14 +6,14 @@ ghost use Rattle.division_law.specs.Registers.{crc32_byte};
 ghost use Rattle.std.specs.Prelude.{◌≡◌};
 ghost use Rattle.wire_spec.specs.Crc.{crc32_remainder};
 
-use crate::table::{AFTER_8_TO_32, entry_of};
+use crate::table::{TABLES, entry_of};
 
 /// The register after one byte.
 pub(crate) fn byte_step(register: u32, byte: u8) -> u32
     ensures { result ≡ crc32_byte register byte }
 {
     let index = (register >> 24) as u8 ^ byte;
-    (register << 8) ^ entry_of(&AFTER_8_TO_32[0], index)
+    (register << 8) ^ entry_of(&TABLES[0], index)
 }
 
 /// The register after bytes.

@@ -1,7 +1,7 @@
 //! The tables of CRC-32: what shifts make of a register that has a byte in its highest bits and else zeros.
 //!
 //! A table and a byte come in, the table's entry goes out. ISO/IEC 13818-1 annex A, many shifts of its register at once.
-//! They stand by fours, so that a step of sixteen bytes needs four addresses of tables, and not sixteen.
+//! All sixteen stand in one constant, so that a step of sixteen bytes forms one address of tables.
 
 ghost use Rattle.std.specs.Prelude.{◌≡◌, slice_index};
 
@@ -15,8 +15,8 @@ macro_rules! entries {
     };
 }
 
-/// 8, 16, 24 and 32 shifts: 0 to 3 zero bytes after the byte.
-pub(crate) const AFTER_8_TO_32: [[u32; 256]; 4] = [
+/// Table n has what 8 * (n + 1) shifts make: n zero bytes after the byte.
+pub(crate) const TABLES: [[u32; 256]; 16] = [
     entries!(
         [0]
         0x04C11DB7 0x09823B6E 0x130476DC 0x2608EDB8
@@ -37,10 +37,6 @@ pub(crate) const AFTER_8_TO_32: [[u32; 256]; 4] = [
         0xDC6D9AB7 0xBC1A28D9 0x7CF54C05 0xF9EA980A
         0xF7142DA3 0xEAE946F1 0xD1139055 0xA6E63D1D
     ),
-];
-
-/// 40, 48, 56 and 64 shifts: 4 to 7 zero bytes after the byte.
-pub(crate) const AFTER_40_TO_64: [[u32; 256]; 4] = [
     entries!(
         [0]
         0x490D678D 0x921ACF1A 0x20F48383 0x41E90706
@@ -61,10 +57,6 @@ pub(crate) const AFTER_40_TO_64: [[u32; 256]; 4] = [
         0x5BA1DCCA 0xB743B994 0x6A466E9F 0xD48CDD3E
         0xADD8A7CB 0x5F705221 0xBEE0A442 0x79005533
     ),
-];
-
-/// 72, 80, 88 and 96 shifts: 8 to 11 zero bytes after the byte.
-pub(crate) const AFTER_72_TO_96: [[u32; 256]; 4] = [
     entries!(
         [0]
         0xF200AA66 0xE0C0497B 0xC5418F41 0x8E420335
@@ -85,10 +77,6 @@ pub(crate) const AFTER_72_TO_96: [[u32; 256]; 4] = [
         0x07F6E306 0x0FEDC60C 0x1FDB8C18 0x3FB71830
         0x7F6E3060 0xFEDC60C0 0xF979DC37 0xF632A5D9
     ),
-];
-
-/// 104, 112, 120 and 128 shifts: 12 to 15 zero bytes after the byte.
-pub(crate) const AFTER_104_TO_128: [[u32; 256]; 4] = [
     entries!(
         [0]
         0xE8A45605 0xD589B1BD 0xAFD27ECD 0x5B65E02D

@@ -1,5 +1,5 @@
 use Rattle.std.proofs.Common.{ℕ, zero, suc, ◌+◌, ◌<◌, ◌∷◌, [], lit<, get_or, refl, ◌∙◌}
-use Rattle.std.proofs.lemmas.Nat.{be_bytes_4}
+use Rattle.std.proofs.lemmas.Nat.{le_bytes_4}
 use Rattle.wire_spec.specs.Bytes.{four_at}
 use Rattle.crc_unit.proofs.sixteens.four_of.Goals as goal
 
@@ -14,7 +14,7 @@ four_fit b0 b1 b2 b3 f0 f1 f2 f3 (suc (suc (suc (suc i)))) = lit< tt
 pub returns : goal.returns
 returns c =
     let at : ℕ = c.args.at in
-    c.to_be_bytes.ensures
-    ∙ be_bytes_4 (four_at c.args.sixteen.now at) c.from_be_bytes-word.result refl
+    c.to_le_bytes.ensures
+    ∙ le_bytes_4 (four_at c.args.sixteen.now at) c.from_le_bytes-word.result refl
     (four_fit _ _ _ _ (c.fits-sixteen at) (c.fits-sixteen (at + 1)) (c.fits-sixteen (at + 2)) (c.fits-sixteen (at + 3)))
-    c.from_be_bytes-word.ensures
+    c.from_le_bytes-word.ensures
