@@ -1,11 +1,11 @@
 //! A rack over the files of the current folder.
-ghost use Rattle.std.specs.Prelude.{◌≡◌, ◌<◌, ◌≤◌, ℕ, vec_len, OnOk, OnErr};
+ghost use Rattle.std.specs.Prelude.{◌≡◌, ◌<◌, ◌≤◌, ℕ, vec_len, IfOk, OnOk, OnErr};
 ghost use Rattle.wire_spec.specs.Causes.{RoseBy};
 
 use crate::outside::BUFFER;
-use crate::write_behind::{WriteBehind, zeros};
+use crate::write_behind::WriteBehind;
 use crate::{AddFault, Failed, Rack};
-use std::alloc::Global;
+use std::alloc::{AllocError as OutOfMemory, Global};
 use std::fs;
 use std::io::{ErrorKind, Write};
 use std::marker::Model;
@@ -63,6 +63,13 @@ fn flush_each<W: Write + Drop>(files: &mut [WriteBehind<W>]) -> u64 {
         }
     }
     failed
+}
+
+/// A buffer of zeros.
+fn zeros(alloc: Global, size: usize) -> Result<Vec<u8>, OutOfMemory>
+    ensures { IfOk result (λ buffer. vec_len buffer ≡ size) }
+{
+    vec![in alloc; 0; size]
 }
 
 impl<R: Files + Drop> Rack for FileRack<R> {

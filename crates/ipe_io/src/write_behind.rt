@@ -3,7 +3,6 @@ ghost use Rattle.std.specs.Prelude.{◌≡◌, ◌<◌, ◌≤◌, ◌-◌, ℕ,
 ghost use Rattle.std.specs.Io.KnownBytes.{Appends, Keeps, WriteAppends, append_known};
 
 use crate::Failed;
-use std::alloc::{AllocError as OutOfMemory, Global};
 use std::io::{ErrorKind, Write};
 
 /// A writer behind a buffer of 64 KiB, for many short pieces. What the writer refuses stays held, in order. When it is
@@ -104,13 +103,6 @@ impl<W: Write + Drop> Drop for WriteBehind<W> {
             fill: _,
         } = self;
     }
-}
-
-// A buffer of zeros.
-pub(crate) fn zeros(alloc: Global, size: usize) -> Result<Vec<u8>, OutOfMemory>
-    ensures { IfOk result (λ buffer. vec_len buffer ≡ size) }
-{
-    vec![in alloc; 0; size]
 }
 
 // Writes the bytes, and answers how many were written: fewer than all where the writer failed.
