@@ -48,6 +48,7 @@ pub(crate) fn open_table<'a>(
 }
 
 /// Takes a packet where it is one of the INT's PID, and says whether it is.
+#[inline(always)]
 pub(crate) fn take_for_table(
     table: &mut Option<TableReceiver<'_>>,
     bytes: &[u8; 188],

@@ -42,6 +42,7 @@ impl UnitReader for UleForm {
 
     ghost IsOfKind = { IsUle };
 
+    #[inline(always)]
     fn read(unit: &[u8]) -> Option<Carried<'_>> {
         read_sndu(unit)
     }
@@ -54,6 +55,7 @@ impl UnitReader for SectionForm {
 
     ghost IsOfKind = { IsMpe };
 
+    #[inline(always)]
     fn read(unit: &[u8]) -> Option<Carried<'_>> {
         read_section(unit)
     }
@@ -62,6 +64,7 @@ impl UnitReader for SectionForm {
 }
 
 /// The datagram of an SNDU after its extension headers (RFC 4326 sections 4 and 5).
+#[inline(always)]
 fn read_sndu(unit: &[u8]) -> Option<Carried<'_>>
     ensures read { (kind : KindFields) → IsUle kind → IsUnit sndu_form unit.now → ReadsAs kind unit.now result }
 {

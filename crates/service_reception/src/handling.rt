@@ -23,6 +23,7 @@ pub(crate) enum Handling<'a> {
 }
 
 /// What becomes of a unit, at a service with this filter.
+#[inline(always)]
 pub(crate) fn handling_of<'a, K: UnitReader>(unit: &'a [u8], filter: &MacList) -> Handling<'a>
     ensures told { (it : ServiceFields) → IsServed K.IsOfKind filter.now it → IsUnit K.form unit.now → TellsHandling it unit.now result }
 {

@@ -45,6 +45,7 @@ impl Continuity {
 
     /// Takes the next packet of the PID, which `parse` read from `bytes`, and says how it follows
     /// (ISO/IEC 13818-1 clause 2.4.3.3: continuity_counter, duplicate packets).
+    #[inline(always)]
     #[tactic(auto, using(crate::proofs::LinksLemmas::last_of_push))]
     pub fn see(&mut self, bytes: &[u8; 188], packet: &Packet<'_>) -> Link
         requires { fields_in packet.now ≡ fields_of bytes.now }
@@ -73,6 +74,7 @@ const COUNTERS: u8 = 16;
 /// How `packet`, read from `bytes`, follows the packet `last`.
 ///
 /// The bytes are compared only where the counters are equal: a duplicate has the same.
+#[inline(always)]
 #[tactic(auto, unfolding(ts_spec::specs::Packet::fields_of))]
 fn link_behind(last: &[u8; 188], bytes: &[u8; 188], packet: &Packet<'_>) -> Link
     requires { fields_in packet.now ≡ fields_of bytes.now }

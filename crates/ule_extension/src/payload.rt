@@ -29,6 +29,7 @@ const LEAST_FRAME: usize = 14;
 /// Lends the datagram after the chain that `first_type` begins; `bytes` are all after that Type.
 ///
 /// Profile: bytes after the datagram are free.
+#[inline(always)]
 pub fn datagram(first_type: u16, bytes: &[u8]) -> Result<&[u8], PayloadFault>
     ensures read { MatchResult result (λ d. datagram_at (chain_end first_type bytes.now) ≡ Some d.now) (λ _. datagram_at (chain_end first_type bytes.now) ≡ None) }
     ensures refused { payload_refusal (chain_end first_type bytes.now) ≡ result_err result }

@@ -267,6 +267,7 @@ fn take_start<F: UnitForm>(
 }
 
 /// Takes the next packet after a unit under way, or none.
+#[inline(always)]
 pub(crate) fn take_packet<F: UnitForm>(
     buffer: &mut [u8],
     under_way: Option<UnderWay>,
@@ -296,6 +297,7 @@ pub(crate) fn take_packet<F: UnitForm>(
 }
 
 /// Takes the next packet after what the packets before left, where `link` is how it follows them. A duplicate changes nothing.
+#[inline(always)]
 pub(crate) fn feed_packet<F: UnitForm>(
     buffer: &mut [u8],
     state: State,

@@ -102,6 +102,7 @@ pub(crate) fn after_end(rest: Option<Position>) -> State
 
 /// Reads the unit that starts at a place of the payload, where one does. A unit that goes on in the
 /// next packet is copied into the buffer.
+#[inline(always)]
 pub(crate) fn read_start<'u, F: UnitForm>(
     buffer: &mut [u8],
     position: Position,
