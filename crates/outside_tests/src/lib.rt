@@ -8,8 +8,6 @@ mod calls;
 #[cfg(test)]
 mod file_tests;
 #[cfg(test)]
-mod hex_text;
-#[cfg(test)]
 mod memory_tests;
 #[cfg(test)]
 mod pcap_file_tests;

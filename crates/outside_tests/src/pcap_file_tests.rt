@@ -1,9 +1,9 @@
 //! Captures written by hand from the format's fields (draft-ietf-opsawg-pcap sections 4 and 5).
-use crate::hex_text::bytes_of;
 use ipe_io::{MemSource, Source};
 use pcap_file::{CaptureReader, LinkType, NextFault, datagram_of, record_head, write_head};
 use std::alloc::Global;
 use std::test::Fail;
+use test_recordings::bytes_of;
 
 /// A capture of raw IP, least significant byte first, with two records of 20 bytes; the second is no IP.
 const RAW: &str = "D4C3B2A1 0200 0400 00000000 00000000 00000400 65000000

@@ -1,9 +1,9 @@
 //! Recordings in memory, by hand.
-use crate::hex_text::bytes_of;
 use ipe_io::{MemSource, Recording, Source, StdSource};
 use std::alloc::{AllocError as OutOfMemory, Global};
 use std::fmt::Write;
 use std::test::Fail;
+use test_recordings::bytes_of;
 use ts_record::{Record, RecordReader, lend_record};
 
 /// The form of a name.

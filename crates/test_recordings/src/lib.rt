@@ -7,6 +7,7 @@
 mod captures;
 mod damage;
 mod datagrams;
+mod hex_text;
 mod outlet;
 mod outside;
 mod packets;
@@ -20,6 +21,7 @@ pub mod units;
 pub use captures::{CAPTURE_HEAD, capture_of, numbered_capture, put_record};
 pub use damage::{Harm, damaged};
 pub use datagrams::{Datagram, datagram_of, put_datagram};
+pub use hex_text::bytes_of;
 pub use outlet::NotedOutlet;
 pub use outside::{
     Failing, FileLeft, Given, Left, Outside, difference_of_files, faultless, words_of,

@@ -3,19 +3,6 @@ use std::alloc::Global;
 use std::process::Abort;
 use std::test::Fail;
 
-/// The bytes of hexadecimal digits, in pieces separated by spaces; `*` and a number after a piece say how often it stands.
-pub(crate) fn bytes_of(alloc: Global, text: &str) -> Result<Vec<u8>, Fail> {
-    let mut bytes = Vec::new(alloc);
-    for piece in text.split(' ') {
-        let (digits, times) = piece.split_once('*').unwrap_or((piece, "1"));
-        let piece = hex::decode(alloc, digits)?;
-        for _ in 0..times.parse::<u16>()? {
-            bytes.extend_from_slice(&piece)?;
-        }
-    }
-    Ok(bytes)
-}
-
 /// Asserts that `answer` of what each line gives is what must come of it.
 pub(crate) fn assert_cases(
     rt: &impl Abort,

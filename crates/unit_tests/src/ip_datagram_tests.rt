@@ -1,8 +1,9 @@
 //! Headers from the standards' syntax, written by hand.
-use crate::cases::{assert_cases, bytes_of};
+use crate::cases::assert_cases;
 use ip_datagram::{DatagramList, destination, front, length_hint};
 use std::alloc::Global;
 use std::test::Fail;
+use test_recordings::bytes_of;
 
 /// The length and the destination of the datagram that bytes begin with, or the fault.
 fn front_of(alloc: Global, given: &str) -> Result<String, Fail> {

@@ -1,10 +1,11 @@
 //! Sections by the syntax of EN 301 192, written by hand; an independent program gave their CRC_32.
-use crate::cases::{assert_cases, bytes_of};
+use crate::cases::assert_cases;
 use hex::FromHex;
 use mpe_section::{Fec, RealTime, read_fec, read_mpe, write_fec, write_mpe, write_mpe_around};
 use section_codec::SectionRef;
 use std::alloc::Global;
 use std::test::Fail;
+use test_recordings::bytes_of;
 
 const MAC: [u8; 6] = [1, 0, 0x5E, 1, 2, 3];
 

@@ -1,9 +1,10 @@
 //! A section from outside: a program association section, whose CRC_32 an independent program gave.
-use crate::cases::{assert_cases, bytes_of};
+use crate::cases::assert_cases;
 use hex::FromHex;
 use section_codec::{SectionForm, parse, write, write_around};
 use std::alloc::Global;
 use std::test::Fail;
+use test_recordings::bytes_of;
 use unit_stream::UnitForm;
 
 /// table_id and body of a section, or the fault.

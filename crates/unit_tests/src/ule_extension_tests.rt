@@ -1,8 +1,9 @@
 //! Chains by hand, after RFC 4326 sections 4.4 and 5.
-use crate::cases::{assert_cases, bytes_of};
+use crate::cases::assert_cases;
 use hex::FromHex;
 use std::alloc::Global;
 use std::test::Fail;
+use test_recordings::bytes_of;
 use ule_extension::{bridged, datagram, walk};
 
 /// A Type of 4 digits, and the bytes after it.

@@ -1,8 +1,9 @@
 //! SNDUs from outside: the example of RFC 4326 appendix B, and one whose CRC-32 an independent program gave.
-use crate::cases::{assert_cases, bytes_of};
+use crate::cases::assert_cases;
 use hex::FromHex;
 use std::alloc::Global;
 use std::test::Fail;
+use test_recordings::bytes_of;
 use ule_unit::{Sndu, UleForm, read, read_checked, write, write_around};
 use unit_stream::UnitForm;
 

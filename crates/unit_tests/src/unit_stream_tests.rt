@@ -1,8 +1,9 @@
 //! Packets by hand and the events that they give; units by hand and the packets that they fill.
-use crate::cases::{assert_cases, bytes_of};
+use crate::cases::assert_cases;
 use crate::small_form::SmallForm;
 use std::alloc::{AllocError, Global};
 use std::test::Fail;
+use test_recordings::bytes_of;
 use ts_packet::{Link, Packet};
 use unit_stream::{JoinEvent, Joiner, Listener, Packer, UnitForm, count_packets};
 
