@@ -95,14 +95,8 @@ fn fields_of(unit: &[u8]) -> Sndu<'_>
             bytes: &unit[HEAD..end],
         };
     }
-    let npa = [
-        unit[HEAD],
-        unit[HEAD + 1],
-        unit[HEAD + 2],
-        unit[HEAD + 3],
-        unit[HEAD + 4],
-        unit[HEAD + 5],
-    ];
+    let mut npa = [0; ADDRESS];
+    npa.copy_from_slice(&unit[HEAD..HEAD + ADDRESS]);
     Sndu {
         npa: Some(npa),
         first_type,
