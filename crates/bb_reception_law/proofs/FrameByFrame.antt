@@ -14,7 +14,7 @@ use Rattle.gse_spec.specs.Received.{is_frame_of, is_foreign, placed, received_gs
 use Rattle.gse_spec.specs.Numbers.{received_frame_count}
 use Rattle.gse_law.specs.Streams.{packets_of_frame, OneFrameMore}
 use Rattle.gse_law.proofs.Steps.{one_frame}
-use Rattle.reception_law.specs.Words.{datagram_of, datagrams_of}
+use Rattle.outlet_spec.specs.Pairs.{datagram_of, datagrams_of}
 use Rattle.bb_reception_spec.specs.Delivered.{delivered_on, delivered_by_service, service_at, delivered_of, added_by, given_by_frame, pairs_of_frame, delivered_pairs}
 use Rattle.bb_reception_law.proofs.Services.{apart, of_one, foreign_off}
 

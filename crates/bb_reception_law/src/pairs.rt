@@ -3,7 +3,7 @@ ghost use Rattle.std.specs.Prelude.{◌≡◌, ℕ, ◌<◌, ◌≤◌, ◌==◌
 ghost use Rattle.plan_spec.specs.Plan.{PlanFields, isi_of, isis};
 ghost use Rattle.plan_spec.specs.Checks.{has_pair};
 ghost use Rattle.gse_spec.specs.Received.{is_frame_of, is_foreign};
-ghost use Rattle.reception_law.specs.Words.{datagrams_of};
+ghost use Rattle.outlet_spec.specs.Pairs.{datagrams_of};
 ghost use Rattle.bb_reception_spec.specs.Delivered.{service_at, delivered_of, added_by, given_by_frame, pairs_of_frame, delivered_pairs};
 
 /// The pairs of a recording come frame by frame.

@@ -14,6 +14,7 @@ small_service isi filter = record {
   name = codes "gse";
   kind = gse isi true;
   rules = [];
+  urgent = [];
   filter = filter;
   unicast = [];
   service_id = 1;

@@ -1,37 +1,24 @@
 -- The window of the next cycle is near, as the code counts the moments.
 use Rattle.std.proofs.Common.{◌≡◌, ℕ, ◌+◌, ◌-◌, ◌*◌, ◌<◌, ◌≤◌, sym, ap, ap₂, subst, ◌∙◌, arith}
 use Rattle.ts_spec.specs.Recording.{RecordingForm, plain, stamped, m2ts}
-use Rattle.slice_spec.specs.Moments.{ten, moment_of}
+use Rattle.slice_spec.specs.Moments.{ten}
 use Rattle.slice_spec.specs.Bursts.{Slicing, IsSliceable, moment_in}
 use Rattle.slice_law.proofs.Timed.{ten_above}
 use Rattle.plan.specs.Parts.{form_of}
-use Rattle.stream_spec.specs.Units.{burst_moment}
+use Rattle.stream_spec.specs.Units.{slicing_in_part, burst_moment}
 use Rattle.burst_packets.specs.Timing.{schedule_in, slicing_in, window_in}
 use Rattle.burst_packets.specs.declared.timing.Timing.{Timing}
 
--- with the slots before the part counted as slots before the window
+-- in slots of the stream
 abbrev pub from_stream : Timing → Slicing
-from_stream timing = record {
-  form = form_of timing.recording;
-  rate = timing.packet_rate;
-  cycle = timing.cycle;
-  start = timing.slots_before + timing.start;
-  length = timing.length;
-}
+from_stream timing = slicing_in_part (schedule_in 0 timing) (window_in timing)
 
 pub sliceable_so : (timing : Timing) → IsSliceable (slicing_in timing) → IsSliceable (from_stream timing)
 sliceable_so timing is = record { rate_above = is.rate_above; gap = is.gap; cycle_below = is.cycle_below }
 
-pub same_moment : (timing : Timing) (c n : ℕ) → burst_moment (schedule_in 0 timing) (window_in timing) c n ≡ moment_in (from_stream timing) c n
-same_moment timing c n = ap (λ (s : ℕ). moment_of (form_of timing.recording) timing.packet_rate s) same_slot
-  where
-    same_slot : timing.slots_before + (c * timing.cycle + timing.start + n) ≡ c * timing.cycle + (timing.slots_before + timing.start) + n
-    same_slot = omega arith
-
 pub near : (timing : Timing) (c n : ℕ) → moment_in (from_stream timing) (c + 1) 0 < moment_in (from_stream timing) c n + 4096 * ten (form_of timing.recording)
     → burst_moment (schedule_in 0 timing) (window_in timing) (c + 1) 0 - burst_moment (schedule_in 0 timing) (window_in timing) c n < 4096 * ten (form_of timing.recording)
-near timing c n below =
-    omega (arith, same_moment timing (c + 1) 0, same_moment timing c n, ten_above (form_of timing.recording), below)
+near timing c n below = omega (arith, ten_above (form_of timing.recording), below)
 
 pub ten_most : (form : RecordingForm) → ten form ≤ 270000
 ten_most plain = omega arith

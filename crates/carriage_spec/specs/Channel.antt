@@ -8,25 +8,42 @@ use Rattle.ts_spec.specs.Received.{record_at, Arrival, arrivals}
 abbrev pub IsForeign : List ℕ → Record → Type 0
 IsForeign pids r = (pid : ℕ) → Contains pids pid → arrivals pid (r ∷ []) ≡ []
 
--- In all that follows, place j is the place among the sent records from which recorded record j comes, none where it was inserted,
--- and first j is the place among the recorded ones of the record that it is a copy of: j itself, where it is no copy.
+-- How recorded record j came to be: it comes from a record of those sent, or was inserted; and it is a copy of a record that was recorded
+-- before it, or none. place j is the place among the sent records from which it comes, and first j the place among the recorded ones of the
+-- record that it is a copy of: j itself, where it is none.
+
+abbrev pub ComesFrom : (place : ℕ → Option ℕ) → (j n : ℕ) → Type 0
+ComesFrom place j n = place j ≡ Some n
+
+abbrev pub IsInserted : (place : ℕ → Option ℕ) → (j : ℕ) → Type 0
+IsInserted place j = place j ≡ None
+
+abbrev pub IsCopy : (first : ℕ → ℕ) → (j : ℕ) → Type 0
+IsCopy first j = first j < j
+
+abbrev pub IsNoCopy : (first : ℕ → ℕ) → (j : ℕ) → Type 0
+IsNoCopy first j = first j ≡ j
+
+-- both records have the same bytes
+abbrev pub SameBytes : Record → Record → Type 0
+SameBytes r other = r.bytes ≡ other.bytes
 
 -- each sent record is dropped, kept, or replaced by any record; after a kept one copies of it may stand, and anywhere records that
 -- are foreign to a receiver of these PIDs
 pub record Channel (pids : List ℕ) (sent recorded : List Record) : Type 0 where
   pub place : ℕ → Option ℕ
   pub first : ℕ → ℕ
-  pub within : (j n : ℕ) → j < length recorded → place j ≡ Some n → n < length sent
+  pub within : (j n : ℕ) → j < length recorded → ComesFrom place j n → n < length sent
   -- the records that are no copies are in order, and at most one comes from each place
-  pub in_order : (j k m n : ℕ) → j < k → k < length recorded → first j ≡ j → first k ≡ k → place j ≡ Some m → place k ≡ Some n → m < n
-  -- a copy stands after a record that is none and was kept, and has its bytes
+  pub in_order : (j k m n : ℕ) → j < k → k < length recorded → IsNoCopy first j → IsNoCopy first k → ComesFrom place j m → ComesFrom place k n → m < n
+  -- a copy stands after a record that is none, comes from the same place and was kept, and has its bytes
   pub behind : (j : ℕ) → j < length recorded → first j ≤ j
-  pub no_copy : (j : ℕ) → j < length recorded → first (first j) ≡ first j
+  pub no_copy : (j : ℕ) → j < length recorded → IsNoCopy first (first j)
   pub same_place : (j : ℕ) → j < length recorded → place j ≡ place (first j)
-  pub kept : (j n : ℕ) → j < length recorded → first j < j → place j ≡ Some n → (record_at recorded (first j)).bytes ≡ (record_at sent n).bytes
-  pub same : (j : ℕ) → j < length recorded → (record_at recorded j).bytes ≡ (record_at recorded (first j)).bytes
+  pub kept : (j n : ℕ) → j < length recorded → IsCopy first j → ComesFrom place j n → SameBytes (record_at recorded (first j)) (record_at sent n)
+  pub same : (j : ℕ) → j < length recorded → SameBytes (record_at recorded j) (record_at recorded (first j))
   -- between a record and its copy stands no readable packet of their PID but such copies, where a receiver reads this PID
   pub alone : (pid : ℕ) (copy other : Arrival) → Contains pids pid → Contains (arrivals pid recorded) copy → Contains (arrivals pid recorded) other
       → first copy.place < other.place → other.place < copy.place → other.bytes ≡ copy.bytes
   -- what was inserted is foreign
-  pub foreign : (j : ℕ) → j < length recorded → place j ≡ None → IsForeign pids (record_at recorded j)
+  pub foreign : (j : ℕ) → j < length recorded → IsInserted place j → IsForeign pids (record_at recorded j)

@@ -1,8 +1,8 @@
 -- The datagrams that received frames give: rows are corrected, then datagrams found.
-use Rattle.std.specs.Prelude.{ℕ, Bool, List, flat_map}
+use Rattle.std.specs.Prelude.{ℕ, List, flat_map}
 use Rattle.slice_spec.specs.Sections.{Timing}
 use Rattle.frame_spec.specs.Sections.{FrameSection, TimedSection, sections_of, data_of}
-use Rattle.frame_spec.specs.Groups.{received_frames, closed_frames}
+use Rattle.frame_spec.specs.Groups.{received_frames}
 use Rattle.frame_spec.specs.Known.{known_byte}
 use Rattle.frame_spec.specs.Corrected.{corrected_byte}
 use Rattle.frame_spec.specs.Starts.{found_datagrams}
@@ -18,7 +18,3 @@ datagrams_of_frames rows frames = flat_map (λ (group : List TimedSection). fram
 -- delivered of all sections of a service on one PID, when all frames are closed
 abbrev pub delivered_by_frames : Timing → ℕ → List TimedSection → List (List ℕ)
 delivered_by_frames timing rows sections = datagrams_of_frames rows (received_frames timing rows sections)
-
--- and delivered so far, where more sections may come or no more can
-abbrev pub delivered_so_far : Timing → ℕ → Bool → List TimedSection → List (List ℕ)
-delivered_so_far timing rows ended sections = datagrams_of_frames rows (closed_frames ended (received_frames timing rows sections))

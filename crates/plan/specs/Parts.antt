@@ -1,5 +1,5 @@
 -- The parts of a plan as definitions say them.
-use Rattle.std.specs.Prelude.{ℕ, List, map, Option, option_map}
+use Rattle.std.specs.Prelude.{ℕ, List, [], map, Option, option_map}
 use Rattle.ts_spec.specs.Recording.{RecordingForm, plain, stamped, m2ts}
 use Rattle.ipe_io.specs.declared.faults.Recording.{Recording}
 use Rattle.ipe_io.specs.declared.faults.Recording.TheVariants.{Plain, Stamped, M2ts}
@@ -30,6 +30,7 @@ service_seen service = record {
   name = service.name;
   kind = kind_seen service.kind;
   rules = service.rules;
+  urgent = [];
   filter = service.filter;
   unicast = service.unicast;
   service_id = service.service_id;

@@ -16,10 +16,12 @@ pub data KindFields : Type 0 where
   fec : (pid rows parity : ℕ) (window : Option WindowFields) → KindFields
   gse : (isi : ℕ) (address : Bool) → KindFields
 
+-- a service. What urgent rules match need not wait for the rest of a long datagram; no settings give such rules so far
 pub record ServiceFields : Type 0 where
   pub name : List ℕ
   pub kind : KindFields
   pub rules : List Rule
+  pub urgent : List Rule
   pub filter : List (List ℕ)
   pub unicast : List ℕ
   pub service_id : ℕ

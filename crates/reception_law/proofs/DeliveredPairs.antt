@@ -12,7 +12,8 @@ use Rattle.plan_spec.specs.Changes.{pid_in, has_wrong_change}
 use Rattle.reception_spec.specs.Packets.{is_on}
 use Rattle.reception_spec.specs.Spans.{version_at_end}
 use Rattle.reception_spec.specs.Delivered.{told_of, delivered_of, given_by_record, given_by_end, pairs_of, pairs_of_record, pairs_of_end, told_pairs, delivered_pairs}
-use Rattle.reception_law.specs.Words.{added_on, datagram_of, datagrams_of}
+use Rattle.outlet_spec.specs.Pairs.{datagram_of, datagrams_of}
+use Rattle.reception_law.specs.Words.{added_on}
 use Rattle.reception_law.specs.InForce.{pid_in_force, closed_by_record_on, closed_by_record, closed_at_end_on, closed_at_end}
 use Rattle.reception_law.proofs.VersionInForce.{most, without_table, version_stays}
 use Rattle.reception_law.proofs.Lists.{other_way}

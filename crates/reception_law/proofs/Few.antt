@@ -32,7 +32,7 @@ use Rattle.reception_spec.specs.Units.{wants_unit, is_unread, is_filtered, deliv
 use Rattle.reception_spec.specs.Numbers.{gaps_behind, gaps_in, is_unit, is_bad_check, is_delimit, is_bad_length, PidNumbers, no_numbers, UnitNumbers, numbers_if_on, units_on, units_of}
 use Rattle.reception_spec.specs.Spans.{span_from, span_of}
 use Rattle.reception_spec.specs.Frames.{frames_received, told_frames, rows_of, FrameNumbers, no_frames, sum_of_frames}
-use Rattle.reception_spec.specs.Delivered.{service_on, is_not_heard}
+use Rattle.reception_spec.specs.Delivered.{service_on, takes_no_more}
 use Rattle.reception_spec.specs.Sums.{sum_of_numbers, numbers_on, numbers_of, unit_numbers_of, frame_numbers_on, frame_numbers_of, told_frame_numbers}
 use Rattle.reception_law.specs.Sums.{no_units, sum_of_units, unit_numbers_on, other_pids, numbers_before, unit_numbers_before, frame_numbers_before, AreAtMost, UnitsAreAtMost, FramesAreAtMost}
 use Rattle.reception_law.proofs.Fronts.{units_in, units_are}
@@ -589,7 +589,7 @@ few_frames_of_all plan k records least few_changes few_records = frames_few plan
 pub few_frames_told : (plan : PlanFields) (k : ℕ) (records : List Record) → rows_of (get_or plan.services k no_service).kind ≤ 1024
     → length plan.changes ≤ 31 → length records ≤ 2 ^ 32 → FramesAreAtMost (2 ^ 63) (told_frame_numbers plan k records)
 few_frames_told plan k records least few_changes few_records =
-    frames_few plan k records few_changes few_records least (λ x. is_not_heard plan records k x) (pids_in plan k) (omega arith)
+    frames_few plan k records few_changes few_records least (λ x. takes_no_more plan records k x) (pids_in plan k) (omega arith)
 
 pub few_before : (plan : PlanFields) (k pid : ℕ) (records : List Record) → length plan.changes ≤ 31 → length records ≤ 2 ^ 32 → AreAtMost (2 ^ 45) (numbers_before plan k pid records)
 few_before plan k pid records few_changes few_records = numbers_few plan k records few_changes few_records (other_pids plan k pid) (few_but pid (pids_in plan k))

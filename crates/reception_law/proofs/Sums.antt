@@ -13,7 +13,7 @@ use Rattle.reception_spec.specs.Numbers.{PidNumbers, no_numbers, UnitNumbers, un
 use Rattle.reception_spec.specs.Spans.{version_at_end, span_of}
 use Rattle.frame_spec.specs.Delivered.{datagrams_of_frames}
 use Rattle.reception_spec.specs.Frames.{told_frames, rows_of, FrameNumbers, no_frames, sum_of_frames}
-use Rattle.reception_spec.specs.Delivered.{delivered_datagrams, service_on, is_not_heard, told_on, told_of, delivered_on, delivered_of}
+use Rattle.reception_spec.specs.Delivered.{delivered_datagrams, service_on, takes_no_more, told_on, told_of, delivered_on, delivered_of}
 use Rattle.reception_spec.specs.Sums.{sum_of_numbers, numbers_on, numbers_of, unit_numbers_of, frame_numbers_on, frame_numbers_of, told_frame_numbers}
 use Rattle.std.specs.Prelude.{slice_index_or}
 use Rattle.reception_law.specs.InForce.{pid_in_force}
@@ -220,10 +220,10 @@ frames_are = frames_parted
 pub told_frames_are : (plan : PlanFields) (k pid : ℕ) (records : List Record) → has_wrong_change plan ≡ false → pid_in_force plan k records ≡ Some pid
     → told_frame_numbers plan k records ≡ sum_of_frames (frame_numbers_before plan k pid records) (frame_numbers_on false plan k records pid)
 told_frames_are plan k pid records right_changes on =
-    told_parted plan k pid (version_at_end plan records) records right_changes (most plan records (length records)) on (λ x. is_not_heard plan records k x)
+    told_parted plan k pid (version_at_end plan records) records right_changes (most plan records (length records)) on (λ x. takes_no_more plan records k x)
     ∙ ap₂ sum_of_frames
     (ap (fold sum_of_frames no_frames)
-    (map_but (λ x. frame_numbers_on (is_not_heard plan records k x) plan k records x) (frame_numbers_on true plan k records) pid
+    (map_but (λ x. frame_numbers_on (takes_no_more plan records k x) plan k records x) (frame_numbers_on true plan k records) pid
     (λ x differs. ap (λ (b : Bool). frame_numbers_on b plan k records x) (ended_elsewhere plan k x pid records on (other_way x pid differs))) (pids_in plan k)))
     (ap (λ (b : Bool). frame_numbers_on b plan k records pid) (not_ended plan k pid records on))
 
@@ -254,8 +254,8 @@ delivered_counted plan k records =
 pub told_counted : (plan : PlanFields) (k : ℕ) (records : List Record)
     → length (told_of plan k records) ≡ (unit_numbers_of plan k records).datagrams + (told_frame_numbers plan k records).datagrams
 told_counted plan k records =
-    counted (told_on plan k records) (unit_numbers_on plan k records) (λ pid. frame_numbers_on (is_not_heard plan records k pid) plan k records pid)
-    (λ pid. tells_counted (is_not_heard plan records k pid) plan k pid records) (pids_in plan k)
+    counted (told_on plan k records) (unit_numbers_on plan k records) (λ pid. frame_numbers_on (takes_no_more plan records k pid) plan k records pid)
+    (λ pid. tells_counted (takes_no_more plan records k pid) plan k pid records) (pids_in plan k)
     ∙ ap (λ (n : UnitNumbers). n.datagrams + (told_frame_numbers plan k records).datagrams) (sym (units_by_pids plan k records))
 
 pub numbers_are : (plan : PlanFields) (k pid version : ℕ) (records : List Record) → has_wrong_change plan ≡ false → version ≤ length plan.changes → pid_in plan version k ≡ Some pid
@@ -349,5 +349,5 @@ frames_before_none plan k pid =
 
 pub told_frames_none : (plan : PlanFields) (k : ℕ) → told_frame_numbers plan k [] ≡ no_frames
 told_frames_none plan k =
-    all_none sum_of_frames no_frames frames_sum (λ pid. frame_numbers_on (is_not_heard plan [] k pid) plan k [] pid)
-    (λ x. (first_blank plan k x).frame_numbers (is_not_heard plan [] k x)) (pids_in plan k)
+    all_none sum_of_frames no_frames frames_sum (λ pid. frame_numbers_on (takes_no_more plan [] k pid) plan k [] pid)
+    (λ x. (first_blank plan k x).frame_numbers (takes_no_more plan [] k x)) (pids_in plan k)

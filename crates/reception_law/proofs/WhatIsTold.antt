@@ -10,7 +10,7 @@ use Rattle.plan_spec.specs.Changes.{has_pid, pid_in, pids_in, has_wrong_change}
 use Rattle.plan_law.proofs.Pids.{is_in, twice}
 use Rattle.reception_spec.specs.Packets.{is_on}
 use Rattle.reception_spec.specs.Spans.{version_at_place, version_at_end, span_of}
-use Rattle.reception_spec.specs.Delivered.{told_by, service_on, is_not_heard, told_on, told_of, delivered_on, delivered_of, given_by_record, given_by_end}
+use Rattle.reception_spec.specs.Delivered.{told_by, service_on, takes_no_more, told_on, told_of, delivered_on, delivered_of, given_by_record, given_by_end}
 use Rattle.reception_law.specs.Words.{added_on, closed_on}
 use Rattle.reception_law.specs.InForce.{pid_in_force, closed_by_move, given_on, ComesLater, IsBlank}
 use Rattle.reception_law.proofs.Frames.{told_more, told_end, told_nothing, none_added}
@@ -96,17 +96,17 @@ first_blank plan k pid = blank_where plan k pid [] (λ p less. absurd (omega (ar
 
 pub told_none : (plan : PlanFields) (k : ℕ) → told_of plan k [] ≡ []
 told_none plan k =
-    flat_none (told_on plan k []) (pids_in plan k) (λ pid there. told_nothing (is_not_heard plan [] k pid) plan.recording (service_on plan k pid))
+    flat_none (told_on plan k []) (pids_in plan k) (λ pid there. told_nothing (takes_no_more plan [] k pid) plan.recording (service_on plan k pid))
 
 -- Where a span has ended.
 
-pub not_ended : (plan : PlanFields) (k pid : ℕ) (records : List Record) → pid_in_force plan k records ≡ Some pid → is_not_heard plan records k pid ≡ false
+pub not_ended : (plan : PlanFields) (k pid : ℕ) (records : List Record) → pid_in_force plan k records ≡ Some pid → takes_no_more plan records k pid ≡ false
 not_ended plan k pid records on = ap (λ (o : Option ℕ). not (has_pid o pid)) on ∙ ap not (eq-eqb pid pid refl)
 
-pub ended_elsewhere : (plan : PlanFields) (k pid other : ℕ) (records : List Record) → pid_in_force plan k records ≡ Some other → eqb other pid ≡ false → is_not_heard plan records k pid ≡ true
+pub ended_elsewhere : (plan : PlanFields) (k pid other : ℕ) (records : List Record) → pid_in_force plan k records ≡ Some other → eqb other pid ≡ false → takes_no_more plan records k pid ≡ true
 ended_elsewhere plan k pid other records on differs = ap (λ (o : Option ℕ). not (has_pid o pid)) on ∙ ap not differs
 
-pub ended_nowhere : (plan : PlanFields) (k pid : ℕ) (records : List Record) → pid_in_force plan k records ≡ None → is_not_heard plan records k pid ≡ true
+pub ended_nowhere : (plan : PlanFields) (k pid : ℕ) (records : List Record) → pid_in_force plan k records ≡ None → takes_no_more plan records k pid ≡ true
 ended_nowhere plan k pid records none = ap (λ (o : Option ℕ). not (has_pid o pid)) none
 
 -- ended or not, a span tells what it told before, and what that closes
@@ -119,7 +119,7 @@ ended_or_not false plan k pid records = sym (append-nil (tells false plan k reco
 told_next : (plan : PlanFields) (k pid : ℕ) (records : List Record) (r : Record) → pid_in_force plan k records ≡ Some pid
     → told_on plan k (records ++ r ∷ []) pid ≡ told_on plan k records pid ++ given_on plan k pid records r
 told_next plan k pid records r on =
-    ended_or_not (is_not_heard plan (records ++ r ∷ []) k pid) plan k pid (records ++ r ∷ [])
+    ended_or_not (takes_no_more plan (records ++ r ∷ []) k pid) plan k pid (records ++ r ∷ [])
     ∙ ap (λ (t : List (List ℕ)). t ++ closed_by_move plan k pid records r)
     (ap (told_by false plan.recording (service_on plan k pid)) (span_heard plan k pid records r on)
     ∙ told_more plan.recording (service_on plan k pid) (span_of plan k pid records) r)
@@ -139,7 +139,7 @@ module _ (plan : PlanFields) (k pid : ℕ) (records : List Record) (right : has_
       ap (flat_map (told_on plan k others)) parts.whole
       ∙ flat_map-append (told_on plan k others) parts.before (pid ∷ parts.behind)
       ∙ ap (λ (t : List (List ℕ)). told_before others ++ (told_on plan k others pid ++ t))
-      (flat_none (told_on plan k others) parts.behind (λ x there. (blank x there).told (is_not_heard plan others k x)))
+      (flat_none (told_on plan k others) parts.behind (λ x there. (blank x there).told (takes_no_more plan others k x)))
       ∙ ap (λ (t : List (List ℕ)). told_before others ++ t) (append-nil (told_on plan k others pid))
 
   -- what the end adds, that PID does
@@ -184,14 +184,14 @@ module _ (plan : PlanFields) (k pid : ℕ) (records : List Record) (right : has_
             let never : true ≡ false = sym (eq-eqb pid x is) ∙ parts.others x there in
             absurd (cc (never))
 
-    before_ended : (x : ℕ) → is_in x parts.before ≡ true → is_not_heard plan (records ++ r ∷ []) k x ≡ true
+    before_ended : (x : ℕ) → is_in x parts.before ≡ true → takes_no_more plan (records ++ r ∷ []) k x ≡ true
     before_ended x there = by_force (pid_in_force plan k (records ++ r ∷ [])) refl
       where
-        by_own : (own : ℕ) → pid_in_force plan k (records ++ r ∷ []) ≡ Some own → (b : Bool) → eqb own x ≡ b → is_not_heard plan (records ++ r ∷ []) k x ≡ true
+        by_own : (own : ℕ) → pid_in_force plan k (records ++ r ∷ []) ≡ Some own → (b : Bool) → eqb own x ≡ b → takes_no_more plan (records ++ r ∷ []) k x ≡ true
         by_own own is true same = absurd (not_again x there (is ∙ ap (λ (n : ℕ). Some n) (eqb-true own x same)))
         by_own own is false differs = ended_elsewhere plan k x own (records ++ r ∷ []) is differs
 
-        by_force : (o : Option ℕ) → pid_in_force plan k (records ++ r ∷ []) ≡ o → is_not_heard plan (records ++ r ∷ []) k x ≡ true
+        by_force : (o : Option ℕ) → pid_in_force plan k (records ++ r ∷ []) ≡ o → takes_no_more plan (records ++ r ∷ []) k x ≡ true
         by_force None is = ended_nowhere plan k x (records ++ r ∷ []) is
         by_force (Some own) is = by_own own is (eqb own x) refl
 
@@ -280,7 +280,7 @@ told_by_other plan k records r other stays =
     flat_same (told_on plan k (records ++ r ∷ [])) (told_on plan k records) (pids_in plan k)
     (λ pid there.
     ap (λ (o : Option ℕ). tells (not (has_pid o pid)) plan k (records ++ r ∷ []) pid) stays
-    ∙ told_same (is_not_heard plan records k pid) plan k pid records r (is_off plan k records r other pid))
+    ∙ told_same (takes_no_more plan records k pid) plan k pid records r (is_off plan k records r other pid))
 
 pub given_by_other : (plan : PlanFields) (k : ℕ) (records : List Record) (r : Record) → IsOther plan k records r
     → pid_in_force plan k (records ++ r ∷ []) ≡ pid_in_force plan k records → given_by_record plan k (records ++ r ∷ []) (length records) ≡ []

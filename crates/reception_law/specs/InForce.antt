@@ -8,7 +8,7 @@ use Rattle.reception_spec.specs.Numbers.{no_numbers, units_of}
 use Rattle.reception_spec.specs.Table.{table_sections}
 use Rattle.reception_spec.specs.Spans.{version_at_end, span_of}
 use Rattle.reception_spec.specs.Frames.{frames_received, no_frames}
-use Rattle.reception_spec.specs.Delivered.{delivered_datagrams, told_by, service_on, is_not_heard}
+use Rattle.reception_spec.specs.Delivered.{delivered_datagrams, told_by, service_on, takes_no_more}
 use Rattle.reception_spec.specs.Sums.{numbers_on, frame_numbers_on}
 use Rattle.reception_law.specs.Words.{added_on, closed_on}
 use Rattle.reception_law.specs.Sums.{no_units, unit_numbers_on}
@@ -23,7 +23,7 @@ pid_in_force plan k records = pid_in plan (version_at_end plan records) k
 
 -- what the frame under way on a PID gives, where one record more moves service k to another PID
 abbrev pub closed_by_move : PlanFields → ℕ → ℕ → List Record → Record → List (List ℕ)
-closed_by_move plan k pid records r = if is_not_heard plan (records ++ r ∷ []) k pid then closed_on plan k pid (records ++ r ∷ []) else []
+closed_by_move plan k pid records r = if takes_no_more plan (records ++ r ∷ []) k pid then closed_on plan k pid (records ++ r ∷ []) else []
 
 -- what a record gives on the PID in force before it: what it adds to the span, and where it moves the service, what that closes
 abbrev pub given_on : PlanFields → ℕ → ℕ → List Record → Record → List (List ℕ)

@@ -1,5 +1,5 @@
 -- What one record more gives, and one service among all: its part of delivered pairs.
-use Rattle.std.specs.Prelude.{ℕ, true, false, List, [], ◌∷◌, ◌++◌, ◌==◌, length, drop, flat_map, if◌then◌else◌}
+use Rattle.std.specs.Prelude.{ℕ, true, false, List, [], ◌∷◌, ◌++◌, length, drop}
 use Rattle.ts_spec.specs.Recording.{RecordingForm, Record}
 use Rattle.plan_spec.specs.Plan.{ServiceFields, PlanFields}
 use Rattle.reception_spec.specs.Spans.{span_of}
@@ -19,11 +19,3 @@ added_on plan k pid records r = added_by plan.recording (service_on plan k pid) 
 
 abbrev pub closed_on : PlanFields → ℕ → ℕ → List Record → List (List ℕ)
 closed_on plan k pid records = closed_by plan.recording (service_on plan k pid) (span_of plan k pid records)
-
--- the datagram of a pair, where it is one of this service
-abbrev pub datagram_of : ℕ → ℕ × List ℕ → List (List ℕ)
-datagram_of k pair = if pair.0 == k then pair.1 ∷ [] else []
-
--- the datagrams of a service among pairs of service and datagram, in order
-abbrev pub datagrams_of : ℕ → List (ℕ × List ℕ) → List (List ℕ)
-datagrams_of k pairs = flat_map (datagram_of k) pairs

@@ -5,7 +5,8 @@ ghost use Rattle.plan_spec.specs.Plan.{IntFields, PlanFields};
 ghost use Rattle.plan_spec.specs.Changes.{has_wrong_change};
 ghost use Rattle.reception_spec.specs.Packets.{is_on};
 ghost use Rattle.reception_spec.specs.Delivered.{told_of, delivered_of, given_by_record, given_by_end, pairs_of, pairs_of_record, pairs_of_end, told_pairs, delivered_pairs};
-ghost use Rattle.reception_law.specs.Words.{added_on, datagrams_of};
+ghost use Rattle.outlet_spec.specs.Pairs.{datagrams_of};
+ghost use Rattle.reception_law.specs.Words.{added_on};
 ghost use Rattle.reception_law.specs.InForce.{pid_in_force, closed_by_record, closed_at_end};
 
 // Record by record.

@@ -24,14 +24,14 @@ told_by ended form service records =
 abbrev pub service_on : PlanFields → ℕ → ℕ → ServiceFields
 service_on plan k pid = on_pid (slice_index_or plan.services k no_service) pid
 
--- behind the records service k is not heard on this PID: no section can be added to a frame on it, since a PID that was left is not
--- taken again. (On a PID that the service comes to later there is no frame yet)
-abbrev pub is_not_heard : PlanFields → List Record → ℕ → ℕ → Bool
-is_not_heard plan records k pid = not (has_pid (pid_in plan (version_at_end plan records) k) pid)
+-- after the records no section can come to a frame of service k on this PID: the service is not heard there, and a PID that was left is
+-- not taken again. On a PID that it comes to later there is no frame yet
+abbrev pub takes_no_more : PlanFields → List Record → ℕ → ℕ → Bool
+takes_no_more plan records k pid = not (has_pid (pid_in plan (version_at_end plan records) k) pid)
 
 -- what the records tell of service k: what its spans do, one after another, where sections may come to the frames of the span in force
 abbrev pub told_on : PlanFields → ℕ → List Record → ℕ → List (List ℕ)
-told_on plan k records pid = told_by (is_not_heard plan records k pid) plan.recording (service_on plan k pid) (span_of plan k pid records)
+told_on plan k records pid = told_by (takes_no_more plan records k pid) plan.recording (service_on plan k pid) (span_of plan k pid records)
 
 abbrev pub told_of : PlanFields → ℕ → List Record → List (List ℕ)
 told_of plan k records = flat_map (told_on plan k records) (pids_in plan k)

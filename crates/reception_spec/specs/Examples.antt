@@ -10,6 +10,7 @@ small_service pid = record {
   name = codes "ule";
   kind = ule pid true true;
   rules = [];
+  urgent = [];
   filter = [];
   unicast = [];
   service_id = 1;

@@ -7,7 +7,7 @@ use Rattle.reception_spec.specs.Packets.{is_unreadable, lacks_content, is_other}
 use Rattle.reception_spec.specs.Numbers.{PidNumbers, no_numbers, UnitNumbers, units_of, unit_numbers, service_pid_numbers}
 use Rattle.reception_spec.specs.Spans.{version_at_place, span_of}
 use Rattle.reception_spec.specs.Frames.{told_frames, rows_of, FrameNumbers, no_frames, sum_of_frames, frame_numbers}
-use Rattle.reception_spec.specs.Delivered.{service_on, is_not_heard}
+use Rattle.reception_spec.specs.Delivered.{service_on, takes_no_more}
 
 -- the records that are packets of no service and not of the INT, each by the version in force at its place
 abbrev pub others_from : PlanFields → List Record → ℕ → List Record → ℕ
@@ -62,7 +62,7 @@ frame_numbers_on ended plan k records pid =
 -- told so far, and where the recording ends
 abbrev pub told_frame_numbers : PlanFields → ℕ → List Record → FrameNumbers
 told_frame_numbers plan k records =
-    fold sum_of_frames no_frames (map (λ pid. frame_numbers_on (is_not_heard plan records k pid) plan k records pid) (pids_in plan k))
+    fold sum_of_frames no_frames (map (λ pid. frame_numbers_on (takes_no_more plan records k pid) plan k records pid) (pids_in plan k))
 
 abbrev pub frame_numbers_of : PlanFields → ℕ → List Record → FrameNumbers
 frame_numbers_of plan k records = fold sum_of_frames no_frames (map (frame_numbers_on true plan k records) (pids_in plan k))

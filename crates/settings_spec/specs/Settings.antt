@@ -191,6 +191,7 @@ service_of place service = record {
   name = text_or [] (codes "name") service;
   kind = kind_of service;
   rules = [];
+  urgent = [];
   filter = if bytes_eq (kind_text service) (codes "fec") then [] else filter_map mac_of_text (texts_at (codes "filter") service);
   unicast = address_or broadcast_mac (codes "unicast") service;
   service_id = number_or 1 (codes "service_id") service;

@@ -1,18 +1,9 @@
 -- The sections of a service in a stream, and as they are accepted. delta_of is what a unit has as delta_t.
 use Rattle.std.specs.Prelude.{◌≡◌, ℕ, List}
-use Rattle.ts_spec.specs.Recording.{Record}
-use Rattle.ts_spec.specs.Received.{arrival_at, arrivals}
-use Rattle.ts_spec.specs.Packetized.{unit_at, IsIn}
+use Rattle.ts_spec.specs.Packetized.{unit_at}
 use Rattle.ts_spec.specs.Reassembly.{PlacedUnit}
-use Rattle.carriage_spec.specs.Carried.{packets_sent}
 use Rattle.slice_spec.specs.Sections.{SectionTime}
 use Rattle.slice_spec.specs.Frames.{IsOf}
-
--- unit n is a section of frame i, with the moment of the packet in which it begins
-pub record IsTimedUnit (pid : ℕ) (sent : List Record) (units : List (List ℕ)) (begin : ℕ → ℕ) (delta_of : List ℕ → ℕ)
-    (frames : List (List SectionTime)) (n i : ℕ) : Type 0 where
-  pub each : (m : ℕ) → IsIn (packets_sent pid sent) m (begin n)
-      → IsOf frames i (record { moment = (arrival_at (arrivals pid sent) m).moment; delta = delta_of (unit_at units n) })
 
 -- unit n has the delta_t of a section of frame i, whatever its moment is
 pub record IsNumberedUnit (units : List (List ℕ)) (delta_of : List ℕ → ℕ) (frames : List (List SectionTime)) (n i : ℕ) : Type 0 where

@@ -35,7 +35,9 @@ module _ (rows columns : ℕ) (schedule : FrameSchedule) (window : WindowFields)
 
   in_burst : (c : ℕ) (ns : List ℕ) → map (burst_moment schedule window c) ns ≡ map at_slot (map (λ n. c * schedule.cycle + window.start + n) ns)
   in_burst c [] = refl
-  in_burst c (n ∷ ns) = ap (λ (l : List ℕ). burst_moment schedule window c n ∷ l) (in_burst c ns)
+  in_burst c (n ∷ ns) =
+      let same : c * schedule.cycle + (schedule.slots_before + window.start) + n ≡ schedule.slots_before + (c * schedule.cycle + window.start + n) = omega arith in
+      ap₂ (λ (m : ℕ) (l : List ℕ). m ∷ l) (ap (λ (s : ℕ). moment_of schedule.form schedule.rate s) same) (in_burst c ns)
 
   moments_are : (c : ℕ) (frames : List (List (List ℕ))) → all_packet_moments rows columns schedule window c frames
       ≡ map at_slot (all_slots schedule.cycle window.start c (map (burst_size rows columns) frames))

@@ -10,8 +10,7 @@ use Rattle.ts_spec.specs.Recording.{RecordingForm}
 use Rattle.ts_spec.specs.Sndu.{sndu_form, sndu_bytes}
 use Rattle.section_spec.specs.Section.{section_form}
 use Rattle.section_spec.specs.Mpe.{mpe_to_write, mpe_bytes}
-use Rattle.slice_spec.specs.Moments.{ten, moment_of}
-use Rattle.slice_spec.specs.Sections.{tens_between}
+use Rattle.slice_spec.specs.Bursts.{Slicing, moment_in, delta_to_next}
 use Rattle.frame_spec.specs.Sender.{datagrams_in_frames, fits_table, frame_of, sections_to_send, section_unit}
 use Rattle.unit_stream.specs.Packing.{packetized}
 use Rattle.plan_spec.specs.Plan.{WindowFields, KindFields, ule, mpe, fec, gse, ServiceFields}
@@ -95,16 +94,22 @@ fits_window rows columns slots datagrams = fits_table rows datagrams && nat_le (
 abbrev pub datagrams_by_burst : ℕ → ℕ → ℕ → List (List ℕ) → List (List (List ℕ))
 datagrams_by_burst rows columns slots datagrams = datagrams_in_frames (fits_window rows columns slots) datagrams
 
--- the slot of the part in which packet n of the burst of a cycle goes out, and its moment
-abbrev pub burst_slot : FrameSchedule → WindowFields → ℕ → ℕ → ℕ
-burst_slot schedule window c n = c * schedule.cycle + window.start + n
+-- how the bursts of the part are sliced, in slots of the stream: each window comes later by as many as come before the part
+abbrev pub slicing_in_part : FrameSchedule → WindowFields → Slicing
+slicing_in_part schedule window = record {
+  form = schedule.form;
+  rate = schedule.rate;
+  cycle = schedule.cycle;
+  start = schedule.slots_before + window.start;
+  length = window.length;
+}
 
+-- the moment of packet n of the burst in a cycle of the part, and the time from it to the window in the next cycle
 abbrev pub burst_moment : FrameSchedule → WindowFields → ℕ → ℕ → ℕ
-burst_moment schedule window c n = moment_of schedule.form schedule.rate (schedule.slots_before + burst_slot schedule window c n)
+burst_moment schedule window c n = moment_in (slicing_in_part schedule window) c n
 
--- the time from this packet to the window in the next cycle
 abbrev pub delta_after : FrameSchedule → WindowFields → ℕ → ℕ → ℕ
-delta_after schedule window c n = tens_between (burst_moment schedule window c n) (burst_moment schedule window (c + 1) 0) (ten schedule.form)
+delta_after schedule window c n = delta_to_next (slicing_in_part schedule window) c n
 
 -- the units of the burst of a cycle; the last burst of all announces none
 abbrev pub units_of_burst : ℕ → ℕ → List ℕ → FrameSchedule → WindowFields → Bool → ℕ → List (List ℕ) → List (List ℕ)

@@ -6,11 +6,12 @@
 
 ghost use Rattle.std.specs.Prelude.{◌≡◌, [], ◌∷◌};
 ghost use Rattle.ts_spec.specs.Recording.{m2ts};
+ghost use Rattle.slice_spec.specs.Bursts.{slot_of};
 ghost use Rattle.stream_spec.specs.Slots.{of_table, of_service, empty, IsSlotCount};
 ghost use Rattle.stream_spec.specs.Parts.{stamp_bytes};
 ghost use Rattle.plan_spec.specs.Examples.{plan_that_changes};
 ghost use Rattle.stream_spec.specs.Stream.{IsPartCount};
-ghost use Rattle.stream_spec.specs.Units.{datagrams_by_frame, burst_slot, burst_moment, delta_after};
+ghost use Rattle.stream_spec.specs.Units.{datagrams_by_frame, slicing_in_part, burst_moment, delta_after};
 ghost use Rattle.stream_spec.specs.Examples.{small_slot, small_slots, idle_slot, datagram_of_100, two_of_each, slots_of_files, second_part, second_part_in_frames, after_a_cycle, window_of_1500};
 
 /// Two services in rotation, the table at the head of each cycle, and null packets after the last.
@@ -42,10 +43,10 @@ pub fn frames_of_a_stream()
     ensures before { (second_part_in_frames.schedules 0).first ≡ 1 }
 {}
 
-/// Bursts of a part that begins with the second cycle of the stream: packet 7 of its first burst goes out in slot 107 of the part, 2.0107
-/// seconds after the first slot of the stream; to the next window it is 1.9993 seconds, 199 whole tens of milliseconds.
+/// Bursts of a part that begins with the second cycle of the stream: packet 7 of its first burst goes out in slot 20,107, 2.0107 seconds
+/// after the first slot of the stream; to the next window it is 1.9993 seconds, 199 whole tens of milliseconds.
 pub fn bursts_of_a_part()
-    ensures slot { burst_slot after_a_cycle window_of_1500 0 7 ≡ 107 }
+    ensures slot { slot_of (slicing_in_part after_a_cycle window_of_1500) 0 7 ≡ 20107 }
     ensures moment { burst_moment after_a_cycle window_of_1500 0 7 ≡ 2010700 }
     ensures first { delta_after after_a_cycle window_of_1500 0 0 ≡ 200 }
     ensures later { delta_after after_a_cycle window_of_1500 0 7 ≡ 199 }
