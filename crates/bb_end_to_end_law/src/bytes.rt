@@ -8,7 +8,7 @@ ghost use Rattle.bb_reception_spec.specs.Delivered.{service_at};
 ghost use Rattle.bb_loss_law.specs.Plans.{IsIsiOf};
 ghost use Rattle.bb_end_to_end_law.specs.Sent.{IsSentInFrames, wants_in_frames};
 ghost use Rattle.bb_end_to_end_law.specs.Delivered.{DeliversNumbered};
-ghost use Rattle.bb_end_to_end_law.specs.Bytes.{IsRecordingOfFrames, DeliversOfFrames};
+ghost use Rattle.bb_end_to_end_law.specs.Bytes.{IsRecordingOfFramesFor, DeliversOfFrames};
 
 use crate::frames::{
     all_of_a_capture_arrives_where_no_frame_is_lost, what_arrives_of_a_capture_in_frames,
@@ -19,8 +19,8 @@ use ts_record::cuts_are_unique;
 /// What arrives of a capture, where the receiver reads bytes: those of a recording that came through a channel of frames.
 pub fn what_arrives_of_the_bytes_of_frames()
     ensures arrives { (plan : PlanFields) (capture : List ℕ) (told frames : List (List ℕ)) → IsSentInFrames plan capture told frames
-        → (bytes : List ℕ) (recording : IsRecordingOfFrames plan frames bytes) (delivered : ℕ → List (List ℕ)) → DeliversOfFrames plan bytes delivered
-        → (k isi : ℕ) → IsIsiOf plan k isi
+        → (bytes : List ℕ) (delivered : ℕ → List (List ℕ)) → DeliversOfFrames plan bytes delivered
+        → (k isi : ℕ) → IsIsiOf plan k isi → (recording : IsRecordingOfFramesFor plan k frames bytes)
         → DeliversNumbered recording.is_recorded.channel isi (service_at plan k) (offered_in_all plan (given_by capture told) k) (delivered k) }
 {
     what_arrives_of_a_capture_in_frames();

@@ -4,7 +4,7 @@ ghost use Rattle.plan_spec.specs.Plan.{PlanFields};
 ghost use Rattle.plan_spec.specs.Offered.{offered_in_all};
 ghost use Rattle.stream_law.specs.Captures.{given_by};
 ghost use Rattle.bb_reception_spec.specs.Delivered.{service_at, delivered_of};
-ghost use Rattle.bb_loss_law.specs.Plans.{IsIsiOf, IsRecordedInFrames, AllArrivedIntact};
+ghost use Rattle.bb_loss_law.specs.Plans.{IsIsiOf, IsRecordedInFramesFor, AllArrivedIntact};
 ghost use Rattle.bb_end_to_end_law.specs.Sent.{IsSentInFrames, wants_in_frames};
 ghost use Rattle.bb_end_to_end_law.specs.Delivered.{DeliversNumbered};
 
@@ -17,12 +17,12 @@ use bb_loss_law::{
 use gse_law::{offered_datagrams_are_carried, the_pdus_say_what_is_delivered};
 use stream_law::a_capture_gives_datagrams;
 
-/// However frames of the stream of a capture are dropped or damaged so that their header shows it, and refused frames and those of other
-/// ISIs inserted, if no fragments are reassembled to a PDU that was not sent:
-/// each service delivers wanted datagrams that were offered to it, unchanged, in order and each once, with each whose frames all arrived.
+/// However frames of the stream of a capture are dropped or damaged so that their header shows it, refused frames and those of other
+/// ISIs inserted, and none of its ISI repeated, if no fragments of a service are reassembled to a PDU that was not sent:
+/// the service delivers wanted datagrams that were offered to it, unchanged, in order and each once, with each whose frames all arrived.
 pub fn what_arrives_of_a_capture_in_frames()
     ensures arrives { (plan : PlanFields) (capture : List ℕ) (told frames : List (List ℕ)) → IsSentInFrames plan capture told frames
-        → (recorded : List (List ℕ)) (is_recorded : IsRecordedInFrames plan frames recorded) (k isi : ℕ) → IsIsiOf plan k isi
+        → (k isi : ℕ) → IsIsiOf plan k isi → (recorded : List (List ℕ)) (is_recorded : IsRecordedInFramesFor plan k frames recorded)
         → DeliversNumbered is_recorded.channel isi (service_at plan k) (offered_in_all plan (given_by capture told) k) (delivered_of plan k recorded) }
 {
     each_datagram_is_sent_in_a_pdu();
@@ -33,12 +33,12 @@ pub fn what_arrives_of_a_capture_in_frames()
     each_gse_service_delivers_what_arrived_intact();
 }
 
-/// Where each PDU arrived intact, whatever else became of the frames, each service delivers all wanted datagrams that were offered to it, in
+/// Where each PDU of a service arrived intact, whatever else became of the frames, it delivers all wanted datagrams that were offered to it, in
 /// order and each once.
 pub fn all_of_a_capture_arrives_where_all_arrived_intact()
     ensures wanted { (plan : PlanFields) (capture : List ℕ) (told frames : List (List ℕ)) → IsSentInFrames plan capture told frames
-        → (recorded : List (List ℕ)) (is_recorded : IsRecordedInFrames plan frames recorded) → AllArrivedIntact plan frames recorded is_recorded.channel
-        → (k : ℕ) → k < length plan.services → delivered_of plan k recorded
+        → (k : ℕ) → k < length plan.services → (recorded : List (List ℕ)) (is_recorded : IsRecordedInFramesFor plan k frames recorded)
+        → AllArrivedIntact plan k frames recorded is_recorded.channel → delivered_of plan k recorded
         ≡ filter (wants_in_frames (service_at plan k)) (offered_in_all plan (given_by capture told) k) }
 {
     each_datagram_is_sent_in_a_pdu();

@@ -10,8 +10,8 @@ ghost use Rattle.stream_law.specs.Words.{records_before};
 ghost use Rattle.stream_law.specs.Captures.{given_by};
 ghost use Rattle.reception_spec.specs.Spans.{version_at_place, is_heard_on};
 ghost use Rattle.reception_spec.specs.Delivered.{delivered_of};
-ghost use Rattle.loss_law.specs.Loss.{service_at};
-ghost use Rattle.loss_law.specs.Spans.{IsRecordedInSpans};
+ghost use Rattle.loss_law.specs.Loss.{service_at, CarriesFor, carries_for};
+ghost use Rattle.loss_law.specs.Spans.{IsRecordedFor};
 ghost use Rattle.end_to_end_law.specs.Units.{wants_datagram};
 ghost use Rattle.end_to_end_law.specs.Sent.{offered_on, IsSent, sent_records, SendsOneUnitEach, DeliversOffered};
 ghost use Rattle.end_to_end_law.specs.Spans.{DeliversOfSpans};
@@ -27,20 +27,20 @@ use stream_law::{
 use ts_packet::{null_packet_is_read, written_packets_are_read};
 
 /// However records of the stream of a capture are dropped, repeated or damaged, those of others inserted, and their stamps changed, if no
-/// damaged or spliced unit passes its check in the span of its PID:
-/// each service delivers over its spans wanted datagrams that were offered to it in all versions, unchanged, in order and each once,
+/// damaged or spliced unit of a service passes its check in the span of its PID:
+/// the service delivers over its spans wanted datagrams that were offered to it in all versions, unchanged, in order and each once,
 /// with each whose unit arrived intact in a span.
 ///
-/// A service of MPE-FEC frames delivers frame by frame what is recovered, if it is heard often, or with time slicing if moments are as they
-/// were: the datagrams that came in sections of their own at least, and all where each row has at most 64 bytes that the sections that
+/// A service of MPE-FEC frames delivers frame by frame what is recovered, if it is heard often, or with time slicing if accepted sections come
+/// at times that part the frames: the datagrams that came in sections of their own at least, and all where each row has at most 64 bytes that the sections that
 /// arrived intact do not tell.
 pub fn what_arrives_of_a_capture()
     ensures arrives { (plan : PlanFields) (capture : List ℕ) (told records : List (List ℕ)) → IsSent plan capture told records
         → (carries : Carries plan (sent_records plan records) (offered_on plan capture told))
         × SendsOneUnitEach plan (sent_records plan records) (offered_on plan capture told) carries
-        × ((recorded : List Record) (is_recorded : IsRecordedInSpans plan (sent_records plan records) (offered_on plan capture told) carries recorded)
-        (k : ℕ) → k < length plan.services
-        → DeliversOfSpans plan (sent_records plan records) (offered_on plan capture told) carries recorded is_recorded k
+        × ((k : ℕ) → k < length plan.services → (recorded : List Record)
+        (is_recorded : IsRecordedFor plan k (sent_records plan records) (offered_on plan capture told k) (carries_for carries k) recorded)
+        → DeliversOfSpans plan k (sent_records plan records) (offered_on plan capture told k) (carries_for carries k) recorded is_recorded
         (offered_in_all plan (given_by capture told) k) (delivered_of plan k recorded)) }
 {
     each_datagram_is_sent_in_a_unit();
@@ -74,8 +74,8 @@ pub fn where_nothing_is_lost_each_packet_is_heard()
 /// each service of frames is heard often, and of those with time slicing moments are as they were. So it meets all that is asked of a recording.
 pub fn where_nothing_is_lost_a_stream_is_a_recording_of_itself()
     ensures recorded { (plan : PlanFields) (capture : List ℕ) (told records : List (List ℕ)) → IsSent plan capture told records
-        → (carries : Carries plan (sent_records plan records) (offered_on plan capture told))
-        → IsRecordedInSpans plan (sent_records plan records) (offered_on plan capture told) carries (sent_records plan records) }
+        → (carries : Carries plan (sent_records plan records) (offered_on plan capture told)) (k : ℕ)
+        → IsRecordedFor plan k (sent_records plan records) (offered_on plan capture told k) (carries_for carries k) (sent_records plan records) }
 {
     where_each_packet_is_heard_all_is_delivered();
     where_nothing_is_lost_each_packet_is_heard();
@@ -97,10 +97,10 @@ pub fn all_of_a_capture_arrives_where_nothing_is_lost()
 
 /// Under a plan that nothing changes a service delivers so on its one PID, of the whole recording.
 pub fn without_changes_a_service_delivers_of_the_whole_recording()
-    ensures delivers { (plan : PlanFields) (sent : List Record) (datagrams : ℕ → ℕ → List (List ℕ)) (carries : Carries plan sent datagrams)
-        → (recorded : List Record) (is_recorded : IsRecordedInSpans plan sent datagrams carries recorded) → plan.changes ≡ []
-        → (k pid : ℕ) (own : IsPidOf plan k pid) → pid_of (kind_at plan k) ≡ Some pid → (offered delivered : List (List ℕ))
-        → DeliversOfSpans plan sent datagrams carries recorded is_recorded k offered delivered
-        → DeliversOffered (kind_at plan k) plan.recording (carries.before k pid) (carries.units k pid) (carries.moments k pid) (datagrams k pid) (carries.carried k pid own)
-        is_recorded.channel recorded (service_at plan k) pid (carries.begin k pid) delivered }
+    ensures delivers { (plan : PlanFields) (k : ℕ) (sent : List Record) (datagrams : ℕ → List (List ℕ)) (carries : CarriesFor plan k sent datagrams)
+        → (recorded : List Record) (is_recorded : IsRecordedFor plan k sent datagrams carries recorded) → plan.changes ≡ []
+        → (pid : ℕ) (own : IsPidOf plan k pid) → pid_of (kind_at plan k) ≡ Some pid → (offered delivered : List (List ℕ))
+        → DeliversOfSpans plan k sent datagrams carries recorded is_recorded offered delivered
+        → DeliversOffered (kind_at plan k) plan.recording (carries.before pid) (carries.units pid) (carries.moments pid) (datagrams pid) (carries.carried pid own)
+        is_recorded.channel recorded (service_at plan k) pid (carries.begin pid) delivered }
 {}

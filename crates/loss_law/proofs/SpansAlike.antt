@@ -21,7 +21,7 @@ use Rattle.reception_spec.specs.Table.{table_pid, table_sections}
 use Rattle.reception_spec.specs.Spans.{version_at_place, is_heard_on, span_from, span_of}
 use Rattle.reception_spec.specs.Delivered.{service_on, delivered_on, delivered_of}
 use Rattle.loss_law.specs.Loss.{service_at}
-use Rattle.loss_law.specs.Isolation.{SamePackets, pids_for, is_for, SameForService}
+use Rattle.loss_law.specs.Isolation.{SamePackets, pids_for, is_for}
 use Rattle.loss_law.proofs.OnePid.{units_same, service_units_same, service_numbers_same, told_frames_same, told_same, packets_kept}
 use Rattle.loss_law.proofs.Pids.{pid_on}
 use Rattle.loss_law.proofs.ServiceSpans.{none_behind}
@@ -32,7 +32,7 @@ flat_same f g [] each = refl
 flat_same {X} f g (x ∷ xs) each = ap₂ (λ (a b : List X). a ++ b) (each x (inl refl)) (flat_same f g xs (λ y there. each y (inr there)))
 
 -- a packet of one of some PIDs
-any_of : (pids : List ℕ) (pid : ℕ) (r : Record) → Member pids pid → is_on pid r ≡ true → list_any (λ (p : ℕ). is_on p r) pids ≡ true
+pub any_of : (pids : List ℕ) (pid : ℕ) (r : Record) → Member pids pid → is_on pid r ≡ true → list_any (λ (p : ℕ). is_on p r) pids ≡ true
 any_of [] pid r there is = absurd there
 any_of (p ∷ pids) pid r (inl same) is = ap (λ (b : Bool). b || list_any (λ (q : ℕ). is_on q r) pids) (ap (λ (q : ℕ). is_on q r) same ∙ is)
 any_of (p ∷ pids) pid r (inr there) is = by_first (is_on p r) (any_of pids pid r there is)
@@ -69,7 +69,7 @@ module _ (plan : PlanFields) (k : ℕ) where
       by_test true is later = ap (λ (t : List Record). cond (is_on pid r) (r ∷ t) t) later
       by_test false is later = later ∙ sym (ap (λ (b : Bool). cond b (r ∷ filter (is_on pid) records) (filter (is_on pid) records)) (not_on pid there r is))
 
-  for_same : (pid : ℕ) → Member own_pids pid → (records : List Record) → SamePackets pid records (filter (is_for plan k) records)
+  for_same : (pid : ℕ) → Member own_pids pid → (records : List Record) → SamePackets true pid records (filter (is_for plan k) records)
   for_same pid there records =
       packets_kept pid records
       ∙ ap (λ (t : List Record). map timed_packet (arrivals pid t)) (sym (both_filters pid there records))
@@ -160,7 +160,7 @@ module _ (plan : PlanFields) (k : ℕ) where
     span_packets : (records : List Record) → filter (is_on pid) (span_of plan k pid records) ≡ filter (is_on pid) (span_behind [] (filter (is_for plan k) records))
     span_packets records = ap (filter (is_on pid)) (span_is [] records) ∙ span_kept [] records
 
-    span_alike : (records others : List Record) → SameForService plan k records others → SamePackets pid (span_of plan k pid records) (span_of plan k pid others)
+    span_alike : (records others : List Record) → filter (is_for plan k) records ≡ filter (is_for plan k) others → SamePackets true pid (span_of plan k pid records) (span_of plan k pid others)
     span_alike records others same =
         packets_kept pid (span_of plan k pid records)
         ∙ ap (λ (t : List Record). map timed_packet (arrivals pid t))
@@ -169,38 +169,41 @@ module _ (plan : PlanFields) (k : ℕ) where
 
 -- So a service delivers the same over its spans, and its numbers are the same.
 
-map_same : {X : Type 0} (f g : ℕ → X) (xs : List ℕ) → ((x : ℕ) → Member xs x → f x ≡ g x) → map f xs ≡ map g xs
+pub map_same : {X : Type 0} (f g : ℕ → X) (xs : List ℕ) → ((x : ℕ) → Member xs x → f x ≡ g x) → map f xs ≡ map g xs
 map_same f g [] each = refl
 map_same {X} f g (x ∷ xs) each = ap₂ (λ (a : X) (l : List X). a ∷ l) (each x (inl refl)) (map_same f g xs (λ y there. each y (inr there)))
 
-module _ (plan : PlanFields) (k : ℕ) (known : k < length plan.services) (records others : List Record) (same : SameForService plan k records others) where
-  alike : (pid : ℕ) → Member (pids_in plan k) pid → SamePackets pid (span_of plan k pid records) (span_of plan k pid others)
-  alike pid there =
-      span_alike plan k pid (member_behind (cond (length plan.changes == 0) [] (table_pids plan.table)) (pids_in plan k) pid there) records others same
+abbrev pub SameSpans : PlanFields → ℕ → List Record → List Record → Type 0
+SameSpans plan k records others = (pid : ℕ) → Member (pids_in plan k) pid → SamePackets true pid (span_of plan k pid records) (span_of plan k pid others)
 
+pub spans_by_records : (plan : PlanFields) (k : ℕ) (records others : List Record) → filter (is_for plan k) records ≡ filter (is_for plan k) others → SameSpans plan k records others
+spans_by_records plan k records others same pid there =
+    span_alike plan k pid (member_behind (cond (length plan.changes == 0) [] (table_pids plan.table)) (pids_in plan k) pid there) records others same
+
+module _ (plan : PlanFields) (k : ℕ) (known : k < length plan.services) (records others : List Record) (alike : SameSpans plan k records others) where
   on : (pid : ℕ) → Member (pids_in plan k) pid → pid_of (service_on plan k pid).kind ≡ Some pid
   on pid there = pid_on plan k pid (record { service = known; own = contains_member (pids_in plan k) pid there })
 
-  pub delivered_alike : delivered_of plan k records ≡ delivered_of plan k others
-  delivered_alike =
+  pub delivered_by_spans : delivered_of plan k records ≡ delivered_of plan k others
+  delivered_by_spans =
       flat_same (delivered_on plan k records) (delivered_on plan k others) (pids_in plan k)
       (λ pid there.
       told_same pid (span_of plan k pid records) (span_of plan k pid others) (alike pid there) true plan.recording (service_on plan k pid) (on pid there))
 
-  pub numbers_alike : numbers_of plan k records ≡ numbers_of plan k others
-  numbers_alike =
+  pub numbers_by_spans : numbers_of plan k records ≡ numbers_of plan k others
+  numbers_by_spans =
       ap (fold sum_of_numbers no_numbers)
       (map_same (numbers_on plan k records) (numbers_on plan k others) (pids_in plan k)
       (λ pid there. service_numbers_same pid (span_of plan k pid records) (span_of plan k pid others) (alike pid there) (service_on plan k pid) (on pid there)))
 
-  pub unit_numbers_alike : unit_numbers_of plan k records ≡ unit_numbers_of plan k others
-  unit_numbers_alike =
+  pub unit_numbers_by_spans : unit_numbers_of plan k records ≡ unit_numbers_of plan k others
+  unit_numbers_by_spans =
       ap (unit_numbers (service_at plan k))
       (flat_same (λ pid. units_of (service_on plan k pid) (span_of plan k pid records)) (λ pid. units_of (service_on plan k pid) (span_of plan k pid others)) (pids_in plan k)
       (λ pid there. service_units_same pid (span_of plan k pid records) (span_of plan k pid others) (alike pid there) (service_on plan k pid) (on pid there)))
 
-  pub frame_numbers_alike : frame_numbers_of plan k records ≡ frame_numbers_of plan k others
-  frame_numbers_alike =
+  pub frame_numbers_by_spans : frame_numbers_of plan k records ≡ frame_numbers_of plan k others
+  frame_numbers_by_spans =
       ap (fold sum_of_frames no_frames)
       (map_same (frame_numbers_on true plan k records) (frame_numbers_on true plan k others) (pids_in plan k)
       (λ pid there.

@@ -3,7 +3,7 @@
 //!
 //! Laws over definitions alone: each is a function that does nothing, whose contract is the law.
 //! They stand on reception_spec, stream_spec and carriage_law; what receives stands on them.
-//! Begin with `each_service_delivers_what_arrived_intact`.
+//! Begin with `each_service_delivers_over_its_spans`.
 #![tactic(auto)]
 
 mod isolation;
@@ -19,16 +19,16 @@ pub use isolation::{
 pub use loss::{
     a_service_delivers_what_arrived_intact, a_service_without_filter_wants_all,
     datagrams_of_sections_that_arrived_intact_are_delivered,
-    datagrams_that_arrived_intact_are_delivered, each_service_delivers_what_arrived_intact,
-    sections_are_a_lawful_kind_of_unit,
+    datagrams_that_arrived_intact_are_delivered, sections_are_a_lawful_kind_of_unit,
+    where_stamps_survive_sections_have_their_moments,
 };
 pub use spans::{
-    a_span_grows_with_its_recording, a_span_is_of_its_recording,
+    a_channel_is_one_for_fewer_pids, a_recording_for_all_is_one_for_each,
+    a_span_grows_with_its_recording, a_span_is_of_its_recording, a_stream_carries_for_each_service,
     each_service_delivers_over_its_spans, without_changes_a_span_is_the_recording,
 };
 pub use versions::a_version_is_in_force_only_from_its_part_on;
 pub use without_loss::{
-    a_recorded_stream_gives_its_units, a_stream_is_a_recording_of_itself,
-    where_all_units_arrived_intact_all_is_delivered, where_each_packet_is_heard_all_is_delivered,
-    where_nothing_is_lost_all_is_delivered,
+    a_recorded_stream_gives_its_units, where_all_units_arrived_intact_all_is_delivered,
+    where_each_packet_is_heard_all_is_delivered, where_nothing_is_lost_all_is_delivered,
 };

@@ -1,23 +1,28 @@
 //! What a service delivers of what was sent.
-ghost use Rattle.std.specs.Prelude.{◌≡◌, ℕ, ◌<◌, List, [], length, slice_index_or, flat_map, Contains, true, Some};
+ghost use Rattle.std.specs.Prelude.{◌≡◌, ℕ, ◌+◌, ◌*◌, ◌^◌, ◌<◌, List, [], length, slice_index_or, map, flat_map, Contains, true, Some};
 ghost use Rattle.wire_spec.specs.Lists.{IsSubsequence};
 ghost use Rattle.ts_spec.specs.Form.{IsLawful};
-ghost use Rattle.ts_spec.specs.Recording.{RecordingForm, Record};
-ghost use Rattle.ts_spec.specs.Packetized.{unit_at};
+ghost use Rattle.ts_spec.specs.Recording.{RecordingForm, Record, m2ts, m2ts_stamp, records_of};
+ghost use Rattle.ts_spec.specs.Received.{record_at, arrival_at, arrivals};
+ghost use Rattle.ts_spec.specs.Reassembly.{PlacedUnit, accepted_units};
+ghost use Rattle.ts_spec.specs.Packetized.{unit_at, IsIn};
 ghost use Rattle.section_spec.specs.Section.{section_form};
 ghost use Rattle.carriage_spec.specs.Channel.{Channel};
-ghost use Rattle.carriage_spec.specs.Spans.{IsSpanOf};
-ghost use Rattle.carriage_spec.specs.Carried.{NoUndetectedError, ArrivedIntact, IsRising, IsAccepted};
-ghost use Rattle.plan_spec.specs.Plan.{ServiceFields, PlanFields, pid_of};
-ghost use Rattle.stream_spec.specs.Services.{form_of_kind, AreCarried, Carries};
+ghost use Rattle.carriage_spec.specs.Stamps.{KeepsStampsOf};
+ghost use Rattle.carriage_spec.specs.Spans.{IsSpanOf, HasNoLoneCopies};
+ghost use Rattle.carriage_spec.specs.Carried.{packets_sent, NoUndetectedError, ArrivedIntact, IsRising, IsAccepted, IsSentUnit};
+ghost use Rattle.plan_spec.specs.Plan.{ServiceFields, pid_of};
+ghost use Rattle.stream_spec.specs.Services.{form_of_kind, AreCarried};
 ghost use Rattle.reception_spec.specs.Units.{delivered_by_unit};
 ghost use Rattle.reception_spec.specs.Delivered.{told_by};
 ghost use Rattle.frame_spec.specs.Sections.{TimedSection};
 ghost use Rattle.frame_spec.specs.Frame.{FrameFields};
+ghost use Rattle.frame_spec.specs.Carried.{AreFramesOf};
+ghost use Rattle.slice_spec.specs.Sections.{sliced};
 ghost use Rattle.frame_law.specs.Recovered.{no_frame, IsRecoverableFrom};
-ghost use Rattle.loss_law.specs.Frames.{HasMomentsFor, IsHeardOften, own_of_unit, DeliversFrames, DeliversOn, wanted_by};
+ghost use Rattle.loss_law.specs.Stamps.{falls};
+ghost use Rattle.loss_law.specs.Frames.{HasMoments, HasMomentsFor, IsHeardOften, own_of_unit, DeliversFrames, DeliversOn, wanted_by};
 ghost use Rattle.loss_law.specs.Loss.{CarriesOn, DeliversIntact};
-ghost use Rattle.loss_law.specs.Plans.{IsRecorded, delivered_whole, DeliversEach};
 
 /// Whatever is dropped, repeated, damaged or inserted: a service delivers of what its PID carries what arrived intact, by its kind.
 ///
@@ -31,7 +36,7 @@ pub fn a_service_delivers_what_arrived_intact()
         → NoUndetectedError channel span (form_of_kind service.kind) pid carries.units carries.begin
         → IsHeardOften service.kind form carries.before carries.units carries.moments datagrams carries.carried
         (IsAccepted channel span section_form pid carries.units carries.begin)
-        → HasMomentsFor service.kind form channel span pid
+        → HasMomentsFor service.kind form carries.before carries.units carries.moments datagrams carries.carried channel span pid carries.begin
         → DeliversOn service.kind form carries.before carries.units carries.moments datagrams carries.carried channel span service pid carries.begin
         (told_by true form service span) }
 {}
@@ -64,11 +69,27 @@ pub fn datagrams_of_sections_that_arrived_intact_are_delivered()
         → IsSubsequence (slice_index_or fields i no_frame).datagrams delivered }
 {}
 
-/// Each service of a plan that has a PID delivers so by its kind: what arrived intact, or of MPE-FEC frames, frame by frame, what is recovered of it.
-pub fn each_service_delivers_what_arrived_intact()
-    ensures delivers { (plan : PlanFields) (sent : List Record) (datagrams : ℕ → ℕ → List (List ℕ)) (carries : Carries plan sent datagrams)
-        → (recorded : List Record) (is_recorded : IsRecorded plan sent datagrams carries recorded)
-        → DeliversEach plan sent datagrams carries recorded is_recorded (λ k. delivered_whole plan k recorded) }
+/// Where the stamps of a PID survive, and no copy stands in a span without the packet that it is a copy of, accepted sections have their moments:
+/// stamps of other PIDs and of copies are free, but in m2ts recordings, whose moments are counted over all records, no stamp may fall that
+/// does not begin a new round of 2^30, and none be 2^30 or more above the one before.
+///
+/// So much is a moment there: the stamp, and 2^30 for each time that the stamps fell up to it. And by a clock that is ahead or
+/// behind, moments are as good.
+pub fn where_stamps_survive_sections_have_their_moments()
+    ensures moments { (form : RecordingForm) (pids : List ℕ) (sent : List Record) (pieces : List (List ℕ)) (channel : Channel pids sent (records_of form pieces)) (pid : ℕ)
+        → Contains pids pid → KeepsStampsOf form channel pid → (span : List Record) → IsSpanOf span (records_of form pieces) → HasNoLoneCopies channel span pid
+        → (units : List (List ℕ)) (begin moments : ℕ → ℕ)
+        → ((n m : ℕ) → n < length units → IsIn (packets_sent pid sent) m (begin n) → (arrival_at (arrivals pid sent) m).moment ≡ moments n)
+        → (ten rows first : ℕ) (fields : List FrameFields) (frames : List (List TimedSection)) → AreFramesOf (sliced ten) rows first units moments fields frames
+        → HasMoments channel span pid units begin ten rows frames }
+    ensures ahead { (pids : List ℕ) (sent recorded : List Record) (channel : Channel pids sent recorded) (span : List Record) (pid : ℕ)
+        (units : List (List ℕ)) (begin moments : ℕ → ℕ) (ten rows first : ℕ) (fields : List FrameFields) (frames : List (List TimedSection))
+        → AreFramesOf (sliced ten) rows first units moments fields frames → (ahead behind : ℕ)
+        → ((accepted : PlacedUnit) (n : ℕ) → Contains (accepted_units section_form pid span) accepted → IsSentUnit channel pid units begin n accepted
+        → accepted.moment + behind ≡ moments n + ahead)
+        → HasMoments channel span pid units begin ten rows frames }
+    ensures falls { (pieces : List (List ℕ)) (j : ℕ) → j < length pieces
+        → (record_at (records_of m2ts pieces) j).moment ≡ Some (m2ts_stamp (slice_index_or pieces j []) + 2 ^ 30 * falls 0 pieces j) }
 {}
 
 /// Without a filter all datagrams are wanted that a PID carries, by units or in MPE-FEC frames.

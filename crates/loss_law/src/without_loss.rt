@@ -1,6 +1,6 @@
 //! What a service delivers where nothing is lost: all that it wants.
 ghost use Rattle.std.specs.Prelude.{◌≡◌, ℕ, ◌<◌, List, length, map, Contains, true, Some};
-ghost use Rattle.ts_spec.specs.Recording.{RecordingForm, Record, records_of};
+ghost use Rattle.ts_spec.specs.Recording.{RecordingForm, Record};
 ghost use Rattle.ts_spec.specs.Received.{Arrival, arrivals};
 ghost use Rattle.ts_spec.specs.Reassembly.{PlacedUnit, accepted_units};
 ghost use Rattle.ts_spec.specs.Packetized.{Packetizes};
@@ -11,20 +11,20 @@ ghost use Rattle.plan_spec.specs.Plan.{KindFields, ServiceFields, PlanFields, pi
 ghost use Rattle.stream_spec.specs.Services.{form_of_kind, IsPidOf, Carries};
 ghost use Rattle.reception_spec.specs.Spans.{is_heard_on};
 ghost use Rattle.reception_spec.specs.Delivered.{told_by, delivered_of};
-ghost use Rattle.loss_law.specs.Loss.{CarriesOn};
+ghost use Rattle.loss_law.specs.Loss.{CarriesOn, CarriesFor};
 ghost use Rattle.loss_law.specs.Frames.{HasMomentsFor, wanted_by};
-ghost use Rattle.loss_law.specs.Plans.{IsRecorded, delivered_whole, DeliversAll};
-ghost use Rattle.loss_law.specs.Spans.{IsRecordedInSpans, wanted_on_pids};
+ghost use Rattle.loss_law.specs.Plans.{delivered_whole, DeliversAll};
+ghost use Rattle.loss_law.specs.Spans.{IsRecordedFor, wanted_on_pids};
 
 /// Where each unit arrived intact, whatever else became of the records, a service delivers all its wanted datagrams, in order and each once.
 ///
-/// Of MPE-FEC frames with time slicing moments must be as they were, since a receiver finds the frames by them.
+/// Of MPE-FEC frames with time slicing accepted sections must come at times that part the frames, since a receiver finds the frames by them.
 pub fn where_all_units_arrived_intact_all_is_delivered()
     ensures all { (pids : List ℕ) (sent recorded : List Record) (channel : Channel pids sent recorded) (span : List Record) → IsSpanOf span recorded
         → (form : RecordingForm) (service : ServiceFields) (pid : ℕ) → Contains pids pid → pid_of service.kind ≡ Some pid
         → (datagrams : List (List ℕ)) (carries : CarriesOn form service.kind pid sent datagrams)
         → NoUndetectedError channel span (form_of_kind service.kind) pid carries.units carries.begin
-        → HasMomentsFor service.kind form channel span pid
+        → HasMomentsFor service.kind form carries.before carries.units carries.moments datagrams carries.carried channel span pid carries.begin
         → ((n : ℕ) → n < length carries.units → ArrivedIntact channel span pid carries.units carries.begin n)
         → told_by true form service span ≡ wanted_by service.kind service carries.units datagrams }
 {}
@@ -38,12 +38,6 @@ pub fn a_recorded_stream_gives_its_units()
         → map (λ (accepted : PlacedUnit). accepted.unit) (accepted_units (form_of_kind kind) pid sent) ≡ units }
 {}
 
-/// What was sent came through a channel without undetected errors, if it was recorded as it was sent.
-pub fn a_stream_is_a_recording_of_itself()
-    ensures is { (plan : PlanFields) (pieces : List (List ℕ)) (datagrams : ℕ → ℕ → List (List ℕ)) (carries : Carries plan (records_of plan.recording pieces) datagrams)
-        → IsRecorded plan (records_of plan.recording pieces) datagrams carries (records_of plan.recording pieces) }
-{}
-
 /// Of a stream that was recorded as it was sent each service of a plan delivers all wanted datagrams, without a filter all that were sent.
 pub fn where_nothing_is_lost_all_is_delivered()
     ensures all { (plan : PlanFields) (sent : List Record) (datagrams : ℕ → ℕ → List (List ℕ)) (carries : Carries plan sent datagrams)
@@ -51,13 +45,13 @@ pub fn where_nothing_is_lost_all_is_delivered()
 {}
 
 /// Of a stream that was recorded as it was sent a service delivers over its spans all wanted datagrams, one PID after another, where each packet
-/// of its PIDs is heard: where it stands in the span of its PID. And what was sent is then a recording of itself in spans.
+/// of its PIDs is heard: where it stands in the span of its PID. And what was sent is then a recording of itself.
 pub fn where_each_packet_is_heard_all_is_delivered()
-    ensures all { (plan : PlanFields) (sent : List Record) (datagrams : ℕ → ℕ → List (List ℕ)) (carries : Carries plan sent datagrams) (k : ℕ) → k < length plan.services
+    ensures all { (plan : PlanFields) (k : ℕ) → k < length plan.services
+        → (sent : List Record) (datagrams : ℕ → List (List ℕ)) (carries : CarriesFor plan k sent datagrams)
         → ((pid : ℕ) (a : Arrival) → IsPidOf plan k pid → Contains (arrivals pid sent) a → is_heard_on plan sent k pid a.place ≡ true)
-        → delivered_of plan k sent ≡ wanted_on_pids plan k (carries.units k) (datagrams k) }
-    ensures recorded { (plan : PlanFields) (pieces : List (List ℕ)) (datagrams : ℕ → ℕ → List (List ℕ)) (carries : Carries plan (records_of plan.recording pieces) datagrams)
-        → ((k pid : ℕ) (a : Arrival) → IsPidOf plan k pid → Contains (arrivals pid (records_of plan.recording pieces)) a
-        → is_heard_on plan (records_of plan.recording pieces) k pid a.place ≡ true)
-        → IsRecordedInSpans plan (records_of plan.recording pieces) datagrams carries (records_of plan.recording pieces) }
+        → delivered_of plan k sent ≡ wanted_on_pids plan k carries.units datagrams }
+    ensures recorded { (plan : PlanFields) (k : ℕ) (sent : List Record) (datagrams : ℕ → List (List ℕ)) (carries : CarriesFor plan k sent datagrams)
+        → ((pid : ℕ) (a : Arrival) → IsPidOf plan k pid → Contains (arrivals pid sent) a → is_heard_on plan sent k pid a.place ≡ true)
+        → IsRecordedFor plan k sent datagrams carries sent }
 {}
