@@ -1,19 +1,25 @@
 -- A reader of frames, and what one call of it reads.
-use Rattle.std.specs.Prelude.{◌≡◌, ℕ, ◌<◌, Bool, true, false, List, [], ◌∷◌, ◌++◌, length, All, Option}
+use Rattle.std.specs.Prelude.{◌≡◌, ℕ, ◌+◌, ◌<◌, Bool, true, false, List, [], ◌∷◌, ◌++◌, length, All, Option, Some, None}
 use Rattle.std.specs.Io.KnownBytes.{Consumes, IsAtEnd}
 use Rattle.wire_spec.specs.Causes.{raised}
 use Rattle.ipe_io.specs.Told.{InputTold}
 
--- a reader: the bytes of each frame, how many frames were read, the bytes left over at the end, whether it may be asked
+-- a reader: the bytes of each frame, how many frames were read, the bytes left over at the end, whether it has seen the end,
+-- whether it may be asked
 pub record ReaderState : Type 0 where
   pub size : ℕ
   pub count : ℕ
   pub tail : ℕ
+  pub has_ended : Bool
   pub is_open : Bool
 
 -- the same reader after a fault
 abbrev pub closed : ReaderState → ReaderState
-closed reader = record { size = reader.size; count = reader.count; tail = reader.tail; is_open = false }
+closed reader = record { size = reader.size; count = reader.count; tail = reader.tail; has_ended = reader.has_ended; is_open = false }
+
+-- the same reader after one frame more
+abbrev pub stepped : ReaderState → ReaderState
+stepped reader = record { size = reader.size; count = reader.count + 1; tail = reader.tail; has_ended = reader.has_ended; is_open = reader.is_open }
 
 -- the reader has read these frames
 pub record ReaderOf (reader : ReaderState) (frames : List (List ℕ)) : Type 0 where
@@ -32,6 +38,13 @@ pub record ReadsFrame (reader now_reader : ReaderState) (source now_source : Inp
   pub stands : ReaderOf now_reader (frames ++ frame ∷ [])
   pub size : now_reader.size ≡ reader.size
   pub tail : now_reader.tail ≡ reader.tail
+  pub has_ended : now_reader.has_ended ≡ reader.has_ended
+
+-- the next frame was lent: one frame more was read, and the source neither ended nor failed; where none was lent, all is as it was
+abbrev pub LendsFrame : ReaderState → ReaderState → InputTold → InputTold → List (List ℕ) → Option (List ℕ) → Type 0
+LendsFrame reader now_reader source now_source frames (Some frame) =
+    ReadsFrame reader now_reader source now_source frames frame × (now_source.ended ≡ source.ended) × (now_source.faults ≡ source.faults)
+LendsFrame reader now_reader source now_source frames None = (now_reader ≡ reader) × (now_source ≡ source)
 
 -- the input has ended after fewer bytes than a frame has
 pub record ReadsEnd (reader now_reader : ReaderState) (source now_source : InputTold) (frames : List (List ℕ)) : Type 0 where
@@ -42,3 +55,4 @@ pub record ReadsEnd (reader now_reader : ReaderState) (source now_source : Input
   pub stands : ReaderOf now_reader frames
   pub size : now_reader.size ≡ reader.size
   pub tail : now_reader.tail ≡ length bytes
+  pub has_ended : now_reader.has_ended ≡ true

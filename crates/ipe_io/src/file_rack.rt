@@ -1,5 +1,5 @@
 //! A rack over the files of the current folder.
-ghost use Rattle.std.specs.Prelude.{◌≡◌, ◌<◌, ◌≤◌, ℕ, vec_len, IfOk, OnOk, OnErr};
+ghost use Rattle.std.specs.Prelude.{◌≡◌, ◌<◌, ◌≤◌, ℕ, length, vec_len, IfOk, OnOk, OnErr};
 ghost use Rattle.wire_spec.specs.Causes.{RoseBy};
 
 use crate::outside::BUFFER;
@@ -55,11 +55,13 @@ impl<R: Files + Drop> FileRack<R> {
 }
 
 // Flushes each file, and answers how many flushes failed.
-fn flush_each<W: Write + Drop>(files: &mut [WriteBehind<W>]) -> u64 {
+fn flush_each<W: Write + Drop>(files: &mut [WriteBehind<W>]) -> u64
+    ensures most { result ≤ length files.old }
+{
     let mut failed: u64 = 0;
     for file in files {
         if file.flush().is_err() {
-            failed = failed.saturating_add(1);
+            failed += 1;
         }
     }
     failed

@@ -10,6 +10,7 @@ mod moments;
 mod pieces;
 mod reader;
 
+pub use ipe_io::RecordFault;
 pub use laws::cuts_are_unique;
 pub use lending::{LentRecord, lend_record};
 pub use reader::{Record, RecordReader};
