@@ -26,13 +26,13 @@ use Rattle.unit_stream.specs.declared.reading.JoinEvent.TheVariants as how
 use Rattle.frame_law.proofs.Units.{one_section}
 use Rattle.frame_reception.specs.Frames.{is_unread}
 use Rattle.frame_reception.specs.Steps.{closed_with, open_with, sections_of_pair, sections_of_events}
-use Rattle.frame_reception.specs.Delivering.{Delivers, GoesOn}
+use Rattle.outlet_spec.specs.Going.{DeliversAfter, GoesOn}
 use Rattle.frame_reception.specs.Reception.{FramesState}
 use Rattle.frame_reception.specs.Hearing.{HasFrames, HasHeardFrames, Hearing, HearsFrames, going_of, told_after}
 use Rattle.frame_reception.proofs.Groups.{closed_with-append, open_with-append}
 use Rattle.frame_reception.proofs.Numbers.{told-append}
 use Rattle.frame_reception.proofs.Joined.{same_frames}
-use Rattle.frame_reception.proofs.Deliveries.{goes_nowhere, goes_then, delivers_none, delivers_then, delivers_same}
+use Rattle.outlet_spec.proofs.Going.{goes_nowhere, goes_then, after_none, after_then, after_same}
 
 pub sections-append : (rows : ℕ) (xs ys : List Event) → sections_of_events rows (xs ++ ys) ≡ sections_of_events rows xs ++ sections_of_events rows ys
 sections-append rows xs ys =
@@ -172,10 +172,10 @@ module _ {T A E : Type 0} (StandsFor : T → List (ℕ × List ℕ) → Type 0) 
         (subst (λ (l : List (List TimedSection)). HasFrames timing rows l group new) (sym (append-nil closed)) mid));
     delivered = λ timing rows links given proper has.
         subst
-        (λ (l : List TimedSection). Delivers StandsFor Refused number (datagrams_of_frames rows (closed_with timing rows (open_with timing rows [] (sections_of_events rows given)) l))
+        (λ (l : List TimedSection). DeliversAfter StandsFor Refused number (datagrams_of_frames rows (closed_with timing rows (open_with timing rows [] (sections_of_events rows given)) l))
         (record { outlet = outlet; went = went }) (record { outlet = outlet; went = went }))
         (ap (flat_map (sections_of_pair rows)) (sym none))
-        (delivers_none StandsFor Refused services faults number (record { outlet = outlet; went = went }));
+        (after_none StandsFor Refused services faults number (record { outlet = outlet; went = went }));
   }
 
   -- a unit is taken too
@@ -186,7 +186,7 @@ module _ {T A E : Type 0} (StandsFor : T → List (ℕ × List ℕ) → Type 0) 
       → ((timing : Timing) (rows : ℕ) (closed : List (List TimedSection)) (group : List TimedSection) → IsUnit section_form unit → HasFrames timing rows closed group mid
       → HasFrames timing rows (closed ++ closed_with timing rows group (timed_sections_in rows moment unit)) (open_with timing rows group (timed_sections_in rows moment unit)) new)
       → ((timing : Timing) (rows : ℕ) (closed : List (List TimedSection)) (group : List TimedSection) → IsUnit section_form unit → HasFrames timing rows closed group mid
-      → Delivers StandsFor Refused number (datagrams_of_frames rows (closed_with timing rows group (timed_sections_in rows moment unit))) (record { outlet = a; went = was }) (record { outlet = b; went = now }))
+      → DeliversAfter StandsFor Refused number (datagrams_of_frames rows (closed_with timing rows group (timed_sections_in rows moment unit))) (record { outlet = a; went = was }) (record { outlet = b; went = now }))
       → HearsFrames StandsFor Refused services faults (unit_event moment unit) (record { frames = old; number = number; outlet = a; went = was })
       (record { frames = new; number = number; outlet = b; went = now })
   hears_unit moment unit old mid new a b was now counted packets unread goes framed delivered = record {
@@ -212,7 +212,7 @@ module _ {T A E : Type 0} (StandsFor : T → List (ℕ × List ℕ) → Type 0) 
         let same : HasFrames timing rows closed group mid =
         mid_frames timing rows closed group old mid (counted_event old.on_pid (unit_event moment unit)) counted has.frames in
         subst
-        (λ (l : List TimedSection). Delivers StandsFor Refused number (datagrams_of_frames rows (closed_with timing rows group l)) (record { outlet = a; went = was }) (record { outlet = b; went = now }))
+        (λ (l : List TimedSection). DeliversAfter StandsFor Refused number (datagrams_of_frames rows (closed_with timing rows group l)) (record { outlet = a; went = was }) (record { outlet = b; went = now }))
         (sym (append-nil (timed_sections_in rows moment unit))) (delivered timing rows closed group proper same);
   }
 
@@ -229,14 +229,14 @@ module _ {L T A E : Type 0} (StandsFor : T → List (ℕ × List ℕ) → Type 0
   -- what is known once these events were heard after others
   pub record HaveHeard (timing : Timing) (rows : ℕ) (links : PidNumbers) (given events : List Event) (old new : L) : Type 0 where
     pub heard : HasHeardFrames timing rows links (given ++ events) (view new).frames
-    pub delivered : Delivers StandsFor Refused (view old).number (told_after timing rows given events) (going_of (view old)) (going_of (view new))
+    pub delivered : DeliversAfter StandsFor Refused (view old).number (told_after timing rows given events) (going_of (view old)) (going_of (view new))
 
   pub all_heard : (timing : Timing) (rows : ℕ) (links : PidNumbers) (given events : List Event) (old new : L) → AllProper section_form section_lawful events
       → HasHeardFrames timing rows links given (view old).frames → HasHeard Hears old events new → HaveHeard timing rows links given events old new
   all_heard timing rows links given [] old new proper before heard =
       subst (λ (l : L). HaveHeard timing rows links given [] old l) (sym heard) (record {
         heard = subst (λ (l : List Event). HasHeardFrames timing rows links l (view old).frames) (sym (append-nil given)) before;
-        delivered = delivers_none StandsFor Refused services faults (view old).number (going_of (view old));
+        delivered = after_none StandsFor Refused services faults (view old).number (going_of (view old));
       })
   all_heard timing rows links given (event ∷ events) old new proper before (mid, (one, rest)) =
       let hears = each old mid event one in
@@ -244,11 +244,11 @@ module _ {L T A E : Type 0} (StandsFor : T → List (ℕ × List ℕ) → Type 0
       all_heard timing rows links (given ++ event ∷ []) events mid new proper.1 (hears.heard timing rows links given proper.0 before) rest in
       record {
         heard = subst (λ (l : List Event). HasHeardFrames timing rows links l (view new).frames) (append_assoc given (event ∷ []) events) then.heard;
-        delivered = delivers_same StandsFor Refused services faults (view old).number
+        delivered = after_same StandsFor Refused services faults (view old).number
             (told_after timing rows given (event ∷ []) ++ told_after timing rows (given ++ event ∷ []) events) (told_after timing rows given (event ∷ events))
             (going_of (view old)) (going_of (view new)) (told_after-cons timing rows given event events)
-            (delivers_then StandsFor Refused services faults (view old).number (told_after timing rows given (event ∷ [])) (told_after timing rows (given ++ event ∷ []) events)
+            (after_then StandsFor Refused services faults (view old).number (told_after timing rows given (event ∷ [])) (told_after timing rows (given ++ event ∷ []) events)
             (going_of (view old)) (going_of (view mid)) (going_of (view new)) (hears.delivered timing rows links given proper.0 before)
-            (subst (λ (n : ℕ). Delivers StandsFor Refused n (told_after timing rows (given ++ event ∷ []) events) (going_of (view mid)) (going_of (view new))) hears.number_is then.delivered)
+            (subst (λ (n : ℕ). DeliversAfter StandsFor Refused n (told_after timing rows (given ++ event ∷ []) events) (going_of (view mid)) (going_of (view new))) hears.number_is then.delivered)
             (all_go events mid new rest));
       }

@@ -21,17 +21,16 @@ use Rattle.unit_stream.specs.Telling.{HasTold}
 use Rattle.fec_frame.specs.Stands.{Stands as TableStands}
 use Rattle.service_reception.specs.Counting.{counted_link, units_in, with_events}
 use Rattle.service_reception.specs.Reception.{packet_record}
-use Rattle.service_reception.specs.Telling.{Told, StopsWithin}
+use Rattle.outlet_spec.specs.Pairs.{pairs_of, Delivers, DeliversFront}
 use Rattle.service_reception.proofs.Records.{packet_at, last_with}
 use Rattle.service_reception.proofs.Links.{link_counted}
 use Rattle.service_reception.proofs.Units.{units_accepted}
 use Rattle.service_reception.proofs.Proper.{events_proper}
 use Rattle.service_reception.proofs.Taken.{told_with}
-use Rattle.service_reception.proofs.Tellings.{told_same}
 use Rattle.reception_spec.specs.Frames.{frame_numbers}
 use Rattle.frame_reception.specs.Frames.{closed_in, open_in, is_unread, unread_in, told_in}
 use Rattle.frame_reception.specs.Steps.{frame_with, closed_with, open_with, sections_of_events}
-use Rattle.frame_reception.specs.Delivering.{Delivers}
+use Rattle.outlet_spec.specs.Going.{DeliversAfter}
 use Rattle.frame_reception.specs.Reception.{FramesState, FrameReceptionState, HasTaken, HasEnded, added_by, added_by_end}
 use Rattle.frame_reception.specs.Hearing.{HasFrames, HasHeardFrames, Hearing, HearsFrames, going_of, told_after}
 use Rattle.frame_reception.proofs.Groups.{AreParts, parted_in_steps, closed_with-append, few_closed, few_open}
@@ -175,23 +174,23 @@ told_by_record timing rows pid records r events told =
 
 -- a delivery that began with nothing refused
 pub told_if_ok : {T A E : Type 0} (StandsFor : T → List (ℕ × List ℕ) → Type 0) (Refused : T → ℕ → List ℕ → Type 0) (service : ℕ) (xs ys : List (List ℕ)) (a b : T) (x : A) (now : Result A E)
-    → xs ≡ ys → Delivers StandsFor Refused service xs (record { outlet = a; went = Ok x }) (record { outlet = b; went = now }) → OnOk now (Told (StandsFor a) (StandsFor b) service ys)
+    → xs ≡ ys → DeliversAfter StandsFor Refused service xs (record { outlet = a; went = Ok x }) (record { outlet = b; went = now }) → OnOk now (Delivers (StandsFor a) (StandsFor b) (pairs_of service ys))
 told_if_ok StandsFor Refused service xs ys a b x (Err e) same delivers = tt
-told_if_ok StandsFor Refused service xs ys a b x (Ok y) same delivers = told_same (StandsFor a) (StandsFor b) service xs ys same delivers.told
+told_if_ok StandsFor Refused service xs ys a b x (Ok y) same delivers = subst (λ (l : List (List ℕ)). Delivers (StandsFor a) (StandsFor b) (pairs_of service l)) same delivers.told
 
 pub stopped_if_not : {T A E : Type 0} (StandsFor : T → List (ℕ × List ℕ) → Type 0) (Refused : T → ℕ → List ℕ → Type 0) (service : ℕ) (xs ys : List (List ℕ)) (a b : T) (x : A) (now : Result A E)
-    → xs ≡ ys → Delivers StandsFor Refused service xs (record { outlet = a; went = Ok x }) (record { outlet = b; went = now })
-    → OnErr now (StopsWithin (StandsFor a) (StandsFor b) (Refused b service) service ys)
+    → xs ≡ ys → DeliversAfter StandsFor Refused service xs (record { outlet = a; went = Ok x }) (record { outlet = b; went = now })
+    → OnErr now (DeliversFront (StandsFor a) (StandsFor b) (Refused b) (pairs_of service ys))
 stopped_if_not StandsFor Refused service xs ys a b x (Ok y) same delivers = tt
 stopped_if_not StandsFor Refused service xs ys a b x (Err e) same delivers =
-    subst (λ (l : List (List ℕ)). StopsWithin (StandsFor a) (StandsFor b) (Refused b service) service l) same delivers.failed
+    subst (λ (l : List (List ℕ)). DeliversFront (StandsFor a) (StandsFor b) (Refused b) (pairs_of service l)) same delivers.failed
 
 -- What is known of a record once the listener heard its events.
 pub record IsTaken {T A E : Type 0} (StandsFor : T → List (ℕ × List ℕ) → Type 0) (Refused : T → ℕ → List ℕ → Type 0) (timing : Timing) (rows pid : ℕ) (state : FrameReceptionState)
     (records : List Record) (r : Record) (number : ℕ) (before after : T) (went : Result A E) : Type 0 where
   pub received : HasTaken timing rows pid state (records ++ r ∷ [])
-  pub told : OnOk went (Told (StandsFor before) (StandsFor after) number (added_by timing rows pid records r))
-  pub stopped : OnErr went (StopsWithin (StandsFor before) (StandsFor after) (Refused after number) number (added_by timing rows pid records r))
+  pub told : OnOk went (Delivers (StandsFor before) (StandsFor after) (pairs_of number (added_by timing rows pid records r)))
+  pub stopped : OnErr went (DeliversFront (StandsFor before) (StandsFor after) (Refused after) (pairs_of number (added_by timing rows pid records r)))
 
 module _ {L T A E : Type 0} (StandsFor : T → List (ℕ × List ℕ) → Type 0) (Refused : T → ℕ → List ℕ → Type 0) (services faults : T → ℕ)
     (Hears : L → Event → L → Type 0) (view : L → Hearing T A E)
@@ -218,8 +217,8 @@ module _ {L T A E : Type 0} (StandsFor : T → List (ℕ × List ℕ) → Type 0
       (events_proper section_form section_lawful (received_packets pid (records ++ r ∷ [])) given told.events told.events_are)
       (heard_of timing rows pid records links state (view a).frames taken same packets) told.heard in
       let added : told_after timing rows given told.events ≡ added_by timing rows pid records r = told_by_record timing rows pid records r told.events told.events_are in
-      let delivered : Delivers StandsFor Refused (view a).number (told_after timing rows given told.events) (record { outlet = (view a).outlet; went = Ok x }) (going_of (view b)) =
-      subst (λ (w : Result A E). Delivers StandsFor Refused (view a).number (told_after timing rows given told.events) (record { outlet = (view a).outlet; went = w }) (going_of (view b))) going have.delivered in
+      let delivered : DeliversAfter StandsFor Refused (view a).number (told_after timing rows given told.events) (record { outlet = (view a).outlet; went = Ok x }) (going_of (view b)) =
+      subst (λ (w : Result A E). DeliversAfter StandsFor Refused (view a).number (told_after timing rows given told.events) (record { outlet = (view a).outlet; went = w }) (going_of (view b))) going have.delivered in
       record {
         received = taken_of timing rows pid (records ++ r ∷ []) now_last now (view b).frames links (omega (arith, few, length-append records (r ∷ [])))
             (seen ∙ last_with pid records moment bytes state.last taken.last_is of_pid) told.stands refl

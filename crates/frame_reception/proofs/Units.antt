@@ -10,11 +10,11 @@ use Rattle.frame_reception.specs.declared.sections.Section.{Section}
 use Rattle.frame_reception.specs.Reading.{section_in, timed_in}
 use Rattle.frame_reception.specs.Frames.{is_unread}
 use Rattle.frame_reception.specs.Steps.{cut_off, joined_by, ended_by, left_by, closed_with, open_with}
-use Rattle.frame_reception.specs.Delivering.{Going, Delivers, GoesOn}
+use Rattle.outlet_spec.specs.Going.{Going, DeliversAfter, GoesOn}
 use Rattle.frame_reception.specs.Reception.{FramesState}
 use Rattle.frame_reception.specs.Hearing.{HasFrames}
 use Rattle.frame_reception.proofs.Joined.{taken_one, told_one}
-use Rattle.frame_reception.proofs.Deliveries.{delivers_none, delivers_same, delivers_then}
+use Rattle.outlet_spec.proofs.Going.{after_none, after_same, after_then}
 
 module _ (rows : ℕ) (unit : List ℕ) where
   unread_by : (xs : List FrameSection) → frame_sections_in rows unit ≡ xs → count_by (is_unread rows) (unit ∷ []) ≡ 0 + cond (eqb (length xs) 0) 1 0
@@ -49,17 +49,17 @@ module _ (timing : Timing) (rows : ℕ) (closed : List (List TimedSection)) (gro
 
 module _ {T A E : Type 0} (StandsFor : T → List (ℕ × List ℕ) → Type 0) (Refused : T → ℕ → List ℕ → Type 0) (services faults : T → ℕ) (service : ℕ)
     (timing : Timing) (rows : ℕ) (group sections : List TimedSection) where
-  pub delivered_none : (one : Going T A E) → [] ≡ sections → Delivers StandsFor Refused service (datagrams_of_frames rows (closed_with timing rows group sections)) one one
+  pub delivered_none : (one : Going T A E) → [] ≡ sections → DeliversAfter StandsFor Refused service (datagrams_of_frames rows (closed_with timing rows group sections)) one one
   delivered_none one none =
-      subst (λ (l : List TimedSection). Delivers StandsFor Refused service (datagrams_of_frames rows (closed_with timing rows group l)) one one) none
-      (delivers_none StandsFor Refused services faults service one)
+      subst (λ (l : List TimedSection). DeliversAfter StandsFor Refused service (datagrams_of_frames rows (closed_with timing rows group l)) one one) none
+      (after_none StandsFor Refused services faults service one)
 
   pub delivered_one : (closed : List (List TimedSection)) (x : TimedSection) (a b c : Going T A E) → x ∷ [] ≡ sections
-      → Delivers StandsFor Refused service (datagrams_of_frames rows (cut_off timing rows group x)) a b
-      → Delivers StandsFor Refused service (datagrams_of_frames rows (ended_by x (joined_by timing rows group x))) b c → GoesOn services faults b c
-      → Delivers StandsFor Refused service (datagrams_of_frames rows (closed_with timing rows group sections)) a c
+      → DeliversAfter StandsFor Refused service (datagrams_of_frames rows (cut_off timing rows group x)) a b
+      → DeliversAfter StandsFor Refused service (datagrams_of_frames rows (ended_by x (joined_by timing rows group x))) b c → GoesOn services faults b c
+      → DeliversAfter StandsFor Refused service (datagrams_of_frames rows (closed_with timing rows group sections)) a c
   delivered_one closed x a b c one first then goes =
-      subst (λ (l : List TimedSection). Delivers StandsFor Refused service (datagrams_of_frames rows (closed_with timing rows group l)) a c) one
-      (delivers_same StandsFor Refused services faults service _ _ a c (told_one timing rows closed group x)
-      (delivers_then StandsFor Refused services faults service (datagrams_of_frames rows (cut_off timing rows group x)) (datagrams_of_frames rows (ended_by x (joined_by timing rows group x)))
+      subst (λ (l : List TimedSection). DeliversAfter StandsFor Refused service (datagrams_of_frames rows (closed_with timing rows group l)) a c) one
+      (after_same StandsFor Refused services faults service _ _ a c (told_one timing rows closed group x)
+      (after_then StandsFor Refused services faults service (datagrams_of_frames rows (cut_off timing rows group x)) (datagrams_of_frames rows (ended_by x (joined_by timing rows group x)))
       a b c first then goes))

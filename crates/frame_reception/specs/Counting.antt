@@ -1,29 +1,12 @@
 -- Counters of a reception of frames, which stand still at the last value of a u64.
 use Rattle.std.specs.Prelude.{ℕ}
 use Rattle.wire_spec.specs.Causes.{raised}
-use Rattle.reception_spec.specs.Numbers.{PidNumbers}
+use Rattle.reception_spec.specs.Numbers.{UnitNumbers}
 use Rattle.reception_spec.specs.Frames.{FrameNumbers}
-use Rattle.frame_reception.specs.declared.counts.FrameCounts.{FrameCounts}
 
--- the numbers of the PID, and those of its frames
-abbrev pub on_pid : FrameCounts → PidNumbers
-on_pid counts = record {
-  heard = counts.heard;
-  repeats = counts.repeats;
-  gaps = counts.gaps;
-  units = counts.units;
-  bad_check = counts.bad_check;
-  delimited = counts.delimited;
-  bad_length = counts.bad_length;
-}
-
-abbrev pub of_frames : FrameCounts → FrameNumbers
-of_frames counts = record {
-  frames = counts.frames;
-  rows_mended = counts.rows_mended;
-  rows_left = counts.rows_left;
-  datagrams = counts.datagrams;
-}
+-- what the units of a PID with frames give by themselves: some carry nothing of a frame, and none is filtered
+abbrev pub unread_alone : ℕ → UnitNumbers
+unread_alone unread = record { unread = unread; filtered = 0; datagrams = 0 }
 
 -- one frame more is counted: its rows that were corrected, and that were not, and its datagrams
 abbrev pub counted_frame : FrameNumbers → ℕ → ℕ → ℕ → FrameNumbers

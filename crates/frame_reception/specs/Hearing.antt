@@ -12,7 +12,7 @@ use Rattle.service_reception.specs.Counting.{units_in, with_events}
 use Rattle.service_reception.specs.Taking.{IsProper}
 use Rattle.frame_reception.specs.Frames.{last_time, is_unread}
 use Rattle.frame_reception.specs.Steps.{closed_with, open_with, sections_of_events}
-use Rattle.frame_reception.specs.Delivering.{Going, Delivers, GoesOn}
+use Rattle.outlet_spec.specs.Going.{Going, DeliversAfter, GoesOn}
 use Rattle.frame_reception.specs.Reception.{FramesState, IsOver}
 
 -- These frames were closed, not too many to be counted, and then these sections came of the frame that is open.
@@ -52,4 +52,4 @@ module _ {T A E : Type 0} (StandsFor : T → List (ℕ × List ℕ) → Type 0) 
         → HasHeardFrames timing rows links given old.frames → HasHeardFrames timing rows links (given ++ event ∷ []) new.frames
     pub delivered : (timing : Timing) (rows : ℕ) (links : PidNumbers) (given : List Event) → IsProper section_form event
         → HasHeardFrames timing rows links given old.frames
-        → Delivers StandsFor Refused old.number (told_after timing rows given (event ∷ [])) (going_of old) (going_of new)
+        → DeliversAfter StandsFor Refused old.number (told_after timing rows given (event ∷ [])) (going_of old) (going_of new)

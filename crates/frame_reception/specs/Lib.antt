@@ -1,7 +1,6 @@
 pub mod Frames
 pub mod Counting
 pub mod Steps
-pub mod Delivering
 pub mod Reading
 pub mod Reception
 pub mod Hearing

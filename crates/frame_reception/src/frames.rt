@@ -1,12 +1,14 @@
 //! Sections of frames -> the table of the frame that is open, and the datagrams of each frame that is closed.
 ghost use Rattle.std.specs.Prelude.{◌≡◌};
 
-use crate::counts::FrameCounts;
+use crate::counts::{count_frame, count_unread};
 use crate::delivery::deliver_frame;
 use crate::placing::place_in;
 use crate::sections::{Section, read_section};
 use fec_frame::Table;
 use ipe_io::{Failed, Outlet};
+use service_counts::ServiceCounts;
+use service_reception::{count_event, count_link};
 use std::alloc::Allocator;
 use std::marker::Model;
 use time_slice::Membership;
@@ -20,12 +22,12 @@ pub(crate) struct Frames<A: Allocator> {
     /// Its rows.
     rows: u16,
     membership: Membership,
-    counts: FrameCounts,
+    counts: ServiceCounts,
 }
 
 impl<A: Allocator> Model for Frames<A> {
     ghost use Rattle.std.specs.Prelude.{◌≡◌};
-    ghost use Rattle.frame_reception.specs.Counting.{on_pid, of_frames};
+    ghost use Rattle.service_reception.specs.Counting.{on_pid, of_frames};
     ghost use Rattle.frame_reception.specs.Reception.{FramesState};
 
     ghost Value = { FramesState };
@@ -38,7 +40,7 @@ impl<A: Allocator> Model for Frames<A> {
       of_frames = of_frames frames.counts;
     } };
 
-    ghost invariant = { λ frames. frames.table.rows ≡ frames.rows };
+    ghost invariant = { λ frames. (frames.table.rows ≡ frames.rows) × (frames.counts.filtered ≡ 0) };
 }
 
 impl<A: Allocator> Frames<A> {
@@ -52,12 +54,12 @@ impl<A: Allocator> Frames<A> {
     ghost use Rattle.frame_spec.specs.Groups.{is_cut};
     ghost use Rattle.frame_spec.specs.Delivered.{datagrams_of_frames};
     ghost use Rattle.reception_spec.specs.Numbers.{no_numbers};
-    ghost use Rattle.service_reception.specs.Counting.{counted_link, counted_event, raised_by};
+    ghost use Rattle.service_reception.specs.Counting.{on_pid, of_frames, service_counts_of, counted_link, counted_event, raised_by};
     ghost use Rattle.unit_stream.specs.States.{event_in};
     ghost use Rattle.time_slice.specs.Views.{timing_of};
     ghost use Rattle.frame_reception.specs.Frames.{is_unread};
-    ghost use Rattle.frame_reception.specs.Counting.{on_pid, of_frames};
-    ghost use Rattle.frame_reception.specs.Delivering.{Delivers, GoesOn};
+    ghost use Rattle.frame_reception.specs.Counting.{unread_alone};
+    ghost use Rattle.outlet_spec.specs.Going.{DeliversAfter, GoesOn};
     ghost use Rattle.frame_reception.specs.Reading.{timed_in, FitsTable};
     ghost use Rattle.frame_reception.specs.Reception.{FramesState, IsOver};
     ghost use Rattle.frame_reception.specs.Steps.{frame_with, cut_off, joined_by, ended_by, left_by, closed_with, open_with};
@@ -77,7 +79,7 @@ impl<A: Allocator> Frames<A> {
             table,
             rows,
             membership: Membership::new(sliced, ten),
-            counts: FrameCounts::new(),
+            counts: ServiceCounts::default(),
         }
     }
 
@@ -89,28 +91,26 @@ impl<A: Allocator> Frames<A> {
     {
         self.table.clear();
         self.membership.forget();
-        self.counts = FrameCounts::new();
+        self.counts = ServiceCounts::default();
     }
 
     /// Counts a packet, by how it follows the one before.
     pub(crate) fn count_link(&mut self, link: Link)
         ensures counted { self.new ≡ record self.old { on_pid = counted_link self.old.on_pid link } }
     {
-        self.counts.count_link(link);
+        count_link(&mut self.counts, link);
     }
 
     /// Counts what became of a start.
     pub(crate) fn count_event(&mut self, event: &JoinEvent<'_>)
         ensures counted { self.new ≡ record self.old { on_pid = counted_event self.old.on_pid (event_in event.now) } }
     {
-        self.counts.count_event(event);
+        count_event(&mut self.counts, event);
     }
 
     /// The numbers of all that was received.
-    pub(crate) fn counts(&self) -> FrameCounts
-        ensures packets { on_pid result ≡ self.now.on_pid }
-        ensures unread { result.unread ≡ self.now.unread }
-        ensures frames { of_frames result ≡ self.now.of_frames }
+    pub(crate) fn counts(&self) -> ServiceCounts
+        ensures read { result ≡ service_counts_of self.now.on_pid (unread_alone self.now.unread) self.now.of_frames }
     {
         self.counts
     }
@@ -136,12 +136,12 @@ impl<A: Allocator> Frames<A> {
             (open_with timing rows group (timed_sections_in rows moment unit.now)) self.new }
         ensures delivered { (timing : Timing) (rows : ℕ) (closed : List (List TimedSection)) (group : List TimedSection) → IsUnit section_form unit.now
             → HasFrames timing rows closed group self.old
-            → Delivers T.StandsFor T.Refused service (datagrams_of_frames rows (closed_with timing rows group (timed_sections_in rows moment unit.now)))
+            → DeliversAfter T.StandsFor T.Refused service (datagrams_of_frames rows (closed_with timing rows group (timed_sections_in rows moment unit.now)))
             (record { outlet = outlet.old; went = went }) (record { outlet = outlet.new; went = result }) }
     {
         match read_section(unit, self.rows) {
             None => {
-                self.counts.count_unread();
+                count_unread(&mut self.counts);
                 went
             }
             Some(section) => {
@@ -171,7 +171,7 @@ impl<A: Allocator> Frames<A> {
             → HasFrames timing rows (closed ++ cut_off timing rows group (timed_in moment section.now)) (joined_by timing rows group (timed_in moment section.now)) self.new }
         ensures delivered { (timing : Timing) (rows : ℕ) (closed : List (List TimedSection)) (group : List TimedSection)
             → HasFrames timing rows closed group self.old
-            → Delivers T.StandsFor T.Refused service (datagrams_of_frames rows (cut_off timing rows group (timed_in moment section.now)))
+            → DeliversAfter T.StandsFor T.Refused service (datagrams_of_frames rows (cut_off timing rows group (timed_in moment section.now)))
             (record { outlet = outlet.old; went = went }) (record { outlet = outlet.new; went = result }) }
     {
         if self.place(moment, section) {
@@ -200,7 +200,7 @@ impl<A: Allocator> Frames<A> {
             → HasFrames timing rows (closed ++ ended_by (timed_in moment section.now) group) (left_by (timed_in moment section.now) group) self.new }
         ensures delivered { (timing : Timing) (rows : ℕ) (closed : List (List TimedSection)) (group : List TimedSection)
             → HasFrames timing rows closed group self.old
-            → Delivers T.StandsFor T.Refused service (datagrams_of_frames rows (ended_by (timed_in moment section.now) group))
+            → DeliversAfter T.StandsFor T.Refused service (datagrams_of_frames rows (ended_by (timed_in moment section.now) group))
             (record { outlet = outlet.old; went = went }) (record { outlet = outlet.new; went = result }) }
     {
         if section.ends_frame() {
@@ -249,7 +249,7 @@ impl<A: Allocator> Frames<A> {
             → HasFrames timing rows closed group self.old → HasFrames timing rows (closed ++ frame_with group) [] self.new }
         ensures delivered { (timing : Timing) (rows : ℕ) (closed : List (List TimedSection)) (group : List TimedSection)
             → HasFrames timing rows closed group self.old
-            → Delivers T.StandsFor T.Refused service (datagrams_of_frames rows (frame_with group))
+            → DeliversAfter T.StandsFor T.Refused service (datagrams_of_frames rows (frame_with group))
             (record { outlet = outlet.old; went = went }) (record { outlet = outlet.new; went = result }) }
     {
         if self.table.is_empty() {
@@ -257,7 +257,7 @@ impl<A: Allocator> Frames<A> {
         }
         let rows = self.table.solve();
         let (datagrams, went) = deliver_frame(&self.table, service, went, outlet);
-        self.counts.count_frame(rows, datagrams);
+        count_frame(&mut self.counts, rows, datagrams);
         self.table.clear();
         self.membership.forget();
         went

@@ -14,7 +14,6 @@ mod placing;
 mod reception;
 mod sections;
 
-pub use counts::FrameCounts;
 pub use laws::{
     a_record_of_another_pid_closes_no_frame, a_service_with_frames_is_received_on_its_pid,
     what_frames_delivered_stays,

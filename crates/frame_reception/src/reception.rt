@@ -1,12 +1,12 @@
 //! The packets of one PID with frames -> the datagrams of its frames, delivered, and all its numbers.
 ghost use Rattle.std.specs.Prelude.{◌≡◌};
 
-use crate::counts::FrameCounts;
 use crate::events::FrameListener;
 use crate::frames::Frames;
 use fec_frame::Table;
 use ipe_io::{Failed, Outlet};
 use section_codec::SectionForm;
+use service_counts::ServiceCounts;
 use std::alloc::Allocator;
 use std::marker::Model;
 use ts_packet::{Continuity, Packet};
@@ -40,9 +40,10 @@ impl<A: Allocator> FrameReception<A> {
     ghost use Rattle.ts_packet.specs.Fields.{fields_in};
     ghost use Rattle.time_slice.specs.Views.{timing_of};
     ghost use Rattle.service_reception.specs.Reception.{packet_record};
-    ghost use Rattle.service_reception.specs.Telling.{Told, StopsWithin};
-    ghost use Rattle.frame_reception.specs.Counting.{on_pid, of_frames};
-    ghost use Rattle.frame_reception.specs.Delivering.{Delivers, GoesOn};
+    ghost use Rattle.outlet_spec.specs.Pairs.{pairs_of, Delivers, DeliversFront};
+    ghost use Rattle.service_reception.specs.Counting.{service_counts_of};
+    ghost use Rattle.frame_reception.specs.Counting.{unread_alone};
+    ghost use Rattle.outlet_spec.specs.Going.{DeliversAfter, GoesOn};
     ghost use Rattle.frame_reception.specs.Reception.{HasTaken, HasEnded, IsOver, IsReceiving, IsEnding, added_by, added_by_end};
 
     /// A reception of nothing, over a buffer of 4,096 bytes and a table, which is cleared. It takes no memory afterwards.
@@ -88,9 +89,9 @@ impl<A: Allocator> FrameReception<A> {
         ensures received { (timing : Timing) (rows : ℕ) (records : List Record) → IsReceiving timing rows packet.now.pid self.old records
             → HasTaken timing rows packet.now.pid self.new (records ++ packet_record moment bytes.now ∷ []) }
         ensures delivered { (timing : Timing) (rows : ℕ) (records : List Record) → IsReceiving timing rows packet.now.pid self.old records
-            → OnOk result (Told (T.StandsFor outlet.old) (T.StandsFor outlet.new) service (added_by timing rows packet.now.pid records (packet_record moment bytes.now))) }
+            → OnOk result (Delivers (T.StandsFor outlet.old) (T.StandsFor outlet.new) (pairs_of service (added_by timing rows packet.now.pid records (packet_record moment bytes.now)))) }
         ensures failed { (timing : Timing) (rows : ℕ) (records : List Record) → IsReceiving timing rows packet.now.pid self.old records
-            → OnErr result (StopsWithin (T.StandsFor outlet.old) (T.StandsFor outlet.new) (T.Refused outlet.new service) service (added_by timing rows packet.now.pid records (packet_record moment bytes.now))) }
+            → OnErr result (DeliversFront (T.StandsFor outlet.old) (T.StandsFor outlet.new) (T.Refused outlet.new) (pairs_of service (added_by timing rows packet.now.pid records (packet_record moment bytes.now)))) }
         ensures services { T.services outlet.new ≡ T.services outlet.old }
         ensures cause { HasCause (T.faults outlet.old) (T.faults outlet.new) result }
     {
@@ -115,9 +116,9 @@ impl<A: Allocator> FrameReception<A> {
         ensures ended { (timing : Timing) (rows pid : ℕ) (records : List Record) → IsEnding timing rows pid self.old records
             → HasEnded timing rows pid self.new records }
         ensures delivered { (timing : Timing) (rows pid : ℕ) (records : List Record) → IsEnding timing rows pid self.old records
-            → OnOk result (Told (T.StandsFor outlet.old) (T.StandsFor outlet.new) service (added_by_end timing rows pid records)) }
+            → OnOk result (Delivers (T.StandsFor outlet.old) (T.StandsFor outlet.new) (pairs_of service (added_by_end timing rows pid records))) }
         ensures failed { (timing : Timing) (rows pid : ℕ) (records : List Record) → IsEnding timing rows pid self.old records
-            → OnErr result (StopsWithin (T.StandsFor outlet.old) (T.StandsFor outlet.new) (T.Refused outlet.new service) service (added_by_end timing rows pid records)) }
+            → OnErr result (DeliversFront (T.StandsFor outlet.old) (T.StandsFor outlet.new) (T.Refused outlet.new) (pairs_of service (added_by_end timing rows pid records))) }
         ensures services { T.services outlet.new ≡ T.services outlet.old }
         ensures cause { HasCause (T.faults outlet.old) (T.faults outlet.new) result }
     {
@@ -136,17 +137,15 @@ impl<A: Allocator> FrameReception<A> {
         ensures ended { (timing : Timing) (rows pid : ℕ) (records : List Record) → IsEnding timing rows pid self.old records
             → HasEnded timing rows pid self.new records }
         ensures delivered { (timing : Timing) (rows pid : ℕ) (records : List Record) → IsEnding timing rows pid self.old records
-            → Delivers T.StandsFor T.Refused service (added_by_end timing rows pid records) (record { outlet = outlet.old; went = went }) (record { outlet = outlet.new; went = result }) }
+            → DeliversAfter T.StandsFor T.Refused service (added_by_end timing rows pid records) (record { outlet = outlet.old; went = went }) (record { outlet = outlet.new; went = result }) }
         ensures goes { GoesOn T.services T.faults (record { outlet = outlet.old; went = went }) (record { outlet = outlet.new; went = result }) }
     {
         self.frames.close(service, went, outlet)
     }
 
     /// The numbers of all that was taken.
-    pub fn counts(&self) -> FrameCounts
-        ensures packets { on_pid result ≡ self.now.frames.on_pid }
-        ensures unread { result.unread ≡ self.now.frames.unread }
-        ensures frames { of_frames result ≡ self.now.frames.of_frames }
+    pub fn counts(&self) -> ServiceCounts
+        ensures read { result ≡ service_counts_of self.now.frames.on_pid (unread_alone self.now.frames.unread) self.now.frames.of_frames }
     {
         self.frames.counts()
     }

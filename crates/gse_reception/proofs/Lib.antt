@@ -1,7 +1,6 @@
 pub mod Counted
 pub mod Packets
 pub mod Outlets
-pub mod Outcomes
 pub mod UnderWay
 pub mod Frames
 pub mod OtherFrames

@@ -11,7 +11,8 @@ use Rattle.gse_spec.specs.Numbers.{IsiNumbers, PduNumbers, pdu_numbers}
 use Rattle.gse_reassembly.specs.Slots.{SlotsState, Takes}
 use Rattle.gse_reception.specs.Counting.{counted_event, counted_events, counted_pdus}
 use Rattle.gse_reception.specs.Steps.{events_in, pdus_in, ReceivedSoFar, with_packet, with_refusal, with_reading, with_readings, StandsSoFar, IsGoingOn}
-use Rattle.gse_reception.specs.Outlets.{OutletState, HandsOut}
+use Rattle.outlet_spec.specs.Going.{Going}
+use Rattle.gse_reception.specs.Outlets.{HandsOut}
 use Rattle.gse_reception.proofs.Packets.{few_events, ended_are, packet_taken, refusal_taken}
 use Rattle.gse_reception.proofs.Outlets.{hands_nothing, hands_both}
 
@@ -26,7 +27,7 @@ pub record Held : Type 0 where
 
 module _ {T A E : Type 0} (StandsFor : T → List (ℕ × List ℕ) → Type 0) (Refused : T → ℕ → List ℕ → Type 0) (services faults : T → ℕ) where
   -- of all readings these are left, the others were taken, and the datagrams of their PDUs handed out
-  pub record IsUnderWay (filter : List (List ℕ)) (service : ℕ) (so_far : ReceivedSoFar) (all left : List Reading) (held : Held) (begin now : OutletState T A E) : Type 0 where
+  pub record IsUnderWay (filter : List (List ℕ)) (service : ℕ) (so_far : ReceivedSoFar) (all left : List Reading) (held : Held) (begin now : Going T A E) : Type 0 where
     pub reached : ReceivedSoFar
     pub more : List Pdu
     pub goes_on : IsGoingOn filter reached left held.slots held.on_isi held.on_pdus
@@ -35,7 +36,7 @@ module _ {T A E : Type 0} (StandsFor : T → List (ℕ × List ℕ) → Type 0) 
     pub hands : HandsOut StandsFor Refused services faults service (delivered filter more) begin now
 
   -- whatever was received before
-  abbrev pub AreUnderWay : List (List ℕ) → ℕ → List Reading → Held → List Reading → Held → OutletState T A E → OutletState T A E → Type 0
+  abbrev pub AreUnderWay : List (List ℕ) → ℕ → List Reading → Held → List Reading → Held → Going T A E → Going T A E → Type 0
   AreUnderWay filter service all before left held begin now =
       (so_far : ReceivedSoFar) → IsGoingOn filter so_far all before.slots before.on_isi before.on_pdus → IsUnderWay filter service so_far all left held begin now
 
@@ -50,8 +51,8 @@ module _ {T A E : Type 0} (StandsFor : T → List (ℕ × List ℕ) → Type 0) 
     hands = hands_nothing StandsFor Refused services faults service outlet went;
   }
 
-  module _ (filter : List (List ℕ)) (service : ℕ) (all : List Reading) (before : Held) (begin : OutletState T A E) where
-    pub packet_more : (p : GsePacket) (left : List Reading) (held now : Held) (mid new : OutletState T A E)
+  module _ (filter : List (List ℕ)) (service : ℕ) (all : List Reading) (before : Held) (begin : Going T A E) where
+    pub packet_more : (p : GsePacket) (left : List Reading) (held now : Held) (mid new : Going T A E)
         → AreUnderWay filter service all before (packet p ∷ left) held begin mid
         → Takes held.slots p now.slots → now.slots.frame_number ≡ held.slots.frame_number
         → now.on_isi ≡ counted_events held.on_isi (events_in held.slots p) → now.on_pdus ≡ counted_pdus held.on_pdus (pdu_numbers carried_by_pdu filter (pdus_in held.slots p))
@@ -84,7 +85,7 @@ module _ {T A E : Type 0} (StandsFor : T → List (ℕ × List ℕ) → Type 0) 
         }
 
     -- one refusal more
-    refusal_on : (so_far : ReceivedSoFar) (r : Reading) (left : List Reading) (held now : Held) (mid : OutletState T A E)
+    refusal_on : (so_far : ReceivedSoFar) (r : Reading) (left : List Reading) (held now : Held) (mid : Going T A E)
         → ((reached : ReceivedSoFar) → with_reading reached r ≡ with_refusal reached)
         → now.slots ≡ held.slots → now.on_isi ≡ counted_event held.on_isi bad_length_event → now.on_pdus ≡ held.on_pdus
         → IsUnderWay filter service so_far all (r ∷ left) held begin mid → IsUnderWay filter service so_far all left now begin mid
@@ -104,7 +105,7 @@ module _ {T A E : Type 0} (StandsFor : T → List (ℕ × List ℕ) → Type 0) 
           hands = way.hands;
         }
 
-    pub refusal_more : (r : Reading) (left : List Reading) (held now : Held) (mid : OutletState T A E)
+    pub refusal_more : (r : Reading) (left : List Reading) (held now : Held) (mid : Going T A E)
         → ((p : GsePacket) → r ≡ packet p → ⊥)
         → AreUnderWay filter service all before (r ∷ left) held begin mid
         → now.slots ≡ held.slots → now.on_isi ≡ counted_event held.on_isi bad_length_event → now.on_pdus ≡ held.on_pdus
@@ -115,13 +116,13 @@ module _ {T A E : Type 0} (StandsFor : T → List (ℕ × List ℕ) → Type 0) 
     refusal_more short left held now mid no_packet under same isi pdus so_far going = refusal_on so_far short left held now mid (λ reached. refl) same isi pdus (under so_far going)
 
   -- no reading is left
-  pub all_taken : (filter : List (List ℕ)) (service : ℕ) (so_far : ReceivedSoFar) (all : List Reading) (held : Held) (begin now : OutletState T A E)
+  pub all_taken : (filter : List (List ℕ)) (service : ℕ) (so_far : ReceivedSoFar) (all : List Reading) (held : Held) (begin now : Going T A E)
       → IsUnderWay filter service so_far all [] held begin now
       → StandsSoFar filter (with_readings so_far all) held.slots held.on_isi held.on_pdus
   all_taken filter service so_far all held begin now way =
       subst (λ (t : ReceivedSoFar). StandsSoFar filter t held.slots held.on_isi held.on_pdus) way.leads way.goes_on.stand
 
-  pub all_handed : (filter : List (List ℕ)) (service : ℕ) (so_far : ReceivedSoFar) (all : List Reading) (held : Held) (begin now : OutletState T A E) (more : List Pdu)
+  pub all_handed : (filter : List (List ℕ)) (service : ℕ) (so_far : ReceivedSoFar) (all : List Reading) (held : Held) (begin now : Going T A E) (more : List Pdu)
       → IsUnderWay filter service so_far all [] held begin now → (with_readings so_far all).pdus ≡ so_far.pdus ++ more
       → HandsOut StandsFor Refused services faults service (delivered filter more) begin now
   all_handed filter service so_far all held begin now more way pdus_are =

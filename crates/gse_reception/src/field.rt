@@ -5,34 +5,36 @@ ghost use Rattle.gse_spec.specs.Packet.{readings_of};
 ghost use Rattle.gse_spec.specs.Reassembly.{Pdu};
 ghost use Rattle.gse_spec.specs.Received.{carried_by_pdu, delivered_by_pdu};
 ghost use Rattle.gse_reassembly.specs.Slots.{open_on};
-ghost use Rattle.gse_reception.specs.Counting.{of_isi, of_pdus, counted_frame};
+ghost use Rattle.gse_reception.specs.Counting.{of_isi, of_pdus, others_of, HasNoPackets, counted_frame};
 ghost use Rattle.gse_reception.specs.Steps.{ReceivedSoFar, with_readings, StandsSoFar, IsGoingOn, GivesNext};
 ghost use Rattle.gse_reception.specs.Outlets.{HandsOut};
 
-use crate::counts::{Event, GseCounts};
+use crate::counts::{Event, count_event, count_received};
 use crate::packet::take_packet;
 use addr_rules::MacList;
 use gse_packet::{Gse, GseFault, GseReader};
 use gse_reassembly::Slots;
 use ipe_io::{Failed, Outlet};
+use service_counts::ServiceCounts;
 use std::alloc::Allocator;
 
 /// Profile: the most frames of one recording.
 const MOST_FRAMES: u64 = 1 << 32;
 
 /// Counts a received frame. Profile: the slots count 2^32 at most, which is the most frames of one recording.
-pub(crate) fn count_frame<A: Allocator>(slots: &mut Slots<A>, counts: &mut GseCounts)
+pub(crate) fn count_frame<A: Allocator>(slots: &mut Slots<A>, counts: &mut ServiceCounts)
     requires within { slots.old.frame_number ≤ counts.old.heard }
     ensures within { slots.new.frame_number ≤ counts.new.heard }
     ensures isi { of_isi counts.new ≡ counted_frame (of_isi counts.old) }
     ensures pdus { of_pdus counts.new ≡ of_pdus counts.old }
+    ensures packets { HasNoPackets counts.old → HasNoPackets counts.new }
     ensures number { counts.old.heard < 2 ^ 32 → slots.new.frame_number ≡ slots.old.frame_number + 1 }
     ensures unchanged { (other : ℕ) → open_on slots.new other ≡ open_on slots.old other }
 {
     if counts.heard < MOST_FRAMES {
         slots.frame();
     }
-    counts.count_frame();
+    count_received(counts);
 }
 
 /// The next packet or refusal; None where none is left.
@@ -51,7 +53,7 @@ fn next_reading<'a>(reader: &mut GseReader<'a>) -> Option<Result<Gse<'a>, GseFau
 /// After a datagram that the outlet refused none is offered; the packets are counted all the same.
 pub(crate) fn take_field<A: Allocator, T: Outlet>(
     slots: &mut Slots<A>,
-    counts: &mut GseCounts,
+    counts: &mut ServiceCounts,
     field: &[u8],
     filter: &MacList,
     service: u32,
@@ -59,7 +61,7 @@ pub(crate) fn take_field<A: Allocator, T: Outlet>(
 ) -> Result<(), Failed>
     requires served { service < T.services outlet.old }
     ensures frame_number { slots.new.frame_number ≡ slots.old.frame_number }
-    ensures heard { counts.new.heard ≡ counts.old.heard }
+    ensures others { others_of counts.new ≡ others_of counts.old }
     ensures taken { (so_far : ReceivedSoFar) → IsGoingOn filter.now so_far (readings_of field.now) slots.old (of_isi counts.old) (of_pdus counts.old)
         → StandsSoFar filter.now (with_readings so_far (readings_of field.now)) slots.new (of_isi counts.new) (of_pdus counts.new) }
     ensures hands { (so_far : ReceivedSoFar) (more : List Pdu) → IsGoingOn filter.now so_far (readings_of field.now) slots.old (of_isi counts.old) (of_pdus counts.old)
@@ -76,7 +78,7 @@ pub(crate) fn take_field<A: Allocator, T: Outlet>(
             Ok(packet) => {
                 went = take_packet(slots, counts, &packet, filter, service, outlet, went);
             }
-            Err(_) => counts.count_event(Event::BadLength),
+            Err(_) => count_event(counts, Event::BadLength),
         }
     }
     went

@@ -4,14 +4,15 @@ ghost use Rattle.wire_spec.specs.Causes.{HasCause};
 ghost use Rattle.gse_spec.specs.Received.{carried_by_pdu, delivered_by_pdu};
 ghost use Rattle.gse_spec.specs.Events.{pdu_event};
 ghost use Rattle.gse_spec.specs.Numbers.{pdu_numbers};
-ghost use Rattle.service_reception.specs.Telling.{Told, StopsWithin};
+ghost use Rattle.outlet_spec.specs.Pairs.{pairs_of, Delivers, DeliversFront};
 ghost use Rattle.gse_reception.specs.Handling.{pdu_in, TellsHandling, handling_datagrams};
-ghost use Rattle.gse_reception.specs.Counting.{of_isi, of_pdus, counted_event, counted_pdus};
+ghost use Rattle.gse_reception.specs.Counting.{of_isi, of_pdus, others_of, counted_event, counted_pdus};
 ghost use Rattle.gse_reception.specs.Outlets.{HandsOut};
 
-use crate::counts::{Event, GseCounts};
+use crate::counts::{Event, count_event, count_handling};
 use addr_rules::{Label, MacList, wants};
 use ipe_io::{Failed, Outlet};
+use service_counts::ServiceCounts;
 use ule_extension::datagram;
 
 /// A received PDU.
@@ -54,8 +55,8 @@ pub(crate) fn handling_of<'a>(pdu: &WholePdu<'a>, filter: &MacList) -> Handling<
 /// Delivers the datagram of a PDU, where it is delivered.
 fn deliver<T: Outlet>(handling: &Handling<'_>, service: u32, outlet: &mut T) -> Result<(), Failed>
     requires { service < T.services outlet.old }
-    ensures told { OnOk result (Told (T.StandsFor outlet.old) (T.StandsFor outlet.new) service (handling_datagrams handling.now)) }
-    ensures failed { OnErr result (StopsWithin (T.StandsFor outlet.old) (T.StandsFor outlet.new) (T.Refused outlet.new service) service (handling_datagrams handling.now)) }
+    ensures told { OnOk result (Delivers (T.StandsFor outlet.old) (T.StandsFor outlet.new) (pairs_of service (handling_datagrams handling.now))) }
+    ensures failed { OnErr result (DeliversFront (T.StandsFor outlet.old) (T.StandsFor outlet.new) (T.Refused outlet.new) (pairs_of service (handling_datagrams handling.now))) }
     ensures services { T.services outlet.new ≡ T.services outlet.old }
     ensures cause { HasCause (T.faults outlet.old) (T.faults outlet.new) result }
 {
@@ -68,7 +69,7 @@ fn deliver<T: Outlet>(handling: &Handling<'_>, service: u32, outlet: &mut T) -> 
 /// Counts a PDU, and delivers its datagram where the filter wants it and all deliveries before went well.
 #[tactic(auto, using(crate::proofs::Outlets::hands_ok, crate::proofs::Outlets::hands_err))]
 pub(crate) fn take_pdu<T: Outlet>(
-    counts: &mut GseCounts,
+    counts: &mut ServiceCounts,
     pdu: &WholePdu<'_>,
     filter: &MacList,
     service: u32,
@@ -78,13 +79,13 @@ pub(crate) fn take_pdu<T: Outlet>(
     requires served { service < T.services outlet.old }
     ensures isi { of_isi counts.new ≡ counted_event (of_isi counts.old) pdu_event }
     ensures pdus { of_pdus counts.new ≡ counted_pdus (of_pdus counts.old) (pdu_numbers carried_by_pdu filter.now (pdu_in pdu.now ∷ [])) }
-    ensures heard { counts.new.heard ≡ counts.old.heard }
+    ensures others { others_of counts.new ≡ others_of counts.old }
     ensures hands { HandsOut T.StandsFor T.Refused T.services T.faults service (delivered_by_pdu carried_by_pdu filter.now (pdu_in pdu.now))
         (record { outlet = outlet.old; went = went }) (record { outlet = outlet.new; went = result }) }
 {
-    counts.count_event(Event::Pdu);
+    count_event(counts, Event::Pdu);
     let handling = handling_of(pdu, filter);
-    counts.count_handling(&handling);
+    count_handling(counts, &handling);
     went?;
     deliver(&handling, service, outlet)
 }

@@ -11,6 +11,5 @@ mod laws;
 mod packet;
 mod reception;
 
-pub use counts::GseCounts;
 pub use laws::{a_frame_of_another_isi_changes_nothing, what_frames_delivered_stays};
 pub use reception::GseReception;

@@ -7,21 +7,22 @@ ghost use Rattle.gse_spec.specs.Numbers.{pdu_numbers};
 ghost use Rattle.gse_packet.specs.Views.{packet_in};
 ghost use Rattle.gse_reassembly.specs.Slots.{Takes};
 ghost use Rattle.gse_reassembly.specs.Outcomes.{Tells};
-ghost use Rattle.gse_reception.specs.Counting.{of_isi, of_pdus, counted_event, counted_events, counted_pdus};
+ghost use Rattle.gse_reception.specs.Counting.{of_isi, of_pdus, others_of, counted_event, counted_events, counted_pdus};
 ghost use Rattle.gse_reception.specs.Steps.{events_in, pdus_of_outcome, pdus_in};
 ghost use Rattle.gse_reception.specs.Outlets.{HandsOut};
 
-use crate::counts::{Event, GseCounts};
+use crate::counts::{Event, count_event, count_part};
 use crate::handling::{WholePdu, take_pdu};
 use addr_rules::MacList;
 use gse_packet::Gse;
 use gse_reassembly::{Outcome, Slots};
 use ipe_io::{Failed, Outlet};
+use service_counts::ServiceCounts;
 use std::alloc::Allocator;
 
 /// Counts what became of a last fragment, and handles the PDU that it ends.
 fn take_outcome<T: Outlet>(
-    counts: &mut GseCounts,
+    counts: &mut ServiceCounts,
     outcome: &Outcome<'_>,
     filter: &MacList,
     service: u32,
@@ -32,7 +33,7 @@ fn take_outcome<T: Outlet>(
     ensures isi { (told : OutcomeTold) → Tells outcome.now told → of_isi counts.new ≡ counted_event (of_isi counts.old) (event_of_outcome told) }
     ensures pdus { (told : OutcomeTold) → Tells outcome.now told
         → of_pdus counts.new ≡ counted_pdus (of_pdus counts.old) (pdu_numbers carried_by_pdu filter.now (pdus_of_outcome told)) }
-    ensures heard { counts.new.heard ≡ counts.old.heard }
+    ensures others { others_of counts.new ≡ others_of counts.old }
     ensures hands { (told : OutcomeTold) → Tells outcome.now told
         → HandsOut T.StandsFor T.Refused T.services T.faults service (flat_map (delivered_by_pdu carried_by_pdu filter.now) (pdus_of_outcome told))
         (record { outlet = outlet.old; went = went }) (record { outlet = outlet.new; went = result }) }
@@ -51,15 +52,15 @@ fn take_outcome<T: Outlet>(
             take_pdu(counts, &pdu, filter, service, outlet, went)
         }
         Outcome::NoStart | Outcome::Late => {
-            counts.count_event(Event::Delimited);
+            count_event(counts, Event::Delimited);
             went
         }
         Outcome::Length => {
-            counts.count_event(Event::BadLength);
+            count_event(counts, Event::BadLength);
             went
         }
         Outcome::Crc => {
-            counts.count_event(Event::BadCheck);
+            count_event(counts, Event::BadCheck);
             went
         }
     }
@@ -68,7 +69,7 @@ fn take_outcome<T: Outlet>(
 /// Takes one packet: its fragment is kept, or the PDU that it ends is handled.
 pub(crate) fn take_packet<A: Allocator, T: Outlet>(
     slots: &mut Slots<A>,
-    counts: &mut GseCounts,
+    counts: &mut ServiceCounts,
     packet: &Gse<'_>,
     filter: &MacList,
     service: u32,
@@ -80,7 +81,7 @@ pub(crate) fn take_packet<A: Allocator, T: Outlet>(
     ensures frame_number { slots.new.frame_number ≡ slots.old.frame_number }
     ensures isi { of_isi counts.new ≡ counted_events (of_isi counts.old) (events_in slots.old (packet_in packet.now)) }
     ensures pdus { of_pdus counts.new ≡ counted_pdus (of_pdus counts.old) (pdu_numbers carried_by_pdu filter.now (pdus_in slots.old (packet_in packet.now))) }
-    ensures heard { counts.new.heard ≡ counts.old.heard }
+    ensures others { others_of counts.new ≡ others_of counts.old }
     ensures hands { HandsOut T.StandsFor T.Refused T.services T.faults service (flat_map (delivered_by_pdu carried_by_pdu filter.now) (pdus_in slots.old (packet_in packet.now)))
         (record { outlet = outlet.old; went = went }) (record { outlet = outlet.new; went = result }) }
 {
@@ -105,11 +106,14 @@ pub(crate) fn take_packet<A: Allocator, T: Outlet>(
             written,
             pdu,
         } => {
-            counts.count_part(slots.start(*id, *total, *protocol, *label, *written, pdu));
+            count_part(
+                counts,
+                slots.start(*id, *total, *protocol, *label, *written, pdu),
+            );
             went
         }
         Gse::Middle { id, pdu } => {
-            counts.count_part(slots.middle(*id, pdu));
+            count_part(counts, slots.middle(*id, pdu));
             went
         }
         Gse::End { id, pdu, crc } => {

@@ -1,11 +1,11 @@
 //! The frames of one input stream -> the datagrams of its service, delivered, and all its numbers.
 
-use crate::counts::GseCounts;
 use crate::field::{count_frame, take_field};
 use addr_rules::MacList;
 use bb_frame::Frame;
 use gse_reassembly::{Slot, Slots};
 use ipe_io::{Failed, Outlet};
+use service_counts::ServiceCounts;
 use std::alloc::Allocator;
 use std::marker::Model;
 
@@ -15,13 +15,13 @@ use std::marker::Model;
 #[derive(Drop)]
 pub struct GseReception<A: Allocator> {
     slots: Slots<A>,
-    counts: GseCounts,
+    counts: ServiceCounts,
 }
 
 impl<A: Allocator> Model for GseReception<A> {
     ghost use Rattle.std.specs.Prelude.{◌≤◌};
     ghost use Rattle.gse_reception.specs.Reception.{GseReceptionState};
-    ghost use Rattle.gse_reception.specs.Counting.{of_isi, of_pdus};
+    ghost use Rattle.gse_reception.specs.Counting.{of_isi, of_pdus, HasNoPackets};
 
     ghost Value = { GseReceptionState };
 
@@ -31,7 +31,7 @@ impl<A: Allocator> Model for GseReception<A> {
       of_pdus = of_pdus reception.counts;
     } };
 
-    ghost invariant = { λ reception. reception.slots.frame_number ≤ reception.counts.heard };
+    ghost invariant = { λ reception. (reception.slots.frame_number ≤ reception.counts.heard) × HasNoPackets reception.counts };
 }
 
 impl<A: Allocator> GseReception<A> {
@@ -39,8 +39,8 @@ impl<A: Allocator> GseReception<A> {
     ghost use Rattle.wire_spec.specs.Causes.{HasCause};
     ghost use Rattle.plan_spec.specs.Plan.{ServiceFields, isi_of};
     ghost use Rattle.bb_reception_spec.specs.Delivered.{added_by};
-    ghost use Rattle.service_reception.specs.Telling.{Told, StopsWithin};
-    ghost use Rattle.gse_reception.specs.Counting.{of_isi, of_pdus};
+    ghost use Rattle.outlet_spec.specs.Pairs.{pairs_of, Delivers, DeliversFront};
+    ghost use Rattle.gse_reception.specs.Counting.{service_counts_of};
     ghost use Rattle.gse_reception.specs.Reception.{HasTaken, IsReceiving, IsRead};
 
     /// A reception of nothing, over a buffer of 256 times 65,540 bytes and a slot for each of 256 Frag IDs. What stood in the slots is
@@ -52,7 +52,7 @@ impl<A: Allocator> GseReception<A> {
     {
         GseReception {
             slots: Slots::over(buffer, slots),
-            counts: GseCounts::new(),
+            counts: ServiceCounts::default(),
         }
     }
 
@@ -73,10 +73,10 @@ impl<A: Allocator> GseReception<A> {
             → IsReceiving filter.now frame.now.isi it self.old frames → HasTaken it self.new (frames ++ b ∷ []) }
         ensures delivered { (it : ServiceFields) (frames : List (List ℕ)) (b : List ℕ) → IsRead frame.now b
             → IsReceiving filter.now frame.now.isi it self.old frames
-            → OnOk result (Told (T.StandsFor outlet.old) (T.StandsFor outlet.new) service (added_by it frames b)) }
+            → OnOk result (Delivers (T.StandsFor outlet.old) (T.StandsFor outlet.new) (pairs_of service (added_by it frames b))) }
         ensures failed { (it : ServiceFields) (frames : List (List ℕ)) (b : List ℕ) → IsRead frame.now b
             → IsReceiving filter.now frame.now.isi it self.old frames
-            → OnErr result (StopsWithin (T.StandsFor outlet.old) (T.StandsFor outlet.new) (T.Refused outlet.new service) service (added_by it frames b)) }
+            → OnErr result (DeliversFront (T.StandsFor outlet.old) (T.StandsFor outlet.new) (T.Refused outlet.new) (pairs_of service (added_by it frames b))) }
         ensures services { T.services outlet.new ≡ T.services outlet.old }
         ensures cause { HasCause (T.faults outlet.old) (T.faults outlet.new) result }
     {
@@ -92,9 +92,8 @@ impl<A: Allocator> GseReception<A> {
     }
 
     /// The numbers of all that was taken.
-    pub fn counts(&self) -> GseCounts
-        ensures isi { of_isi result ≡ self.now.of_isi }
-        ensures pdus { of_pdus result ≡ self.now.of_pdus }
+    pub fn counts(&self) -> ServiceCounts
+        ensures read { result ≡ service_counts_of self.now.of_isi self.now.of_pdus }
     {
         self.counts
     }

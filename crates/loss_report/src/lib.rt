@@ -11,5 +11,6 @@ mod parts;
 mod report;
 mod service_part;
 
-pub use counts::{ServiceCounts, StreamCounts};
+pub use counts::StreamCounts;
 pub use report::Report;
+pub use service_counts::ServiceCounts;

@@ -3,9 +3,10 @@ ghost use Rattle.std.specs.Prelude.{◌≡◌, ◌<◌, ◌^◌, IfOk, vec_len};
 
 use crate::outlet::{DATAGRAM, Noted, SERVICE, put_deliveries, put_rise};
 use fec_frame::Table;
-use frame_reception::{FrameCounts, FrameReception};
+use frame_reception::FrameReception;
 use ipe_io::Failed;
 use mpe_section::{Fec, RealTime, write_fec, write_mpe};
+use service_counts::ServiceCounts;
 use std::alloc::{AllocError as OutOfMemory, Global};
 use std::test::Fail;
 use ts_packet::parse;
@@ -160,7 +161,11 @@ fn act(receiver: &mut Receiver, words: &str) -> Result<bool, Fail> {
 }
 
 /// Appends how much the numbers of packets and units rose.
-fn put_units(text: &mut String, old: &FrameCounts, new: &FrameCounts) -> Result<(), OutOfMemory> {
+fn put_units(
+    text: &mut String,
+    old: &ServiceCounts,
+    new: &ServiceCounts,
+) -> Result<(), OutOfMemory> {
     put_rise(text, "heard", old.heard, new.heard)?;
     put_rise(text, "repeats", old.repeats, new.repeats)?;
     put_rise(text, "gaps", old.gaps, new.gaps)?;
@@ -172,7 +177,11 @@ fn put_units(text: &mut String, old: &FrameCounts, new: &FrameCounts) -> Result<
 }
 
 /// Appends how much the numbers of frames rose.
-fn put_frames(text: &mut String, old: &FrameCounts, new: &FrameCounts) -> Result<(), OutOfMemory> {
+fn put_frames(
+    text: &mut String,
+    old: &ServiceCounts,
+    new: &ServiceCounts,
+) -> Result<(), OutOfMemory> {
     put_rise(text, "frames", old.frames, new.frames)?;
     put_rise(text, "rows_mended", old.rows_mended, new.rows_mended)?;
     put_rise(text, "rows_left", old.rows_left, new.rows_left)?;

@@ -5,8 +5,9 @@ use crate::outlet::{Noted, SERVICE, put_deliveries, put_rise};
 use addr_rules::MacList;
 use bb_frame::Frame;
 use gse_reassembly::Slot;
-use gse_reception::{GseCounts, GseReception};
+use gse_reception::GseReception;
 use ipe_io::Failed;
+use service_counts::ServiceCounts;
 use std::alloc::{AllocError as OutOfMemory, Global};
 use std::test::Fail;
 
@@ -90,7 +91,11 @@ fn take(receiver: &mut Receiver, field: &[u8]) -> Result<(), Failed> {
 }
 
 /// Appends how much the numbers of packets and PDUs rose.
-fn put_rises(text: &mut String, old: &GseCounts, new: &GseCounts) -> Result<(), OutOfMemory> {
+fn put_rises(
+    text: &mut String,
+    old: &ServiceCounts,
+    new: &ServiceCounts,
+) -> Result<(), OutOfMemory> {
     put_rise(text, "units", old.units, new.units)?;
     put_rise(text, "bad_check", old.bad_check, new.bad_check)?;
     put_rise(text, "delimited", old.delimited, new.delimited)?;

@@ -1,7 +1,6 @@
 pub mod Counted
 pub mod Proper
 pub mod Few
-pub mod Tellings
 pub mod Steps
 pub mod Records
 pub mod Links

@@ -14,11 +14,11 @@ use Rattle.ts_packet.specs.declared.continuity.Link.{Link}
 use Rattle.ts_packet.specs.Links.{link_of}
 use Rattle.unit_stream.specs.Joining.{JoinerState, Stands, packets_with}
 use Rattle.unit_stream.specs.Telling.{HasTold}
-use Rattle.service_reception.specs.declared.counts.Counts.{Counts}
+use Rattle.service_counts.specs.declared.counts.ServiceCounts.{ServiceCounts}
 use Rattle.service_reception.specs.Counting.{on_pid, of_units, counted_link, units_in}
 use Rattle.service_reception.specs.Taking.{HasCounted, Hearing, HearsEvent, delivered_of}
 use Rattle.service_reception.specs.Services.{IsServed}
-use Rattle.service_reception.specs.Telling.{Told, StopsWithin}
+use Rattle.outlet_spec.specs.Pairs.{pairs_of, Delivers, DeliversFront}
 use Rattle.service_reception.specs.Reception.{ReceptionState, HasTaken, packet_record, added_by}
 use Rattle.service_reception.proofs.Counted.{delivered_of-append}
 use Rattle.service_reception.proofs.Few.{few_in_all}
@@ -27,13 +27,12 @@ use Rattle.service_reception.proofs.Steps.{all_heard}
 use Rattle.service_reception.proofs.Records.{packet_at, received_with, last_with}
 use Rattle.service_reception.proofs.Links.{link_counted}
 use Rattle.service_reception.proofs.Units.{units_of_events, delivered_of_events, numbers_of_pid}
-use Rattle.service_reception.proofs.Tellings.{told_same}
 
-abbrev pub state_of : Option (List ℕ) → JoinerState → Counts → ReceptionState
+abbrev pub state_of : Option (List ℕ) → JoinerState → ServiceCounts → ReceptionState
 state_of last joiner counts = record { last = last; joiner = joiner; on_pid = on_pid counts; of_units = of_units counts }
 
 -- what was received of a service, by the form of its units and its PID
-pub record HasOn (form : UnitForm) (pid : ℕ) (it : ServiceFields) (last : Option (List ℕ)) (joiner : JoinerState) (counts : Counts) (records : List Record) : Type 0 where
+pub record HasOn (form : UnitForm) (pid : ℕ) (it : ServiceFields) (last : Option (List ℕ)) (joiner : JoinerState) (counts : ServiceCounts) (records : List Record) : Type 0 where
   pub last_is : last ≡ last_bytes None (received_packets pid records)
   pub stands : Stands form joiner (received_packets pid records)
   pub on_pid_are : on_pid counts ≡ pid_numbers form pid records
@@ -42,7 +41,7 @@ pub record HasOn (form : UnitForm) (pid : ℕ) (it : ServiceFields) (last : Opti
 pub same_pid : (p q : ℕ) (o : Option ℕ) → o ≡ Some p → o ≡ Some q → p ≡ q
 same_pid p q o is_p is_q = cc
 
-pub has_on : (form : UnitForm) (pid : ℕ) (it : ServiceFields) (last : Option (List ℕ)) (joiner : JoinerState) (counts : Counts) (records : List Record)
+pub has_on : (form : UnitForm) (pid : ℕ) (it : ServiceFields) (last : Option (List ℕ)) (joiner : JoinerState) (counts : ServiceCounts) (records : List Record)
     → form_of_kind it.kind ≡ form → pid_of it.kind ≡ Some pid → HasTaken it (state_of last joiner counts) records → HasOn form pid it last joiner counts records
 has_on form pid it last joiner counts records form_is pid_is received =
     let same : received.pid ≡ pid = same_pid received.pid pid (pid_of it.kind) received.pid_is pid_is in
@@ -54,7 +53,7 @@ has_on form pid it last joiner counts records form_is pid_is received =
       of_units_are = received.of_units_are ∙ ap (unit_numbers it) (units_of_events form pid it records form_is pid_is);
     }
 
-pub has_received : (form : UnitForm) (pid : ℕ) (it : ServiceFields) (last : Option (List ℕ)) (joiner : JoinerState) (counts : Counts) (records : List Record)
+pub has_received : (form : UnitForm) (pid : ℕ) (it : ServiceFields) (last : Option (List ℕ)) (joiner : JoinerState) (counts : ServiceCounts) (records : List Record)
     → form_of_kind it.kind ≡ form → pid_of it.kind ≡ Some pid → HasOn form pid it last joiner counts records → HasTaken it (state_of last joiner counts) records
 has_received form pid it last joiner counts records form_is pid_is on = record {
   pid = pid;
@@ -66,7 +65,7 @@ has_received form pid it last joiner counts records form_is pid_is on = record {
 }
 
 -- the packet is counted, and its events are to be counted
-pub counting_begins : (form : UnitForm) (pid : ℕ) (it : ServiceFields) (records : List Record) (moment : ℕ) (bytes : List ℕ) (last : Option (List ℕ)) (joiner : JoinerState) (before after : Counts) (link : Link)
+pub counting_begins : (form : UnitForm) (pid : ℕ) (it : ServiceFields) (records : List Record) (moment : ℕ) (bytes : List ℕ) (last : Option (List ℕ)) (joiner : JoinerState) (before after : ServiceCounts) (link : Link)
     → HasOn form pid it last joiner before records → is_of pid bytes ≡ true → link ≡ link_of last bytes → length records < 2 ^ 32
     → on_pid after ≡ counted_link (on_pid before) link → of_units after ≡ of_units before
     → HasCounted it (pid_numbers form pid (records ++ packet_record moment bytes ∷ [])) after (events_of form (received_packets pid records))
@@ -96,7 +95,7 @@ added_of form pid it records r events form_is pid_is told =
     (ap (λ (t : List (List ℕ)). length t) (sym (delivered_of_events form pid it records form_is pid_is)))
 
 -- all its events are counted
-pub record_received : (form : UnitForm) (pid : ℕ) (it : ServiceFields) (records : List Record) (moment : ℕ) (bytes : List ℕ) (last now_last : Option (List ℕ)) (joiner now : JoinerState) (before after : Counts) (events : List Event)
+pub record_received : (form : UnitForm) (pid : ℕ) (it : ServiceFields) (records : List Record) (moment : ℕ) (bytes : List ℕ) (last now_last : Option (List ℕ)) (joiner now : JoinerState) (before after : ServiceCounts) (events : List Event)
     → form_of_kind it.kind ≡ form → pid_of it.kind ≡ Some pid → HasOn form pid it last joiner before records → is_of pid bytes ≡ true → now_last ≡ Some bytes
     → Stands form now (received_packets pid (records ++ packet_record moment bytes ∷ []))
     → events_of form (received_packets pid (records ++ packet_record moment bytes ∷ [])) ≡ events_of form (received_packets pid records) ++ events
@@ -116,32 +115,32 @@ record_received form pid it records moment bytes last now_last joiner now before
 pub record_told : {T E : Type 0} (result : Result T E) (form : UnitForm) (pid : ℕ) (it : ServiceFields) (records : List Record) (r : Record)
     (a b : List (ℕ × List ℕ) → Type 0) (number : ℕ) (events : List Event) → form_of_kind it.kind ≡ form → pid_of it.kind ≡ Some pid
     → events_of form (received_packets pid (records ++ r ∷ [])) ≡ events_of form (received_packets pid records) ++ events
-    → OnOk result (Told a b number (delivered_of it events))
-    → OnOk result (Told a b number (added_by it records r))
+    → OnOk result (Delivers a b (pairs_of number (delivered_of it events)))
+    → OnOk result (Delivers a b (pairs_of number (added_by it records r)))
 record_told (Err x) form pid it records r a b number events form_is pid_is told delivered = tt
 record_told (Ok x) form pid it records r a b number events form_is pid_is told delivered =
-    told_same a b number (delivered_of it events) (added_by it records r) (sym (added_of form pid it records r events form_is pid_is told)) delivered
+    subst (λ (t : List (List ℕ)). Delivers a b (pairs_of number t)) (sym (added_of form pid it records r events form_is pid_is told)) delivered
 
 pub record_stopped : {T E : Type 0} (result : Result T E) (form : UnitForm) (pid : ℕ) (it : ServiceFields) (records : List Record) (r : Record)
-    (a b : List (ℕ × List ℕ) → Type 0) (Refused : List ℕ → Type 0) (number : ℕ) (events : List Event) → form_of_kind it.kind ≡ form → pid_of it.kind ≡ Some pid
+    (a b : List (ℕ × List ℕ) → Type 0) (Refused : ℕ → List ℕ → Type 0) (number : ℕ) (events : List Event) → form_of_kind it.kind ≡ form → pid_of it.kind ≡ Some pid
     → events_of form (received_packets pid (records ++ r ∷ [])) ≡ events_of form (received_packets pid records) ++ events
-    → OnErr result (StopsWithin a b Refused number (delivered_of it events))
-    → OnErr result (StopsWithin a b Refused number (added_by it records r))
+    → OnErr result (DeliversFront a b Refused (pairs_of number (delivered_of it events)))
+    → OnErr result (DeliversFront a b Refused (pairs_of number (added_by it records r)))
 record_stopped (Ok x) form pid it records r a b Refused number events form_is pid_is told stops = tt
 record_stopped (Err x) form pid it records r a b Refused number events form_is pid_is told stops =
-    subst (λ (t : List (List ℕ)). StopsWithin a b Refused number t) (sym (added_of form pid it records r events form_is pid_is told)) stops
+    subst (λ (t : List (List ℕ)). DeliversFront a b Refused (pairs_of number t)) (sym (added_of form pid it records r events form_is pid_is told)) stops
 
 -- What is known of a record once the listener heard its events.
 pub record IsHeard {T A E : Type 0} (StandsFor : T → List (ℕ × List ℕ) → Type 0) (Refused : T → ℕ → List ℕ → Type 0) (it : ServiceFields) (state : ReceptionState) (records : List Record) (r : Record)
     (number : ℕ) (before after : T) (went : Result A E) : Type 0 where
   pub received : HasTaken it state (records ++ r ∷ [])
-  pub told : OnOk went (Told (StandsFor before) (StandsFor after) number (added_by it records r))
-  pub stopped : OnErr went (StopsWithin (StandsFor before) (StandsFor after) (Refused after number) number (added_by it records r))
+  pub told : OnOk went (Delivers (StandsFor before) (StandsFor after) (pairs_of number (added_by it records r)))
+  pub stopped : OnErr went (DeliversFront (StandsFor before) (StandsFor after) (Refused after) (pairs_of number (added_by it records r)))
 
 module _ {L T A E : Type 0} (StandsFor : T → List (ℕ × List ℕ) → Type 0) (Refused : T → ℕ → List ℕ → Type 0) (services faults : T → ℕ)
     (Hears : L → Event → L → Type 0) (view : L → Hearing T A E) (form : UnitForm) (lawful : IsLawful form) (IsOfKind : KindFields → Type 0)
     (each : (old new : L) (event : Event) → Hears old event new → HearsEvent StandsFor Refused services faults form IsOfKind event (view old) (view new)) where
-  pub record_heard : (pid : ℕ) (it : ServiceFields) (records : List Record) (moment : ℕ) (bytes : List ℕ) (last now_last : Option (List ℕ)) (joiner now : JoinerState) (before : Counts) (link : Link) (a b : L) (x : A)
+  pub record_heard : (pid : ℕ) (it : ServiceFields) (records : List Record) (moment : ℕ) (bytes : List ℕ) (last now_last : Option (List ℕ)) (joiner now : JoinerState) (before : ServiceCounts) (link : Link) (a b : L) (x : A)
       → form_of_kind it.kind ≡ form → pid_of it.kind ≡ Some pid → IsServed IsOfKind (view a).filter it → length records < 2 ^ 32
       → HasOn form pid it last joiner before records → is_of pid bytes ≡ true → link ≡ link_of last bytes → now_last ≡ Some bytes
       → on_pid (view a).counts ≡ counted_link (on_pid before) link → of_units (view a).counts ≡ of_units before → (view a).went ≡ Ok x
@@ -160,7 +159,7 @@ module _ {L T A E : Type 0} (StandsFor : T → List (ℕ × List ℕ) → Type 0
             (heard.counted (pid_numbers form pid (records ++ r ∷ [])) given few_events
             (counting_begins form pid it records moment bytes last joiner before (view a).counts link on of_pid linked few packets units));
         told = record_told (view b).went form pid it records r (StandsFor (view a).outlet) (StandsFor (view b).outlet) (view a).number told.events form_is pid_is told.events_are
-            (subst (λ (w : Result A E). OnOk w (OnOk (view b).went (Told (StandsFor (view a).outlet) (StandsFor (view b).outlet) (view a).number (delivered_of it told.events)))) going heard.told);
-        stopped = record_stopped (view b).went form pid it records r (StandsFor (view a).outlet) (StandsFor (view b).outlet) (Refused (view b).outlet (view a).number) (view a).number told.events form_is pid_is told.events_are
-            (subst (λ (w : Result A E). OnOk w (OnErr (view b).went (StopsWithin (StandsFor (view a).outlet) (StandsFor (view b).outlet) (Refused (view b).outlet (view a).number) (view a).number (delivered_of it told.events)))) going heard.failed);
+            (subst (λ (w : Result A E). OnOk w (OnOk (view b).went (Delivers (StandsFor (view a).outlet) (StandsFor (view b).outlet) (pairs_of (view a).number (delivered_of it told.events))))) going heard.told);
+        stopped = record_stopped (view b).went form pid it records r (StandsFor (view a).outlet) (StandsFor (view b).outlet) (Refused (view b).outlet) (view a).number told.events form_is pid_is told.events_are
+            (subst (λ (w : Result A E). OnOk w (OnErr (view b).went (DeliversFront (StandsFor (view a).outlet) (StandsFor (view b).outlet) (Refused (view b).outlet) (pairs_of (view a).number (delivered_of it told.events))))) going heard.failed);
       }

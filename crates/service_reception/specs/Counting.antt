@@ -1,15 +1,16 @@
 -- Counters of a reception, which stand still at the last value of a u64.
-use Rattle.std.specs.Prelude.{ℕ, zero, suc, List, map, flat_map, count_by}
+use Rattle.std.specs.Prelude.{◌≡◌, ℕ, ◌+◌, zero, suc, List, map, flat_map, count_by}
 use Rattle.wire_spec.specs.Causes.{raised}
 use Rattle.ts_spec.specs.Events.{Event, unit_event, bad_check_event, delimit_event, bad_length_event}
 use Rattle.reassembly_law.specs.UnderWay.{unit_of_event}
 use Rattle.reception_spec.specs.Numbers.{PidNumbers, UnitNumbers, is_unit, is_bad_check, is_delimit, is_bad_length}
 use Rattle.ts_packet.specs.declared.continuity.Link.{Link}
 use Rattle.ts_packet.specs.declared.continuity.Link.TheVariants.{First, Next, Repeat, Gap}
-use Rattle.service_reception.specs.declared.counts.Counts.{Counts}
+use Rattle.reception_spec.specs.Frames.{FrameNumbers}
+use Rattle.service_counts.specs.declared.counts.ServiceCounts.{ServiceCounts}
 
--- the numbers of the PID, and those of the units
-abbrev pub on_pid : Counts → PidNumbers
+-- the numbers of the PID, those of the units, and those of frames
+abbrev pub on_pid : ServiceCounts → PidNumbers
 on_pid counts = record {
   heard = counts.heard;
   repeats = counts.repeats;
@@ -20,8 +21,33 @@ on_pid counts = record {
   bad_length = counts.bad_length;
 }
 
-abbrev pub of_units : Counts → UnitNumbers
+abbrev pub of_units : ServiceCounts → UnitNumbers
 of_units counts = record { unread = counts.unread; filtered = counts.filtered; datagrams = counts.datagrams }
+
+abbrev pub of_frames : ServiceCounts → FrameNumbers
+of_frames counts = record { frames = counts.frames; rows_mended = counts.rows_mended; rows_left = counts.rows_left; datagrams = counts.datagrams }
+
+-- there are no frames in them
+abbrev pub HasNoFrames : ServiceCounts → Type 0
+HasNoFrames counts = (counts.frames ≡ 0) × (counts.rows_mended ≡ 0) × (counts.rows_left ≡ 0)
+
+-- all numbers of a service: of its PIDs, of what its units give by themselves, and of what its frames do
+abbrev pub service_counts_of : PidNumbers → UnitNumbers → FrameNumbers → ServiceCounts
+service_counts_of on_pid of_units of_frames = record {
+  heard = on_pid.heard;
+  repeats = on_pid.repeats;
+  gaps = on_pid.gaps;
+  units = on_pid.units;
+  bad_check = on_pid.bad_check;
+  delimited = on_pid.delimited;
+  bad_length = on_pid.bad_length;
+  unread = of_units.unread;
+  filtered = of_units.filtered;
+  frames = of_frames.frames;
+  rows_mended = of_frames.rows_mended;
+  rows_left = of_frames.rows_left;
+  datagrams = of_units.datagrams + of_frames.datagrams;
+}
 
 -- one packet more is counted, by how it follows the one before
 abbrev pub counted_link : PidNumbers → Link → PidNumbers

@@ -1,7 +1,6 @@
 pub mod Services
 pub mod Carried
 pub mod Counting
-pub mod Telling
 pub mod Taking
 pub mod Reception
 pub mod Table

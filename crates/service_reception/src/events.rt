@@ -1,18 +1,20 @@
 //! The events of one packet -> counted, and the datagrams of their units delivered, up to the first that is refused.
 ghost use Rattle.std.specs.Prelude.{◌<◌};
+ghost use Rattle.service_reception.specs.Counting.{HasNoFrames};
 
 use crate::carried::UnitReader;
-use crate::counts::Counts;
+use crate::counts::{count_event, count_handling};
 use crate::handling::{deliver, handling_of};
 use addr_rules::MacList;
 use ipe_io::{Failed, Outlet};
+use service_counts::ServiceCounts;
 use std::marker::PhantomData;
 use unit_stream::{JoinEvent, Listener};
 
 /// Hears the events of a service's packets. After a refused datagram they are counted alone.
 #[derive(Drop)]
 pub(crate) struct ServiceListener<'c, 'f, 'o, K: UnitReader, T: Outlet> {
-    pub(crate) counts: &'c mut Counts,
+    pub(crate) counts: &'c mut ServiceCounts,
     /// The service's filter.
     pub(crate) filter: &'f MacList,
     /// The number of the service.
@@ -23,6 +25,7 @@ pub(crate) struct ServiceListener<'c, 'f, 'o, K: UnitReader, T: Outlet> {
     /// The kind of its units.
     pub(crate) kind: PhantomData<K>,
     pub(crate) ghost served: { service < T.services outlet.now },
+    pub(crate) ghost no_frames: { HasNoFrames counts.now },
 }
 
 impl<'c, 'f, 'o, K: UnitReader, T: Outlet> Listener for ServiceListener<'c, 'f, 'o, K, T> {
@@ -36,10 +39,10 @@ impl<'c, 'f, 'o, K: UnitReader, T: Outlet> Listener for ServiceListener<'c, 'f, 
 
     #[inline(always)]
     fn hear(&mut self, event: &JoinEvent<'_>) {
-        self.counts.count_event(event);
+        count_event(self.counts, event);
         if let JoinEvent::Unit { moment: _, bytes } = event {
             let handling = handling_of::<K>(bytes, self.filter);
-            self.counts.count_handling(&handling);
+            count_handling(self.counts, &handling);
             if self.result.is_ok() {
                 self.result = deliver(&handling, self.service, self.outlet);
             }

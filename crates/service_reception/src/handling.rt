@@ -5,7 +5,7 @@ ghost use Rattle.ts_spec.specs.Form.{IsUnit};
 ghost use Rattle.plan_spec.specs.Plan.{ServiceFields};
 ghost use Rattle.service_reception.specs.Services.{IsServed};
 ghost use Rattle.service_reception.specs.Carried.{TellsHandling, handling_datagrams};
-ghost use Rattle.service_reception.specs.Telling.{Told, StopsWithin};
+ghost use Rattle.outlet_spec.specs.Pairs.{pairs_of, Delivers, DeliversFront};
 
 use crate::carried::UnitReader;
 use addr_rules::{MacList, wants};
@@ -45,8 +45,8 @@ pub(crate) fn deliver<T: Outlet>(
     outlet: &mut T,
 ) -> Result<(), Failed>
     requires { service < T.services outlet.old }
-    ensures told { OnOk result (Told (T.StandsFor outlet.old) (T.StandsFor outlet.new) service (handling_datagrams handling.now)) }
-    ensures failed { OnErr result (StopsWithin (T.StandsFor outlet.old) (T.StandsFor outlet.new) (T.Refused outlet.new service) service (handling_datagrams handling.now)) }
+    ensures told { OnOk result (Delivers (T.StandsFor outlet.old) (T.StandsFor outlet.new) (pairs_of service (handling_datagrams handling.now))) }
+    ensures failed { OnErr result (DeliversFront (T.StandsFor outlet.old) (T.StandsFor outlet.new) (T.Refused outlet.new) (pairs_of service (handling_datagrams handling.now))) }
     ensures services { T.services outlet.new ≡ T.services outlet.old }
     ensures cause { HasCause (T.faults outlet.old) (T.faults outlet.new) result }
 {

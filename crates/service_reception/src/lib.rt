@@ -14,7 +14,7 @@ mod reception;
 mod table;
 
 pub use carried::{Carried, UnitReader};
-pub use counts::Counts;
+pub use counts::{count_event, count_link};
 pub use laws::{a_record_of_another_pid_changes_nothing, what_was_delivered_stays};
 pub use reception::Reception;
 pub use table::TableReception;

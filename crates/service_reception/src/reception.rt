@@ -2,10 +2,11 @@
 ghost use Rattle.std.specs.Prelude.{◌≡◌};
 
 use crate::carried::UnitReader;
-use crate::counts::Counts;
+use crate::counts::count_link;
 use crate::events::ServiceListener;
 use addr_rules::MacList;
 use ipe_io::{Failed, Outlet};
+use service_counts::ServiceCounts;
 use std::alloc::Allocator;
 use std::marker::{Model, PhantomData};
 use ts_packet::{Continuity, Packet};
@@ -18,12 +19,12 @@ use unit_stream::Joiner;
 pub struct Reception<K: UnitReader, A: Allocator> {
     continuity: Continuity,
     joiner: Joiner<K, A>,
-    counts: Counts,
+    counts: ServiceCounts,
 }
 
 impl<K: UnitReader, A: Allocator> Model for Reception<K, A> {
     ghost use Rattle.service_reception.specs.Reception.{ReceptionState};
-    ghost use Rattle.service_reception.specs.Counting.{on_pid, of_units};
+    ghost use Rattle.service_reception.specs.Counting.{on_pid, of_units, HasNoFrames};
 
     ghost Value = { ReceptionState };
 
@@ -33,6 +34,8 @@ impl<K: UnitReader, A: Allocator> Model for Reception<K, A> {
       on_pid = on_pid reception.counts;
       of_units = of_units reception.counts;
     } };
+
+    ghost invariant = { λ reception. HasNoFrames reception.counts };
 }
 
 impl<K: UnitReader, A: Allocator> Reception<K, A> {
@@ -43,8 +46,9 @@ impl<K: UnitReader, A: Allocator> Reception<K, A> {
     ghost use Rattle.plan_spec.specs.Plan.{ServiceFields, pid_of};
     ghost use Rattle.ts_packet.specs.Fields.{fields_in};
     ghost use Rattle.service_reception.specs.Reception.{HasTaken, IsReceiving, packet_record, added_by};
-    ghost use Rattle.service_reception.specs.Counting.{on_pid, of_units};
-    ghost use Rattle.service_reception.specs.Telling.{Told, StopsWithin};
+    ghost use Rattle.service_reception.specs.Counting.{service_counts_of};
+    ghost use Rattle.reception_spec.specs.Frames.{no_frames};
+    ghost use Rattle.outlet_spec.specs.Pairs.{pairs_of, Delivers, DeliversFront};
 
     /// A reception of nothing, over a buffer of LONGEST bytes. It takes no memory afterwards.
     pub fn over(buffer: Vec<u8, A>) -> Reception<K, A>
@@ -54,7 +58,7 @@ impl<K: UnitReader, A: Allocator> Reception<K, A> {
         Reception {
             continuity: Continuity::new(),
             joiner: Joiner::over(buffer),
-            counts: Counts::new(),
+            counts: ServiceCounts::default(),
         }
     }
 
@@ -65,7 +69,7 @@ impl<K: UnitReader, A: Allocator> Reception<K, A> {
     {
         self.continuity = Continuity::new();
         self.joiner.forget();
-        self.counts = Counts::new();
+        self.counts = ServiceCounts::default();
     }
 
     /// Takes one packet of the service's PID, which `parse` read from `bytes`, and the moment of its record.
@@ -87,14 +91,14 @@ impl<K: UnitReader, A: Allocator> Reception<K, A> {
         ensures received { (it : ServiceFields) (records : List Record) → IsReceiving K.IsOfKind filter.now packet.now.pid it self.old records
             → HasTaken it self.new (records ++ packet_record moment bytes.now ∷ []) }
         ensures delivered { (it : ServiceFields) (records : List Record) → IsReceiving K.IsOfKind filter.now packet.now.pid it self.old records
-            → OnOk result (Told (T.StandsFor outlet.old) (T.StandsFor outlet.new) service (added_by it records (packet_record moment bytes.now))) }
+            → OnOk result (Delivers (T.StandsFor outlet.old) (T.StandsFor outlet.new) (pairs_of service (added_by it records (packet_record moment bytes.now)))) }
         ensures failed { (it : ServiceFields) (records : List Record) → IsReceiving K.IsOfKind filter.now packet.now.pid it self.old records
-            → OnErr result (StopsWithin (T.StandsFor outlet.old) (T.StandsFor outlet.new) (T.Refused outlet.new service) service (added_by it records (packet_record moment bytes.now))) }
+            → OnErr result (DeliversFront (T.StandsFor outlet.old) (T.StandsFor outlet.new) (T.Refused outlet.new) (pairs_of service (added_by it records (packet_record moment bytes.now)))) }
         ensures services { T.services outlet.new ≡ T.services outlet.old }
         ensures cause { HasCause (T.faults outlet.old) (T.faults outlet.new) result }
     {
         let link = self.continuity.see(bytes, packet);
-        self.counts.count_link(link);
+        count_link(&mut self.counts, link);
         let mut listener: ServiceListener<'_, '_, '_, K, T> = ServiceListener {
             counts: &mut self.counts,
             filter,
@@ -108,9 +112,8 @@ impl<K: UnitReader, A: Allocator> Reception<K, A> {
     }
 
     /// The numbers of all that was taken.
-    pub fn counts(&self) -> Counts
-        ensures packets { on_pid result ≡ self.now.on_pid }
-        ensures units { of_units result ≡ self.now.of_units }
+    pub fn counts(&self) -> ServiceCounts
+        ensures read { result ≡ service_counts_of self.now.on_pid self.now.of_units no_frames }
     {
         self.counts
     }

@@ -1,4 +1,4 @@
-use Rattle.std.proofs.Common.{◌≡◌, ◌∙◌, List, ◌∷◌, refl, ap, subst, Result, Ok}
+use Rattle.std.proofs.Common.{◌≡◌, ◌∙◌, List, ◌∷◌, refl, ap, sym, subst, arith, Result, Ok}
 use Rattle.gse_spec.specs.Packet.{GsePacket, Reading, packet, readings_of}
 use Rattle.gse_packet.specs.Views.{packet_in, refusal_in, reading_in}
 use Rattle.gse_packet.specs.declared.packet.Gse.{Gse}
@@ -6,7 +6,7 @@ use Rattle.gse_packet.specs.declared.packet.GseFault.{GseFault}
 use Rattle.gse_packet.specs.declared.packet.GseFault.TheVariants as fault
 use Rattle.gse_reception.specs.Counting.{of_isi, of_pdus}
 use Rattle.gse_reception.proofs.Outlets.{caused_then}
-use Rattle.gse_reception.proofs.UnderWay.{IsUnderWay, AreUnderWay, packet_more, refusal_more, all_handed}
+use Rattle.gse_reception.proofs.UnderWay.{IsUnderWay, AreUnderWay, begin_all, packet_more, refusal_more, all_handed}
 use Rattle.gse_reception.proofs.field.take_field.Goals as goal
 
 no_packet : (f : GseFault) (p : GsePacket) → refusal_in f ≡ packet p → ⊥
@@ -14,14 +14,29 @@ no_packet fault.Cut p same = absurd (cc)
 no_packet fault.ReuseFirst p same = absurd (cc)
 no_packet fault.Short p same = absurd (cc)
 
+pub loop-reading-init : goal.loop-reading-init
+loop-reading-init g c = record {
+  number = refl;
+  others = refl;
+  services = refl;
+  cause = record { later = omega arith; failed = tt; kept = refl };
+  way = subst (λ (left : List Reading). AreUnderWay g.T.Outlet.StandsFor g.T.Outlet.Refused g.T.Outlet.services g.T.Outlet.faults c.args.filter.now c.args.service (readings_of c.args.field.now)
+      (record { slots = c.args.slots.now; on_isi = of_isi c.args.counts.now; on_pdus = of_pdus c.args.counts.now }) left
+      (record { slots = c.args.slots.now; on_isi = of_isi c.args.counts.now; on_pdus = of_pdus c.args.counts.now })
+      (record { outlet = c.args.outlet.now; went = Ok tt }) (record { outlet = c.args.outlet.now; went = Ok tt }))
+      (sym c.over-reader.ensures.read)
+      (begin_all g.T.Outlet.StandsFor g.T.Outlet.Refused g.T.Outlet.services g.T.Outlet.faults c.args.filter.now c.args.service (readings_of c.args.field.now)
+      (record { slots = c.args.slots.now; on_isi = of_isi c.args.counts.now; on_pdus = of_pdus c.args.counts.now }) c.args.outlet.now (Ok tt));
+}
+
 pub loop-reading-preserved-in-Ok : goal.loop-reading-preserved-in-Ok
 loop-reading-preserved-in-Ok g c = record {
   number = c.take_packet-went.ensures.frame_number ∙ c.loop-reading.invariant.number;
-  heard = c.take_packet-went.ensures.heard ∙ c.loop-reading.invariant.heard;
-  services = c.take_packet-went.ensures.hands.services_are ∙ c.loop-reading.invariant.services;
+  others = c.take_packet-went.ensures.others ∙ c.loop-reading.invariant.others;
+  services = c.take_packet-went.ensures.hands.goes.services_are ∙ c.loop-reading.invariant.services;
   cause = caused_then g.T.Outlet.StandsFor g.T.Outlet.Refused g.T.Outlet.services g.T.Outlet.faults
       c.args.outlet.now c.loop-reading.outlet c.take_packet-went.new.outlet c.loop-reading.went c.take_packet-went.result
-      c.loop-reading.invariant.cause c.take_packet-went.ensures.hands.cause c.take_packet-went.ensures.hands.stays;
+      c.loop-reading.invariant.cause c.take_packet-went.ensures.hands.goes.cause c.take_packet-went.ensures.hands.goes.stays;
   way = packet_more g.T.Outlet.StandsFor g.T.Outlet.Refused g.T.Outlet.services g.T.Outlet.faults c.args.filter.now c.args.service (readings_of c.args.field.now)
       (record { slots = c.args.slots.now; on_isi = of_isi c.args.counts.now; on_pdus = of_pdus c.args.counts.now }) (record { outlet = c.args.outlet.now; went = Ok tt })
       (packet_in c.in-Ok.packet) c.next_reading.new.reader
@@ -40,14 +55,14 @@ loop-reading-preserved-in-Ok g c = record {
 pub loop-reading-preserved : goal.loop-reading-preserved
 loop-reading-preserved g c = record {
   number = c.loop-reading.invariant.number;
-  heard = c.count_event.ensures.heard ∙ c.loop-reading.invariant.heard;
+  others = c.count_event.ensures.others ∙ c.loop-reading.invariant.others;
   services = c.loop-reading.invariant.services;
   cause = c.loop-reading.invariant.cause;
   way = refusal_more g.T.Outlet.StandsFor g.T.Outlet.Refused g.T.Outlet.services g.T.Outlet.faults c.args.filter.now c.args.service (readings_of c.args.field.now)
       (record { slots = c.args.slots.now; on_isi = of_isi c.args.counts.now; on_pdus = of_pdus c.args.counts.now }) (record { outlet = c.args.outlet.now; went = Ok tt })
       (refusal_in c.in-Err.field-0) c.next_reading.new.reader
       (record { slots = c.loop-reading.slots; on_isi = of_isi c.loop-reading.counts; on_pdus = of_pdus c.loop-reading.counts })
-      (record { slots = c.loop-reading.slots; on_isi = of_isi c.count_event.new.self; on_pdus = of_pdus c.count_event.new.self })
+      (record { slots = c.loop-reading.slots; on_isi = of_isi c.count_event.new.counts; on_pdus = of_pdus c.count_event.new.counts })
       (record { outlet = c.loop-reading.outlet; went = c.loop-reading.went })
       (no_packet c.in-Err.field-0)
       (subst (λ (left : List Reading). AreUnderWay g.T.Outlet.StandsFor g.T.Outlet.Refused g.T.Outlet.services g.T.Outlet.faults c.args.filter.now c.args.service (readings_of c.args.field.now)

@@ -7,7 +7,7 @@ use Rattle.frame_spec.specs.Delivered.{frame_datagrams, datagrams_of_frames}
 use Rattle.frame_reception.specs.Steps.{frame_with}
 use Rattle.frame_reception.specs.Reception.{FramesState}
 use Rattle.frame_reception.specs.Hearing.{HasFrames}
-use Rattle.frame_reception.proofs.Deliveries.{delivers_same}
+use Rattle.outlet_spec.proofs.Going.{after_same}
 use Rattle.frame_reception.proofs.Placed.{not_none, closed_some, told_some}
 use Rattle.frame_reception.proofs.frames.Frames.close.Goals as goal
 
@@ -26,7 +26,7 @@ pub returns-clause-delivered : goal.returns-clause-delivered
 returns-clause-delivered g c = λ timing rows closed group has.
     let now = subst (λ (s : FramesState). HasFrames timing rows closed group s) (sym c.self.view_is) has in
     let some = not_none c.is_empty.result (length (sections_of group)) (c.is_empty.ensures.stands (sections_of group) now.stands) c.if-is_empty.false in
-    delivers_same g.T.Outlet.StandsFor g.T.Outlet.Refused g.T.Outlet.services g.T.Outlet.faults c.args.service
+    after_same g.T.Outlet.StandsFor g.T.Outlet.Refused g.T.Outlet.services g.T.Outlet.faults c.args.service
     (frame_datagrams c.solve-rows.new.self.rows (sections_of group)) (datagrams_of_frames rows (frame_with group)) _ _
     (ap (λ (r : ℕ). frame_datagrams r (sections_of group)) (c.solve-rows.ensures.rows ∙ now.over.rows_are)
     ∙ told_some timing rows closed group c.args.self.now c.args.self.now has some)

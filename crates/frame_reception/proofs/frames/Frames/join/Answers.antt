@@ -4,7 +4,7 @@ use Rattle.frame_reception.specs.Reading.{timed_in}
 use Rattle.frame_reception.specs.Steps.{frame_with, cut_off}
 use Rattle.frame_reception.specs.Reception.{FramesState}
 use Rattle.frame_reception.specs.Hearing.{HasFrames}
-use Rattle.frame_reception.proofs.Deliveries.{delivers_same, delivers_none}
+use Rattle.outlet_spec.proofs.Going.{after_same, after_none}
 use Rattle.frame_reception.proofs.Joined.{joined_open, joined_next, cut_none, cut_one}
 use Rattle.frame_reception.proofs.frames.Frames.join.Goals as goal
 
@@ -16,10 +16,10 @@ returns-then-place-clause-joined g c = λ timing rows closed group has.
 pub returns-then-place-clause-delivered : goal.returns-then-place-clause-delivered
 returns-then-place-clause-delivered g c = λ timing rows closed group has.
     let x = timed_in c.args.moment c.args.section.now in
-    delivers_same g.T.Outlet.StandsFor g.T.Outlet.Refused g.T.Outlet.services g.T.Outlet.faults c.args.service
+    after_same g.T.Outlet.StandsFor g.T.Outlet.Refused g.T.Outlet.services g.T.Outlet.faults c.args.service
     [] (datagrams_of_frames rows (cut_off timing rows group x)) _ _
     (sym (ap (datagrams_of_frames rows) (cut_none timing rows closed group x (sym c.if-place.true ∙ c.place.ensures.cut timing rows closed group has))))
-    (delivers_none g.T.Outlet.StandsFor g.T.Outlet.Refused g.T.Outlet.services g.T.Outlet.faults c.args.service _)
+    (after_none g.T.Outlet.StandsFor g.T.Outlet.Refused g.T.Outlet.services g.T.Outlet.faults c.args.service _)
 
 pub returns-clause-joined : goal.returns-clause-joined
 returns-clause-joined g c = λ timing rows closed group has.
@@ -33,7 +33,7 @@ pub returns-clause-delivered : goal.returns-clause-delivered
 returns-clause-delivered g c = λ timing rows closed group has.
     let x = timed_in c.args.moment c.args.section.now in
     let same = subst (λ (s : FramesState). HasFrames timing rows closed group s) (sym (c.place.ensures.unchanged c.if-place.false)) has in
-    delivers_same g.T.Outlet.StandsFor g.T.Outlet.Refused g.T.Outlet.services g.T.Outlet.faults c.args.service
+    after_same g.T.Outlet.StandsFor g.T.Outlet.Refused g.T.Outlet.services g.T.Outlet.faults c.args.service
     (datagrams_of_frames rows (frame_with group)) (datagrams_of_frames rows (cut_off timing rows group x)) _ _
     (sym (ap (datagrams_of_frames rows) (cut_one timing rows closed group x (sym c.if-place.false ∙ c.place.ensures.cut timing rows closed group has))))
     (c.close-went.ensures.delivered timing rows closed group same)

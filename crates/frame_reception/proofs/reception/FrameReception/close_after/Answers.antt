@@ -3,7 +3,7 @@ use Rattle.frame_spec.specs.Delivered.{datagrams_of_frames}
 use Rattle.frame_reception.specs.Frames.{closed_in, open_in}
 use Rattle.frame_reception.specs.Steps.{frame_with}
 use Rattle.frame_reception.specs.Reception.{FrameReceptionState, HasTaken, added_by_end}
-use Rattle.frame_reception.proofs.Deliveries.{delivers_same}
+use Rattle.outlet_spec.proofs.Going.{after_same}
 use Rattle.frame_reception.proofs.Taken.{frames_of, ended_of, told_by_end}
 use Rattle.frame_reception.proofs.reception.FrameReception.close_after.Goals as goal
 
@@ -16,7 +16,7 @@ returns-clause-ended g c = λ timing rows pid records receiving.
 pub returns-clause-delivered : goal.returns-clause-delivered
 returns-clause-delivered g c = λ timing rows pid records receiving.
     let taken = subst (λ (s : FrameReceptionState). HasTaken timing rows pid s records) (sym c.self.view_is) receiving.received in
-    delivers_same g.T.Outlet.StandsFor g.T.Outlet.Refused g.T.Outlet.services g.T.Outlet.faults c.args.service
+    after_same g.T.Outlet.StandsFor g.T.Outlet.Refused g.T.Outlet.services g.T.Outlet.faults c.args.service
     (datagrams_of_frames rows (frame_with (open_in timing rows pid records))) (added_by_end timing rows pid records) _ _
     (told_by_end timing rows pid records)
     (c.close.ensures.delivered timing rows (closed_in false timing rows pid records) (open_in timing rows pid records) (frames_of timing rows pid records _ taken))

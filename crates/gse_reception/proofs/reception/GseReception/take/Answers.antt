@@ -1,5 +1,5 @@
 use Rattle.std.proofs.Common.{ℕ, List, refl, sym, subst, OnOk, OnErr}
-use Rattle.service_reception.specs.Telling.{Told, StopsWithin}
+use Rattle.outlet_spec.specs.Pairs.{pairs_of, Delivers, DeliversFront}
 use Rattle.gse_reception.specs.Counting.{of_isi, of_pdus}
 use Rattle.gse_reception.specs.Reception.{GseReceptionState, IsReceiving}
 use Rattle.gse_reception.proofs.Frames.{begun, heard_few, begins, more, added_pdus, frame_taken, added_is}
@@ -26,8 +26,8 @@ returns-clause-delivered g c = λ it frames b read receiving.
     (c.count_frame.ensures.number (heard_few it isi filter state frames now)) c.count_frame.ensures.unchanged c.count_frame.ensures.isi c.count_frame.ensures.pdus in
     let hands = c.take_field.ensures.hands (begun isi frames) (more it isi filter state frames now c.args.frame.now b read refl) going
     (added_pdus it isi filter state frames now c.args.frame.now b read refl) in
-    subst (λ (t : List (List ℕ)). OnOk c.take_field.result (Told (g.T.Outlet.StandsFor c.args.outlet.now) (g.T.Outlet.StandsFor c.take_field.new.outlet) c.args.service t))
-    (sym (added_is it isi filter state frames now c.args.frame.now b read refl)) hands.told
+    subst (λ (t : List (List ℕ)). OnOk c.take_field.result (Delivers (g.T.Outlet.StandsFor c.args.outlet.now) (g.T.Outlet.StandsFor c.take_field.new.outlet) (pairs_of c.args.service t)))
+    (sym (added_is it isi filter state frames now c.args.frame.now b read refl)) hands.delivers.told
 
 pub returns-clause-failed : goal.returns-clause-failed
 returns-clause-failed g c = λ it frames b read receiving.
@@ -39,5 +39,5 @@ returns-clause-failed g c = λ it frames b read receiving.
     (c.count_frame.ensures.number (heard_few it isi filter state frames now)) c.count_frame.ensures.unchanged c.count_frame.ensures.isi c.count_frame.ensures.pdus in
     let hands = c.take_field.ensures.hands (begun isi frames) (more it isi filter state frames now c.args.frame.now b read refl) going
     (added_pdus it isi filter state frames now c.args.frame.now b read refl) in
-    subst (λ (t : List (List ℕ)). OnErr c.take_field.result (StopsWithin (g.T.Outlet.StandsFor c.args.outlet.now) (g.T.Outlet.StandsFor c.take_field.new.outlet) (g.T.Outlet.Refused c.take_field.new.outlet c.args.service) c.args.service t))
-    (sym (added_is it isi filter state frames now c.args.frame.now b read refl)) hands.failed
+    subst (λ (t : List (List ℕ)). OnErr c.take_field.result (DeliversFront (g.T.Outlet.StandsFor c.args.outlet.now) (g.T.Outlet.StandsFor c.take_field.new.outlet) (g.T.Outlet.Refused c.take_field.new.outlet) (pairs_of c.args.service t)))
+    (sym (added_is it isi filter state frames now c.args.frame.now b read refl)) hands.delivers.failed

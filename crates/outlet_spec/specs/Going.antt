@@ -1,7 +1,7 @@
--- Datagrams delivered to an outlet one after another, up to the first that is refused.
+-- Datagrams of a service delivered one call after another, up to the first that is refused.
 use Rattle.std.specs.Prelude.{◌≡◌, ℕ, List, Result, OnOk, OnErr}
 use Rattle.wire_spec.specs.Causes.{HasCause}
-use Rattle.service_reception.specs.Telling.{Told, StopsWithin}
+use Rattle.outlet_spec.specs.Pairs.{pairs_of, Delivers, DeliversFront}
 
 -- an outlet, and how the deliveries to it went
 pub record Going (T A E : Type 0) : Type 0 where
@@ -11,9 +11,9 @@ pub record Going (T A E : Type 0) : Type 0 where
 -- The outlet's words stand before: what it stands for, what it refused, its services and its faults.
 module _ {T A E : Type 0} (StandsFor : T → List (ℕ × List ℕ) → Type 0) (Refused : T → ℕ → List ℕ → Type 0) where
   -- where none was refused before, these datagrams of a service were delivered, or the first of them and the next was refused
-  pub record Delivers (service : ℕ) (datagrams : List (List ℕ)) (old new : Going T A E) : Type 0 where
-    pub told : OnOk old.went (OnOk new.went (Told (StandsFor old.outlet) (StandsFor new.outlet) service datagrams))
-    pub failed : OnOk old.went (OnErr new.went (StopsWithin (StandsFor old.outlet) (StandsFor new.outlet) (Refused new.outlet service) service datagrams))
+  pub record DeliversAfter (service : ℕ) (datagrams : List (List ℕ)) (old new : Going T A E) : Type 0 where
+    pub told : OnOk old.went (OnOk new.went (Delivers (StandsFor old.outlet) (StandsFor new.outlet) (pairs_of service datagrams)))
+    pub failed : OnOk old.went (OnErr new.went (DeliversFront (StandsFor old.outlet) (StandsFor new.outlet) (Refused new.outlet) (pairs_of service datagrams)))
 
 module _ {T A E : Type 0} (services faults : T → ℕ) where
   -- a refusal has its cause, and after it nothing is offered
