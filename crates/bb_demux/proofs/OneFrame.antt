@@ -15,35 +15,13 @@ use Rattle.bb_frame.specs.declared.frame.Frame.{Frame}
 use Rattle.bb_reception_spec.specs.Delivered.{service_at, added_by, pairs_of_frame}
 use Rattle.bb_reception_law.proofs.Services.{apart, of_one, none_of, any_of}
 use Rattle.bb_reception_law.proofs.FrameByFrame.{one_given, none_given}
-use Rattle.service_reception.specs.Telling.{pairs_of, Told, StopsWithin}
+use Rattle.outlet_spec.specs.Pairs.{pairs_of}
 use Rattle.gse_reception.specs.Reception.{HasTaken, IsReceiving, IsRead}
 use Rattle.gse_reception.proofs.OtherFrames.{taken_stays}
-use Rattle.bb_demux.specs.Outlets.{Delivers, DeliversFront}
 use Rattle.bb_demux.specs.Receiving.{IsOn, AreOn}
 use Rattle.bb_demux.specs.Finding.{is_on_isi}
 use Rattle.bb_demux.specs.declared.services.IsiReceiver.{IsiReceiver}
 use Rattle.bb_demux.proofs.Places.{some_at, within_of, set_same, set_other, none_passes}
-
--- What an outlet was told.
-
-pub told_one : (old new : List (ℕ × List ℕ) → Type 0) (k : ℕ) (datagrams : List (List ℕ)) (pairs : List (ℕ × List ℕ)) → pairs ≡ pairs_of k datagrams
-    → Told old new k datagrams → Delivers old new pairs
-told_one old new k datagrams pairs are told = λ before stands. subst (λ (t : List (ℕ × List ℕ)). new (before ++ t)) (sym are) (told before stands)
-
-pub stopped_one : (old new : List (ℕ × List ℕ) → Type 0) (refused : ℕ → List ℕ → Type 0) (k : ℕ) (datagrams : List (List ℕ)) (pairs : List (ℕ × List ℕ)) → pairs ≡ pairs_of k datagrams
-    → StopsWithin old new (refused k) k datagrams → DeliversFront old new refused pairs
-stopped_one old new refused k datagrams pairs are stops = record {
-  front = pairs_of k stops.done;
-  service = k;
-  datagram = stops.next;
-  behind = pairs_of k stops.rest;
-  pairs_are = are ∙ ap (pairs_of k) stops.datagrams_are ∙ map-append (λ (datagram : List ℕ). (k, datagram)) stops.done (stops.next ∷ stops.rest);
-  delivers = stops.told;
-  refuses = stops.refused;
-}
-
-pub told_none : (old : List (ℕ × List ℕ) → Type 0) (pairs : List (ℕ × List ℕ)) → pairs ≡ [] → Delivers old old pairs
-told_none old pairs none = λ before stands. subst old (sym (ap (λ (t : List (ℕ × List ℕ)). before ++ t) none ∙ append-nil before)) stands
 
 true_false : true ≡ false → ⊥
 true_false e = cc

@@ -1,4 +1,5 @@
-pub mod Outlets
 pub mod Counts
 pub mod Receiving
 pub mod Finding
+pub mod Taking
+pub mod Untaken

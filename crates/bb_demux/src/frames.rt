@@ -7,7 +7,7 @@ ghost use Rattle.gse_spec.specs.Received.{is_foreign};
 ghost use Rattle.plan.specs.PlanView.{plan_fields};
 ghost use Rattle.bb_reception_spec.specs.Delivered.{pairs_of_frame};
 ghost use Rattle.gse_reception.specs.Reception.{IsRead};
-ghost use Rattle.bb_demux.specs.Outlets.{Delivers, DeliversFront};
+ghost use Rattle.outlet_spec.specs.Pairs.{Delivers, DeliversFront};
 ghost use Rattle.bb_demux.specs.Receiving.{AreOn};
 
 use crate::services::{IsiReceiver, place_of};

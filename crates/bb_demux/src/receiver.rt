@@ -1,11 +1,11 @@
 //! The receiver: it takes one frame at a time.
-ghost use Rattle.std.specs.Prelude.{◌≡◌, ℕ, ◌+◌, ◌^◌, ◌<◌, ◌≤◌, true, false, List, [], ◌∷◌, ◌++◌, length, Ok, IfOk, OnOk, OnErr};
+ghost use Rattle.std.specs.Prelude.{◌≡◌, ℕ, ◌+◌, ◌^◌, ◌<◌, ◌≤◌, true, false, List, [], ◌∷◌, ◌++◌, length, IfOk, OnOk, OnErr};
 ghost use Rattle.wire_spec.specs.Causes.{HasCause};
 ghost use Rattle.plan_spec.specs.Plan.{PlanFields, is_baseband};
 ghost use Rattle.plan.specs.PlanView.{plan_fields};
 ghost use Rattle.bb_reception_spec.specs.Delivered.{pairs_of_frame};
 ghost use Rattle.bb_reception_spec.specs.Numbers.{recording_numbers};
-ghost use Rattle.bb_demux.specs.Outlets.{Delivers, DeliversFront};
+ghost use Rattle.outlet_spec.specs.Pairs.{Delivers, DeliversFront};
 ghost use Rattle.bb_demux.specs.Counts.{stream_counts_of, counts_of_service};
 ghost use Rattle.bb_demux.specs.Receiving.{HasReceived};
 
@@ -108,21 +108,16 @@ impl<'a> FrameReceiver<'a> {
     }
 
     /// Ends the reception: the receiver is then not open. Fragments whose last one did not come give nothing.
-    pub fn finish<T: Outlet>(&mut self, outlet: &mut T) -> Result<(), Failed>
+    pub fn close(&mut self)
         requires is_open { self.old.is_open ≡ true }
-        requires served { length self.old.plan.services ≤ T.services outlet.old }
-        ensures done { result ≡ Ok tt }
         ensures received { (plan : PlanFields) (frames : List (List ℕ)) → HasReceived plan frames self.old → HasReceived plan frames self.new }
         ensures closed { self.new.is_open ≡ false }
         ensures plan { self.new.plan ≡ self.old.plan }
-        ensures unchanged { outlet.new ≡ outlet.old }
     {
-        let _same = outlet;
         self.is_open = false;
-        Ok(())
     }
 
-    /// Whether it may be given frames: until the first `Failed` or `finish`.
+    /// Whether it may be given frames: until the first `Failed` or `close`.
     pub fn is_open(&self) -> bool
         ensures read { result ≡ self.now.is_open }
     {
@@ -144,22 +139,7 @@ impl<'a> FrameReceiver<'a> {
         ensures read { (plan : PlanFields) (frames : List (List ℕ)) → HasReceived plan frames self.now → result ≡ counts_of_service plan service frames }
     {
         let receiver = &self.services[service as usize];
-        let counts = receiver.reception.counts();
-        ServiceCounts {
-            heard: counts.heard,
-            repeats: 0,
-            gaps: 0,
-            units: counts.units,
-            bad_check: counts.bad_check,
-            delimited: counts.delimited,
-            bad_length: counts.bad_length,
-            unread: counts.unread,
-            filtered: counts.filtered,
-            frames: 0,
-            rows_mended: 0,
-            rows_left: 0,
-            datagrams: counts.datagrams,
-        }
+        receiver.reception.counts()
     }
 }
 

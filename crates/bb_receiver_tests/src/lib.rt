@@ -1,4 +1,4 @@
-//! Tests of what receives baseband frames: frames by hand -> [bb_demux] -> datagrams and counts.
+//! Tests of what receives baseband frames: frames by hand -> [demux_core, bb_demux] -> datagrams and counts.
 //!
 //! Tests alone, over `test_recordings`. They stand apart from the crates that they test, which know nothing of settings.
 #![tactic(auto)]

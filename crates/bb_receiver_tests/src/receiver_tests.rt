@@ -1,9 +1,11 @@
 //! Small recordings of frames of two services: what is delivered, in which order, and every number.
-ghost use Rattle.std.specs.Prelude.{◌≡◌, ◌≤◌, length};
+ghost use Rattle.std.specs.Prelude.{◌≡◌, ◌≤◌, true, length};
+ghost use Rattle.plan_spec.specs.Plan.{is_baseband};
+ghost use Rattle.demux_core.specs.Carriers.{plan_of};
 
 use crate::frame_cases::{Part, SIZE, frame_of};
-use bb_demux::FrameReceiver;
 use bumpalo::Bump;
+use demux_core::Receiver;
 use loss_report::{ServiceCounts, StreamCounts};
 use service_plan::{Plan, read_plan};
 use std::alloc::Global;
@@ -218,9 +220,10 @@ static CASES: [Case; 7] = [
 ];
 
 /// Takes a frame, where the receiver can be given one.
-fn take(receiver: &mut FrameReceiver<'_>, frame: &[u8; SIZE], noted: &mut NotedOutlet)
-    requires { length receiver.old.plan.services ≤ 8 }
-    ensures { receiver.new.plan ≡ receiver.old.plan }
+fn take(receiver: &mut Receiver<'_>, frame: &[u8; SIZE], noted: &mut NotedOutlet)
+    requires baseband { is_baseband (plan_of receiver.old) ≡ true }
+    requires few { length (plan_of receiver.old).services ≤ 8 }
+    ensures { plan_of receiver.new ≡ plan_of receiver.old }
 {
     if receiver.is_open() && receiver.stream_counts().records < 1000 {
         match receiver.step_frame(frame, noted) {
@@ -231,8 +234,8 @@ fn take(receiver: &mut FrameReceiver<'_>, frame: &[u8; SIZE], noted: &mut NotedO
 }
 
 /// The numbers of a service; none where there is no such service.
-fn numbers(receiver: &FrameReceiver<'_>, service: u32, count: usize) -> ServiceCounts
-    requires { count ≤ length receiver.now.plan.services }
+fn numbers(receiver: &Receiver<'_>, service: u32, count: usize) -> ServiceCounts
+    requires { count ≤ length (plan_of receiver.now).services }
 {
     if service as usize >= count {
         return NONE;
@@ -241,9 +244,10 @@ fn numbers(receiver: &FrameReceiver<'_>, service: u32, count: usize) -> ServiceC
 }
 
 /// Gives a receiver frames.
-fn give(receiver: &mut FrameReceiver<'_>, parts: &[Part], noted: &mut NotedOutlet)
-    requires { length receiver.old.plan.services ≤ 8 }
-    ensures { receiver.new.plan ≡ receiver.old.plan }
+fn give(receiver: &mut Receiver<'_>, parts: &[Part], noted: &mut NotedOutlet)
+    requires baseband { is_baseband (plan_of receiver.old) ≡ true }
+    requires few { length (plan_of receiver.old).services ≤ 8 }
+    ensures { plan_of receiver.new ≡ plan_of receiver.old }
 {
     for part in parts {
         take(receiver, &frame_of(part), noted);
@@ -258,7 +262,7 @@ fn ran(alloc: Global, plan: &Plan, case: &Case<'_>) -> Result<Ended, Fail> {
     }
     let arena = Bump::new(alloc);
     let mut noted = NotedOutlet::new(case.refuses_from);
-    let mut receiver = FrameReceiver::open(&arena, plan)?;
+    let mut receiver = Receiver::open(&arena, plan)?;
     give(&mut receiver, case.parts, &mut noted);
     Ok(Ended {
         is_open: receiver.is_open(),

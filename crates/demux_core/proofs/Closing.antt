@@ -15,16 +15,13 @@ use Rattle.plan_spec.specs.Changes.{pid_in}
 use Rattle.reception_spec.specs.Spans.{span_from, span_of}
 use Rattle.reception_spec.specs.Delivered.{service_on}
 use Rattle.reception_law.specs.Words.{closed_by}
-use Rattle.reception_law.specs.Sums.{numbers_before, unit_numbers_before, frame_numbers_before}
-use Rattle.service_reception.specs.Counting.{on_pid, of_units}
-use Rattle.service_reception.specs.Telling.{Told, StopsWithin}
-use Rattle.frame_reception.specs.Delivering.{Going, Delivers as DeliversAfter, GoesOn}
-use Rattle.bb_demux.specs.Outlets.{Delivers, DeliversFront}
-use Rattle.demux_core.specs.Counts.{totals_in}
+use Rattle.outlet_spec.specs.Pairs.{pairs_of, Delivers, DeliversFront}
+use Rattle.outlet_spec.proofs.Pairs.{delivers_then, front_then, front_before}
+use Rattle.outlet_spec.specs.Going.{Going, DeliversAfter, GoesOn}
+use Rattle.demux_core.specs.Counts.{counts_before}
 use Rattle.demux_core.specs.Services.{IsReception, IsEndingOne, HasReceivedOne, HaveReceived}
 use Rattle.demux_core.specs.Moving.{Closes, where_left, closed_from, closed_by_switch, closed_on_pid, closed_at}
 use Rattle.demux_core.specs.Places.{ArePlacesOf}
-use Rattle.demux_core.specs.declared.sums.FrameTotals.{FrameTotals}
 use Rattle.demux_core.specs.declared.service.ServiceReceiver.{ServiceReceiver}
 use Rattle.demux_core.proofs.OnPids.{some_at, set_same, set_other}
 
@@ -70,42 +67,6 @@ module _ {X : Type 0} (R : ℕ → X → X → Type 0) where
 
 -- Deliveries to an outlet, service by service.
 
-abbrev pub pairs_with : ℕ → List (List ℕ) → List (ℕ × List ℕ)
-pairs_with service datagrams = map (λ datagram. (service, datagram)) datagrams
-
--- these pairs were delivered, and of a service these datagrams after them
-delivered_both : (a b c : List (ℕ × List ℕ) → Type 0) (pairs : List (ℕ × List ℕ)) (service : ℕ) (more : List (List ℕ)) → Delivers a b pairs → Told b c service more
-    → Delivers a c (pairs ++ pairs_with service more)
-delivered_both a b c pairs service more one two = λ before stands. subst c (append_assoc before pairs (pairs_with service more)) (two (before ++ pairs) (one before stands))
-
--- the refused one is among the datagrams, or stood before them
-stopped_then : (a b c : List (ℕ × List ℕ) → Type 0) (refused : ℕ → List ℕ → Type 0) (pairs : List (ℕ × List ℕ)) (service : ℕ) (datagrams : List (List ℕ)) → Delivers a b pairs
-    → StopsWithin b c (refused service) service datagrams → DeliversFront a c refused (pairs ++ pairs_with service datagrams)
-stopped_then a b c refused pairs service datagrams one stops = record {
-  front = pairs ++ pairs_with service stops.done;
-  service = service;
-  datagram = stops.next;
-  behind = pairs_with service stops.rest;
-  pairs_are =
-      ap (λ (t : List (List ℕ)). pairs ++ pairs_with service t) stops.datagrams_are
-      ∙ ap (λ (t : List (ℕ × List ℕ)). pairs ++ t) (map-append (λ (datagram : List ℕ). (service, datagram)) stops.done (stops.next ∷ stops.rest))
-      ∙ sym (append_assoc pairs (pairs_with service stops.done) ((service, stops.next) ∷ pairs_with service stops.rest));
-  delivers = delivered_both a b c pairs service stops.done one stops.told;
-  refuses = stops.refused;
-}
-
-stopped_before : (a b : List (ℕ × List ℕ) → Type 0) (refused : ℕ → List ℕ → Type 0) (pairs more : List (ℕ × List ℕ)) → DeliversFront a b refused pairs
-    → DeliversFront a b refused (pairs ++ more)
-stopped_before a b refused pairs more stops = record {
-  front = stops.front;
-  service = stops.service;
-  datagram = stops.datagram;
-  behind = stops.behind ++ more;
-  pairs_are = ap (λ (t : List (ℕ × List ℕ)). t ++ more) stops.pairs_are ∙ append_assoc stops.front ((stops.service, stops.datagram) ∷ stops.behind) more;
-  delivers = stops.delivers;
-  refuses = stops.refuses;
-}
-
 module _ {T A E : Type 0} (StandsFor : T → List (ℕ × List ℕ) → Type 0) (Refused : T → ℕ → List ℕ → Type 0) where
   -- these pairs were delivered, or the first of them and the next was refused
   pub record HasGone (pairs : List (ℕ × List ℕ)) (first : T) (now : Going T A E) : Type 0 where
@@ -117,24 +78,24 @@ module _ {T A E : Type 0} (StandsFor : T → List (ℕ × List ℕ) → Type 0) 
 
   module _ (pairs : List (ℕ × List ℕ)) (service : ℕ) (datagrams : List (List ℕ)) where
     told_both : (a b c : T) (mid now : Result A E) → OnOk mid (Delivers (StandsFor a) (StandsFor b) pairs)
-        → OnOk mid (OnOk now (Told (StandsFor b) (StandsFor c) service datagrams)) → OnErr mid ((now ≡ mid) × (c ≡ b))
-        → OnOk now (Delivers (StandsFor a) (StandsFor c) (pairs ++ pairs_with service datagrams))
+        → OnOk mid (OnOk now (Delivers (StandsFor b) (StandsFor c) (pairs_of service datagrams))) → OnErr mid ((now ≡ mid) × (c ≡ b))
+        → OnOk now (Delivers (StandsFor a) (StandsFor c) (pairs ++ pairs_of service datagrams))
     told_both a b c mid (Err n) one two stays = tt
     told_both a b c (Err m) (Ok n) one two stays = absurd (cc)
-    told_both a b c (Ok m) (Ok n) one two stays = delivered_both (StandsFor a) (StandsFor b) (StandsFor c) pairs service datagrams one two
+    told_both a b c (Ok m) (Ok n) one two stays = delivers_then (StandsFor a) (StandsFor b) (StandsFor c) pairs (pairs_of service datagrams) one two
 
     failed_either : (a b c : T) (mid now : Result A E) → OnOk mid (Delivers (StandsFor a) (StandsFor b) pairs)
         → OnErr mid (DeliversFront (StandsFor a) (StandsFor b) (Refused b) pairs)
-        → OnOk mid (OnErr now (StopsWithin (StandsFor b) (StandsFor c) (Refused c service) service datagrams)) → OnErr mid ((now ≡ mid) × (c ≡ b))
-        → OnErr now (DeliversFront (StandsFor a) (StandsFor c) (Refused c) (pairs ++ pairs_with service datagrams))
+        → OnOk mid (OnErr now (DeliversFront (StandsFor b) (StandsFor c) (Refused c) (pairs_of service datagrams))) → OnErr mid ((now ≡ mid) × (c ≡ b))
+        → OnErr now (DeliversFront (StandsFor a) (StandsFor c) (Refused c) (pairs ++ pairs_of service datagrams))
     failed_either a b c mid (Ok n) told one two stays = tt
-    failed_either a b c (Ok m) (Err n) told one two stays = stopped_then (StandsFor a) (StandsFor b) (StandsFor c) (Refused c) pairs service datagrams told two
+    failed_either a b c (Ok m) (Err n) told one two stays = front_then (StandsFor a) (StandsFor b) (StandsFor c) (Refused c) pairs (pairs_of service datagrams) (pairs ++ pairs_of service datagrams) refl told two
     failed_either a b c (Err m) (Err n) told one two stays =
-        subst (λ (t : T). DeliversFront (StandsFor a) (StandsFor t) (Refused t) (pairs ++ pairs_with service datagrams)) (sym stays.1)
-        (stopped_before (StandsFor a) (StandsFor b) (Refused b) pairs (pairs_with service datagrams) one)
+        subst (λ (t : T). DeliversFront (StandsFor a) (StandsFor t) (Refused t) (pairs ++ pairs_of service datagrams)) (sym stays.1)
+        (front_before (StandsFor a) (StandsFor b) (Refused b) pairs (pairs_of service datagrams) (pairs ++ pairs_of service datagrams) refl one)
 
     pub gone_then : (services faults : T → ℕ) (first : T) (mid now : Going T A E) → HasGone pairs first mid → DeliversAfter StandsFor Refused service datagrams mid now
-        → GoesOn services faults mid now → HasGone (pairs ++ pairs_with service datagrams) first now
+        → GoesOn services faults mid now → HasGone (pairs ++ pairs_of service datagrams) first now
     gone_then services faults first mid now one two goes = record {
       told = told_both first mid.outlet now.outlet mid.went now.went one.told two.told goes.stays;
       failed = failed_either first mid.outlet now.outlet mid.went now.went one.told one.failed two.failed goes.stays;
@@ -162,7 +123,7 @@ module _ {T A E : Type 0} (services faults : T → ℕ) where
 -- The pairs of the services before a number.
 
 abbrev pub pairs_below : (ℕ → List (List ℕ)) → ℕ → List (ℕ × List ℕ)
-pairs_below given count = flat_map (λ k. pairs_with k (given k)) (range_with_len 0 count)
+pairs_below given count = flat_map (λ k. pairs_of k (given k)) (range_with_len 0 count)
 
 range_next : (least count : ℕ) → range_with_len least (suc count) ≡ range_with_len least count ++ (least + count) ∷ []
 range_next least zero = let e : least ≡ least + 0 = omega arith in ap (λ (t : ℕ). t ∷ []) e
@@ -170,11 +131,11 @@ range_next least (suc count) =
     let e : least + 1 + count ≡ least + suc count = omega arith in
     ap (λ (t : List ℕ). least ∷ t) (range_next (least + 1) count ∙ ap (λ (t : ℕ). range_with_len (least + 1) count ++ t ∷ []) e)
 
-pub pairs_next : (given : ℕ → List (List ℕ)) (k : ℕ) → pairs_below given k ++ pairs_with k (given k) ≡ pairs_below given (k + 1)
+pub pairs_next : (given : ℕ → List (List ℕ)) (k : ℕ) → pairs_below given k ++ pairs_of k (given k) ≡ pairs_below given (k + 1)
 pairs_next given k =
     let number : suc k ≡ k + 1 = omega arith in
     let last : 0 + k ≡ k = omega arith in
-    let with : ℕ → List (ℕ × List ℕ) = λ n. pairs_with n (given n) in
+    let with : ℕ → List (ℕ × List ℕ) = λ n. pairs_of n (given n) in
     ap (λ (t : List (ℕ × List ℕ)). pairs_below given k ++ t) (sym (append-nil (with k)))
     ∙ sym (flat_map-append with (range_with_len 0 k) (k ∷ []))
     ∙ ap (flat_map with) (sym (range_next 0 k ∙ ap (λ (n : ℕ). range_with_len 0 k ++ n ∷ []) last))
@@ -198,15 +159,13 @@ module _ (plan : PlanFields) (version k : ℕ) (old : ServiceReceiver) (records 
   end_gives = ap (λ (o : Option ℕ). closed_on_pid o plan k records) (sym has.pid_is)
 
   -- its frame under way was closed
-  pub one_ended : (new : ServiceReceiver) → new.pid ≡ old.pid → new.before ≡ old.before → new.frames_before ≡ old.frames_before → Closes old.reception new.reception
+  pub one_ended : (new : ServiceReceiver) → new.pid ≡ old.pid → new.before ≡ old.before → Closes old.reception new.reception
       → HasReceivedOne true plan version k new records
-  one_ended new pid_same before_same frames_same closes = record {
+  one_ended new pid_same before_same closes = record {
     pid_is = has.pid_is ∙ ap (λ (p : ℕ). Some p) (sym pid_same);
     reception = subst (λ (p : ℕ). IsReception true plan.recording (service_on plan k p) new.reception (span_of plan k p records)) (sym pid_same)
         (closes.ended plan.recording (service_on plan k old.pid) (span_of plan k old.pid records) is_ending);
-    before_on_pid = ap on_pid before_same ∙ has.before_on_pid ∙ ap (λ (p : ℕ). numbers_before plan k p records) (sym pid_same);
-    before_of_units = ap of_units before_same ∙ has.before_of_units ∙ ap (λ (p : ℕ). unit_numbers_before plan k p records) (sym pid_same);
-    before_of_frames = ap (λ (t : FrameTotals). totals_in t) frames_same ∙ has.before_of_frames ∙ ap (λ (p : ℕ). frame_numbers_before plan k p records) (sym pid_same);
+    before_is = before_same ∙ has.before_is ∙ ap (λ (p : ℕ). counts_before plan k p records) (sym pid_same);
   }
 
 -- All services.
@@ -215,7 +174,6 @@ module _ (plan : PlanFields) (version k : ℕ) (old : ServiceReceiver) (records 
 pub record HasClosed (k : ℕ) (old new : ServiceReceiver) : Type 0 where
   pub pid_same : new.pid ≡ old.pid
   pub before_same : new.before ≡ old.before
-  pub frames_same : new.frames_before ≡ old.frames_before
   pub closes : Closes old.reception new.reception
 
 module _ (plan : PlanFields) (version : ℕ) (receivers : List ServiceReceiver) (records : List Record) (few : length records ≤ 2 ^ 32) (has : HaveReceived false plan version receivers records) where
@@ -227,7 +185,7 @@ module _ (plan : PlanFields) (version : ℕ) (receivers : List ServiceReceiver) 
         let below : k < length receivers = omega (arith, slice_get_within news k new found, count) in
         let old = some_at receivers k below in
         let closed : HasClosed k old.0 new = done k old.0 new (omega (arith, below, all)) old.1 found in
-        one_ended plan version k old.0 records few (has.each k old.0 old.1) new closed.pid_same closed.before_same closed.frames_same closed.closes;
+        one_ended plan version k old.0 records few (has.each k old.0 old.1) new closed.pid_same closed.before_same closed.closes;
   }
 
   -- what is delivered of one service more
@@ -236,7 +194,7 @@ module _ (plan : PlanFields) (version : ℕ) (receivers : List ServiceReceiver) 
     one_more : (given : ℕ → List (List ℕ)) → HasGone StandsFor Refused (pairs_below given k) first mid → DeliversAfter StandsFor Refused k (given k) mid now
         → HasGone StandsFor Refused (pairs_below given (k + 1)) first now
     one_more given gone delivered =
-        gone_same StandsFor Refused (pairs_below given k ++ pairs_with k (given k)) (pairs_below given (k + 1)) first now (pairs_next given k)
+        gone_same StandsFor Refused (pairs_below given k ++ pairs_of k (given k)) (pairs_below given (k + 1)) first now (pairs_next given k)
         (gone_then StandsFor Refused (pairs_below given k) k (given k) services faults first mid now gone delivered goes)
 
     pub one_switched : (next : ℕ) → HasGone StandsFor Refused (pairs_below (closed_by_switch plan version next records) k) first mid

@@ -26,15 +26,18 @@ use Rattle.reception_law.proofs.Frames.{units_tell}
 use Rattle.reception_law.proofs.OtherPid.{rows_stay}
 use Rattle.service_reception.specs.Services.{IsUle, IsMpe}
 use Rattle.service_reception.specs.Reception as one
+use Rattle.service_reception.specs.Counting.{service_counts_of}
 use Rattle.service_reception.proofs.Fronts.{received_stays}
 use Rattle.frame_reception.specs.Frames.{open_sections, last_time, is_unread, closed_in}
 use Rattle.frame_reception.specs.Reception.{FrameReceptionState, FramesState, IsOver}
+use Rattle.frame_reception.specs.Counting.{unread_alone}
 use Rattle.frame_reception.specs.Reception as framed
 use Rattle.frame_reception.proofs.Fronts.{frames_stay}
 use Rattle.frame_reception.proofs.Served.{served_frames, served_rows, served_told, served_units, served_numbers}
-use Rattle.demux_core.specs.Services.{pid_numbers_in, unit_numbers_in, frame_numbers_in, ReadsFrames, ReadsKind, HasFramesOf, HasTakenFrames, IsReception, IsFresh}
+use Rattle.demux_core.specs.Services.{counts_in, ReadsFrames, ReadsKind, HasFramesOf, HasTakenFrames, IsReception, IsFresh}
 use Rattle.demux_core.specs.declared.service.ByKind.{ByKind}
 use Rattle.demux_core.specs.declared.service.ByKind.TheVariants.{Ule, Mpe, Fec}
+use Rattle.demux_core.proofs.Counted.{same_counts}
 
 -- Services without frames.
 
@@ -143,10 +146,9 @@ fresh_again form it old new reads begun = by_kind it.kind refl reads
 
 -- The numbers of a reception are those of the records.
 
-pub record HasNumbers (ended : Bool) (form : RecordingForm) (it : ServiceFields) (reception : ByKind) (records : List Record) : Type 0 where
-  pub on_pid_are : pid_numbers_in reception ≡ service_pid_numbers it records
-  pub of_units_are : unit_numbers_in reception ≡ unit_numbers it (units_of it records)
-  pub of_frames_are : frame_numbers_in reception ≡ frame_numbers (rows_of it.kind) (told_frames ended form it.kind records)
+abbrev pub HasNumbers : Bool → RecordingForm → ServiceFields → ByKind → List Record → Type 0
+HasNumbers ended form it reception records =
+    counts_in reception ≡ service_counts_of (service_pid_numbers it records) (unit_numbers it (units_of it records)) (frame_numbers (rows_of it.kind) (told_frames ended form it.kind records))
 
 -- where there is no frame
 none_counted : (ended : Bool) (form : RecordingForm) (it : ServiceFields) (records : List Record) → frames_received form it.kind records ≡ []
@@ -156,20 +158,19 @@ none_counted ended form it records none = ap (λ (frames : List (List TimedSecti
 module _ (form : RecordingForm) (it : ServiceFields) (pid rows parity : ℕ) (window : Option WindowFields) (kind_is : it.kind ≡ fec pid rows parity window)
     (state : FrameReceptionState) (records : List Record) where
   counted_by_frames : (ended : Bool) → state.frames.on_pid ≡ pid_numbers section_form pid records
-      → record { unread = state.frames.unread; filtered = 0; datagrams = 0 } ≡ unit_numbers it (units_of it records)
+      → unread_alone state.frames.unread ≡ unit_numbers it (units_of it records)
       → state.frames.of_frames ≡ frame_numbers rows (closed_in ended (timing_in form (is_some window)) rows pid records)
       → HasNumbers ended form it (Fec state) records
-  counted_by_frames ended on_pid of_units of_frames = record {
-    on_pid_are = on_pid ∙ sym (served_numbers it pid rows parity window kind_is records);
-    of_units_are = of_units;
-    of_frames_are = of_frames
-        ∙ ap₂ (λ (n : ℕ) (frames : List (List TimedSection)). frame_numbers n frames) (sym (served_rows it pid rows parity window kind_is))
-        (sym (served_frames it pid rows parity window kind_is ended form records));
-  }
+  counted_by_frames ended on_pid of_units of_frames = same_counts
+      (on_pid ∙ sym (served_numbers it pid rows parity window kind_is records))
+      of_units
+      (of_frames
+      ∙ ap₂ (λ (n : ℕ) (frames : List (List TimedSection)). frame_numbers n frames) (sym (served_rows it pid rows parity window kind_is))
+      (sym (served_frames it pid rows parity window kind_is ended form records)))
 
-  with_unread : (n : ℕ) → state.frames.unread ≡ n → record { unread = n; filtered = 0; datagrams = 0 } ≡ unit_numbers it (units_of it records)
-      → record { unread = state.frames.unread; filtered = 0; datagrams = 0 } ≡ unit_numbers it (units_of it records)
-  with_unread n is same = ap (λ (u : ℕ). record { unread = u; filtered = 0; datagrams = 0 }) is ∙ same
+  with_unread : (n : ℕ) → state.frames.unread ≡ n → unread_alone n ≡ unit_numbers it (units_of it records)
+      → unread_alone state.frames.unread ≡ unit_numbers it (units_of it records)
+  with_unread n is same = ap unread_alone is ∙ same
 
   frames_counted_so : (ended : Bool) → HasFramesOf ended (timing_in form (is_some window)) rows pid state records → HasNumbers ended form it (Fec state) records
   frames_counted_so true has =
@@ -179,16 +180,10 @@ module _ (form : RecordingForm) (it : ServiceFields) (pid rows parity : ℕ) (wi
 
 pub numbers_in : (ended : Bool) (form : RecordingForm) (it : ServiceFields) (reception : ByKind) (records : List Record) → IsReception ended form it reception records
     → HasNumbers ended form it reception records
-numbers_in ended form it (Ule reception) records has = record {
-  on_pid_are = has.received.on_pid_are;
-  of_units_are = has.received.of_units_are;
-  of_frames_are = none_counted ended form it records (plain_ule form it.kind has.reads records);
-}
-numbers_in ended form it (Mpe reception) records has = record {
-  on_pid_are = has.received.on_pid_are;
-  of_units_are = has.received.of_units_are;
-  of_frames_are = none_counted ended form it records (plain_mpe form it.kind has.reads records);
-}
+numbers_in ended form it (Ule reception) records has =
+    same_counts has.received.on_pid_are has.received.of_units_are (none_counted ended form it records (plain_ule form it.kind has.reads records))
+numbers_in ended form it (Mpe reception) records has =
+    same_counts has.received.on_pid_are has.received.of_units_are (none_counted ended form it records (plain_mpe form it.kind has.reads records))
 numbers_in ended form it (Fec state) records has = by_kind it.kind refl has.received
   where
     by_kind : (kind : KindFields) → it.kind ≡ kind → HasTakenFrames ended form kind state records → HasNumbers ended form it (Fec state) records

@@ -17,7 +17,7 @@ use Rattle.reception_law.proofs.OtherPid.{pid_on}
 use Rattle.reception_law.proofs.ServiceSpans.{span_heard}
 use Rattle.reception_law.proofs.WhatIsTold.{moved_blank}
 use Rattle.reception_law.proofs.Sums.{before_stays, units_before_stay, frames_before_stay, numbers_move, units_move, frames_move, numbers_are, units_are, frames_are, told_frames_are}
-use Rattle.reception_law.proofs.Few.{few_numbers, few_unit_numbers, few_frame_numbers, few_before, few_units_before, few_frames_before, few_units_of_all, few_frames_of_all, few_frames_told}
+use Rattle.reception_law.proofs.Few.{few_numbers, few_unit_numbers, few_frame_numbers, few_before, few_units_before, few_frames_before}
 use Rattle.reception_law.proofs.Others.{others_more}
 use Rattle.reception_law.proofs.VersionInForce.{at_end, most, without_table, version_stays}
 use Rattle.reception_law.proofs.DeliveredPairs.{one_given, none_given, int_closes, end_closes}
@@ -60,16 +60,11 @@ pub record Laws (plan : PlanFields) : Type 0 where
       → AreAtMost (2 ^ 45) (numbers_before plan k pid records)
   pub most_units_before : (k pid : ℕ) (records : List Record) → length plan.changes ≤ 31 → length records ≤ 2 ^ 32
       → UnitsAreAtMost (2 ^ 45) (unit_numbers_before plan k pid records)
-  pub most_units : (k : ℕ) (records : List Record) → length plan.changes ≤ 31 → length records ≤ 2 ^ 32 → UnitsAreAtMost (2 ^ 45) (unit_numbers_of plan k records)
   -- those of frames with 1,024 rows at most
   pub most_frames_on : (ended : Bool) (k pid : ℕ) (records : List Record) → rows_of (slice_index_or plan.services k no_service).kind ≤ 1024
       → FramesAreAtMost (36965565 * length records) (frame_numbers_on ended plan k records pid)
   pub most_frames_before : (k pid : ℕ) (records : List Record) → rows_of (slice_index_or plan.services k no_service).kind ≤ 1024
       → length plan.changes ≤ 31 → length records ≤ 2 ^ 32 → FramesAreAtMost (2 ^ 63) (frame_numbers_before plan k pid records)
-  pub most_frames : (k : ℕ) (records : List Record) → rows_of (slice_index_or plan.services k no_service).kind ≤ 1024
-      → length plan.changes ≤ 31 → length records ≤ 2 ^ 32 → FramesAreAtMost (2 ^ 63) (frame_numbers_of plan k records)
-  pub most_frames_told : (k : ℕ) (records : List Record) → rows_of (slice_index_or plan.services k no_service).kind ≤ 1024
-      → length plan.changes ≤ 31 → length records ≤ 2 ^ 32 → FramesAreAtMost (2 ^ 63) (told_frame_numbers plan k records)
   -- the packets of no service
   pub other_more : (records : List Record) (r : Record) → others_from plan (records ++ r ∷ []) 0 (records ++ r ∷ [])
       ≡ others_from plan records 0 records + (if is_other (plan_in plan (version_at_end plan records)) r then 1 else 0)
@@ -108,11 +103,8 @@ laws_of plan right = record {
   most_units_on = λ k pid records. few_unit_numbers plan k pid records;
   most_before = λ k pid records few_changes few_records. few_before plan k pid records few_changes few_records;
   most_units_before = λ k pid records few_changes few_records. few_units_before plan k pid records few_changes few_records;
-  most_units = λ k records few_changes few_records. few_units_of_all plan k records few_changes few_records;
   most_frames_on = λ ended k pid records few_rows. few_frame_numbers ended plan k pid records few_rows;
   most_frames_before = λ k pid records few_rows few_changes few_records. few_frames_before plan k pid records few_rows few_changes few_records;
-  most_frames = λ k records few_rows few_changes few_records. few_frames_of_all plan k records few_rows few_changes few_records;
-  most_frames_told = λ k records few_rows few_changes few_records. few_frames_told plan k records few_rows few_changes few_records;
   other_more = λ records r. others_more plan records r;
   in_force = λ records. at_end plan records;
   most_version = λ records. most plan records (length records);

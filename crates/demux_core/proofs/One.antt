@@ -1,6 +1,6 @@
 -- The receiver of one service, with one record more: it passes, is taken, or moves the service.
 use Rattle.std.proofs.Common.{◌≡◌, ◌≢◌, ℕ, zero, suc, ◌+◌, ◌-◌, ◌^◌, ◌<◌, ◌≤◌, Bool, true, false, Option, None, Some, List, [], ◌∷◌, ◌++◌, length, map, get_or, refl, ap, ap₂, sym, ◌∙◌, subst, arith, length-append, eq-eqb}
-use Rattle.std.specs.Prelude.{◌==◌, is_some, min}
+use Rattle.std.specs.Prelude.{◌==◌, is_some}
 use Rattle.std.proofs.lemmas.Bool.{eqb-true}
 use Rattle.ts_spec.specs.Recording.{Record}
 use Rattle.plan_spec.specs.Plan.{KindFields, ule, mpe, fec, gse, ServiceFields, PlanFields, pid_of}
@@ -10,18 +10,18 @@ use Rattle.reception_spec.specs.Packets.{is_on}
 use Rattle.reception_spec.specs.Frames.{rows_of, sum_of_frames}
 use Rattle.reception_spec.specs.Spans.{version_at_end, span_from, span_of}
 use Rattle.reception_spec.specs.Delivered.{service_on}
-use Rattle.reception_spec.specs.Sums.{numbers_on, numbers_of, unit_numbers_of, frame_numbers_on}
+use Rattle.reception_spec.specs.Sums.{numbers_on, frame_numbers_on}
 use Rattle.reception_law.specs.InForce.{pid_in_force, IsBlank}
-use Rattle.reception_law.specs.Sums.{unit_numbers_on, numbers_before, unit_numbers_before, frame_numbers_before, FramesAreAtMost}
-use Rattle.service_reception.specs.Counting.{on_pid, of_units}
-use Rattle.demux_core.specs.Counts.{raised_numbers, raised_units, raised_frames, totals_in, frames_counted}
-use Rattle.demux_core.specs.Services.{pid_numbers_in, unit_numbers_in, frame_numbers_in, IsReception, IsFresh, IsReceivingOne, HasReceivedOne}
+use Rattle.reception_law.specs.Sums.{unit_numbers_on, numbers_before, unit_numbers_before, frame_numbers_before}
+use Rattle.service_counts.specs.Sums.{raised_counts}
+use Rattle.demux_core.specs.Counts.{frames_counted, counts_of_service, counts_before}
+use Rattle.demux_core.specs.Services.{counts_in, IsReception, IsFresh, IsReceivingOne, HasReceivedOne}
 use Rattle.demux_core.specs.Moving.{IsMoved, Follows}
 use Rattle.demux_core.specs.declared.service.ByKind.{ByKind}
 use Rattle.demux_core.specs.declared.service.ServiceReceiver.{ServiceReceiver}
 use Rattle.demux_core.proofs.KindWords.{HasNumbers, numbers_in, few_rows_on, reads_again, reception_stays, reception_blank}
 use Rattle.demux_core.proofs.Laws.{Laws}
-use Rattle.demux_core.proofs.Counted.{numbers_summed, units_summed, frames_summed}
+use Rattle.demux_core.proofs.Counted.{same_counts, counts_summed}
 
 -- A span is as long as its recording.
 
@@ -86,30 +86,26 @@ module _ (plan : PlanFields) (laws : Laws plan) (k : ℕ) (old : ServiceReceiver
   of_pid : pid_of it.kind ≡ Some old.pid
   of_pid = laws.on_pid (version_at_end plan records) k old.pid has.pid_is
 
+  before_stays : counts_before plan k old.pid records ≡ counts_before plan k old.pid after
+  before_stays = same_counts (sym (laws.numbers_stay k old.pid records r has.pid_is)) (sym (laws.units_stay k old.pid records r has.pid_is)) (sym (laws.frames_stay k old.pid records r has.pid_is))
+
   -- it is no packet of the PID
   pub one_passes : is_on old.pid r ≡ false → HasReceivedOne false plan (version_at_end plan records) k old after
   one_passes off = record {
     pid_is = has.pid_is;
     reception = subst (IsReception false plan.recording it old.reception) grown
         (reception_stays plan.recording it old.pid old.reception (span_of plan k old.pid records) r of_pid off has.reception);
-    before_on_pid = has.before_on_pid ∙ sym (laws.numbers_stay k old.pid records r has.pid_is);
-    before_of_units = has.before_of_units ∙ sym (laws.units_stay k old.pid records r has.pid_is);
-    before_of_frames = has.before_of_frames ∙ sym (laws.frames_stay k old.pid records r has.pid_is);
+    before_is = has.before_is ∙ before_stays;
   }
 
   -- the receiver takes it
-  pub one_took : (new : ServiceReceiver) → new.pid ≡ old.pid → new.before ≡ old.before → new.frames_before ≡ old.frames_before
+  pub one_took : (new : ServiceReceiver) → new.pid ≡ old.pid → new.before ≡ old.before
       → IsReception false plan.recording it new.reception (span_of plan k old.pid records ++ r ∷ []) → HasReceivedOne false plan (version_at_end plan records) k new after
-  one_took new pid_same before_same frames_same took = record {
+  one_took new pid_same before_same took = record {
     pid_is = has.pid_is ∙ ap (λ (p : ℕ). Some p) (sym pid_same);
     reception = subst (λ (p : ℕ). IsReception false plan.recording (service_on plan k p) new.reception (span_of plan k p after)) (sym pid_same)
         (subst (IsReception false plan.recording it new.reception) grown took);
-    before_on_pid = ap on_pid before_same ∙ has.before_on_pid ∙ sym (laws.numbers_stay k old.pid records r has.pid_is)
-        ∙ ap (λ (p : ℕ). numbers_before plan k p after) (sym pid_same);
-    before_of_units = ap of_units before_same ∙ has.before_of_units ∙ sym (laws.units_stay k old.pid records r has.pid_is)
-        ∙ ap (λ (p : ℕ). unit_numbers_before plan k p after) (sym pid_same);
-    before_of_frames = ap totals_in frames_same ∙ has.before_of_frames ∙ sym (laws.frames_stay k old.pid records r has.pid_is)
-        ∙ ap (λ (p : ℕ). frame_numbers_before plan k p after) (sym pid_same);
+    before_is = before_same ∙ has.before_is ∙ before_stays ∙ ap (λ (p : ℕ). counts_before plan k p after) (sym pid_same);
   }
 
   -- what is received of it
@@ -133,9 +129,7 @@ module _ (plan : PlanFields) (laws : Laws plan) (k : ℕ) (old : ServiceReceiver
     stayed new in_force same = subst (λ (t : ServiceReceiver). HasReceivedOne false plan (version_at_end plan after) k t after) (sym same) (record {
       pid_is = in_force;
       reception = passed.reception;
-      before_on_pid = passed.before_on_pid;
-      before_of_units = passed.before_of_units;
-      before_of_frames = passed.before_of_frames;
+      before_is = passed.before_is;
     })
 
     moved : (new : ServiceReceiver) (pid : ℕ) → pid_in_force plan k after ≡ Some pid → pid ≢ old.pid → IsMoved pid old new → HasReceivedOne false plan (version_at_end plan after) k new after
@@ -152,24 +146,17 @@ module _ (plan : PlanFields) (laws : Laws plan) (k : ℕ) (old : ServiceReceiver
               (blank_received plan k pid new.reception after (laws.on_pid (version_at_end plan after) k pid in_force)
               (laws.blank k old.pid pid records r has.pid_is in_force apart)
               (is.fresh plan.recording (service_on plan k pid) (reads_again plan.recording is.closed kind old.pid pid closed.reads)));
-          before_on_pid = is.on_pid_are
-              ∙ ap₂ raised_numbers has.before_on_pid counted.on_pid_are
-              ∙ numbers_summed (numbers_before plan k old.pid records) (numbers_on plan k after old.pid) (length after)
-              (laws.most_before k old.pid records few_changes (omega (arith, few))) (laws.most_on k old.pid after) short
-              ∙ sym (laws.numbers_go_on k old.pid pid records r has.pid_is in_force apart)
-              ∙ ap (λ (p : ℕ). numbers_before plan k p after) (sym is.pid_is);
-          before_of_units = is.of_units_are
-              ∙ ap₂ raised_units has.before_of_units counted.of_units_are
-              ∙ units_summed (unit_numbers_before plan k old.pid records) (unit_numbers_on plan k after old.pid) (length after)
-              (laws.most_units_before k old.pid records few_changes (omega (arith, few))) (laws.most_units_on k old.pid after) short
-              ∙ sym (laws.units_go_on k old.pid pid records r has.pid_is in_force apart)
-              ∙ ap (λ (p : ℕ). unit_numbers_before plan k p after) (sym is.pid_is);
-          before_of_frames = is.of_frames_are
-              ∙ ap₂ raised_frames has.before_of_frames counted.of_frames_are
-              ∙ frames_summed (frame_numbers_before plan k old.pid records) (frame_numbers_on true plan k after old.pid) (length after)
+          before_is = is.counts_are
+              ∙ ap₂ raised_counts has.before_is counted
+              ∙ counts_summed (numbers_before plan k old.pid records) (numbers_on plan k after old.pid)
+              (unit_numbers_before plan k old.pid records) (unit_numbers_on plan k after old.pid)
+              (frame_numbers_before plan k old.pid records) (frame_numbers_on true plan k after old.pid) (length after)
+              (laws.most_before k old.pid records few_changes (omega (arith, few))) (laws.most_on k old.pid after)
+              (laws.most_units_before k old.pid records few_changes (omega (arith, few))) (laws.most_units_on k old.pid after)
               (laws.most_frames_before k old.pid records few_rows few_changes (omega (arith, few))) (laws.most_frames_on true k old.pid after few_rows) short
-              ∙ sym (laws.frames_go_on k old.pid pid records r has.pid_is in_force apart)
-              ∙ ap (λ (p : ℕ). frame_numbers_before plan k p after) (sym is.pid_is);
+              ∙ same_counts (sym (laws.numbers_go_on k old.pid pid records r has.pid_is in_force apart)) (sym (laws.units_go_on k old.pid pid records r has.pid_is in_force apart))
+              (sym (laws.frames_go_on k old.pid pid records r has.pid_is in_force apart))
+              ∙ ap (λ (p : ℕ). counts_before plan k p after) (sym is.pid_is);
         }
 
     pub one_follows : (new : ServiceReceiver) → Follows (pid_in_force plan k after) old new → HasReceivedOne false plan (version_at_end plan after) k new after
@@ -198,42 +185,19 @@ module _ (ended : Bool) (plan : PlanFields) (laws : Laws plan) (k : ℕ) (receiv
   few_rows : rows_of (get_or plan.services k no_service).kind ≤ 1024
   few_rows = few_rows_on plan.recording receiver.reception (get_or plan.services k no_service).kind receiver.pid has.reception.reads
 
-  pub numbers_are : raised_numbers (on_pid receiver.before) (pid_numbers_in receiver.reception) ≡ numbers_of plan k records
-  numbers_are =
-      ap₂ raised_numbers has.before_on_pid counted.on_pid_are
-      ∙ numbers_summed (numbers_before plan k receiver.pid records) (numbers_on plan k records receiver.pid) (length records)
-      (laws.most_before k receiver.pid records few_changes few) (laws.most_on k receiver.pid records) few
-      ∙ sym (laws.numbers_sum k receiver.pid (version_at_end plan records) records (laws.most_version records) has.pid_is)
-
-  pub units_are : raised_units (of_units receiver.before) (unit_numbers_in receiver.reception) ≡ unit_numbers_of plan k records
-  units_are =
-      ap₂ raised_units has.before_of_units counted.of_units_are
-      ∙ units_summed (unit_numbers_before plan k receiver.pid records) (unit_numbers_on plan k records receiver.pid) (length records)
-      (laws.most_units_before k receiver.pid records few_changes few) (laws.most_units_on k receiver.pid records) few
-      ∙ sym (laws.units_sum k receiver.pid (version_at_end plan records) records (laws.most_version records) has.pid_is)
-
   -- those of frames, told so far or at the end
   frames_parted : (b : Bool) → sum_of_frames (frame_numbers_before plan k receiver.pid records) (frame_numbers_on b plan k records receiver.pid) ≡ frames_counted b plan k records
   frames_parted true = sym (laws.frames_sum k receiver.pid (version_at_end plan records) records (laws.most_version records) has.pid_is)
   frames_parted false = sym (laws.told_frames_sum k receiver.pid records has.pid_is)
 
-  pub frames_are : raised_frames (totals_in receiver.frames_before) (frame_numbers_in receiver.reception) ≡ frames_counted ended plan k records
-  frames_are =
-      ap₂ raised_frames has.before_of_frames counted.of_frames_are
-      ∙ frames_summed (frame_numbers_before plan k receiver.pid records) (frame_numbers_on ended plan k records receiver.pid) (length records)
+  pub counts_are : raised_counts receiver.before (counts_in receiver.reception) ≡ counts_of_service ended plan k records
+  counts_are =
+      ap₂ raised_counts has.before_is counted
+      ∙ counts_summed (numbers_before plan k receiver.pid records) (numbers_on plan k records receiver.pid)
+      (unit_numbers_before plan k receiver.pid records) (unit_numbers_on plan k records receiver.pid)
+      (frame_numbers_before plan k receiver.pid records) (frame_numbers_on ended plan k records receiver.pid) (length records)
+      (laws.most_before k receiver.pid records few_changes few) (laws.most_on k receiver.pid records)
+      (laws.most_units_before k receiver.pid records few_changes few) (laws.most_units_on k receiver.pid records)
       (laws.most_frames_before k receiver.pid records few_rows few_changes few) (laws.most_frames_on ended k receiver.pid records few_rows) few
-      ∙ frames_parted ended
-
-  most_counted : (b : Bool) → FramesAreAtMost (2 ^ 63) (frames_counted b plan k records)
-  most_counted true = laws.most_frames k records few_rows few_changes few
-  most_counted false = laws.most_frames_told k records few_rows few_changes few
-
-  -- all datagrams, of units by themselves and of frames
-  pub datagrams_are : (u f : ℕ) → u ≡ (unit_numbers_of plan k records).datagrams → f ≡ (frames_counted ended plan k records).datagrams
-      → min (u + f) (2 ^ 64 - 1) ≡ (unit_numbers_of plan k records).datagrams + (frames_counted ended plan k records).datagrams
-  datagrams_are u f of_units_is of_frames_is =
-      both u f (unit_numbers_of plan k records).datagrams (frames_counted ended plan k records).datagrams of_units_is of_frames_is
-      (laws.most_units k records few_changes few).datagrams (most_counted ended).datagrams
-    where
-      both : (u f a b : ℕ) → u ≡ a → f ≡ b → a ≤ 2 ^ 45 → b ≤ 2 ^ 63 → min (u + f) (2 ^ 64 - 1) ≡ a + b
-      both u f a b same_u same_f few_a few_b = omega (arith, same_u, same_f, few_a, few_b)
+      ∙ same_counts (sym (laws.numbers_sum k receiver.pid (version_at_end plan records) records (laws.most_version records) has.pid_is))
+      (sym (laws.units_sum k receiver.pid (version_at_end plan records) records (laws.most_version records) has.pid_is)) (frames_parted ended)

@@ -12,7 +12,7 @@ use Rattle.reception_spec.specs.Spans.{version_at_end, span_of}
 use Rattle.reception_spec.specs.Delivered.{service_on, pairs_of_record}
 use Rattle.reception_law.specs.Words.{added_by}
 use Rattle.service_reception.specs.Reception.{packet_record}
-use Rattle.service_reception.specs.Telling.{pairs_of}
+use Rattle.outlet_spec.specs.Pairs.{pairs_of}
 use Rattle.service_reception.proofs.Records.{is_of_read}
 use Rattle.demux_core.specs.Services.{IsReception, IsReceivingOne, HaveAllReceived, is_table_pid}
 use Rattle.demux_core.specs.declared.service.ServiceReceiver.{ServiceReceiver}
@@ -77,10 +77,10 @@ module _ (plan : PlanFields) (laws : Laws plan) (right : has_wrong_change plan �
         (get_or_from_slice_get plan.services k service no_service is)
         (is_receiving plan laws k old records r (all.services.each k old there) pid at few)
 
-    pub one_received : (new : ServiceReceiver) → new.pid ≡ old.pid → new.before ≡ old.before → new.frames_before ≡ old.frames_before
+    pub one_received : (new : ServiceReceiver) → new.pid ≡ old.pid → new.before ≡ old.before
         → IsReception false plan.recording (service_on plan k old.pid) new.reception (span_of plan k old.pid records ++ r ∷ []) → HaveAllReceived false plan (set receivers k new) table after
-    one_received new pid_same before_same frames_same took =
-        service_took plan laws receivers table records r all right pid of_pid k old there at new off pid_same before_same frames_same took
+    one_received new pid_same before_same took =
+        service_took plan laws receivers table records r all right pid of_pid k old there at new off pid_same before_same took
 
     pub one_pairs : pairs_of_record plan after (length records) ≡ pairs_of k (added_by plan.recording (service_on plan k old.pid) (span_of plan k old.pid records) r)
     one_pairs = given_by_one plan laws receivers table records r all right pid of_pid k old there at (is_of_read pid bytes readable of_pid)

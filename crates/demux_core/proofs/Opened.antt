@@ -18,6 +18,7 @@ use Rattle.plan.specs.declared.service.Service.{Service}
 use Rattle.reception_spec.specs.Numbers.{no_numbers}
 use Rattle.reception_spec.specs.Frames.{no_frames}
 use Rattle.reception_law.specs.Sums.{no_units, numbers_before, unit_numbers_before, frame_numbers_before}
+use Rattle.demux_core.proofs.Counted.{same_counts}
 use Rattle.demux_core.specs.Services.{IsReception, HaveReceived}
 use Rattle.demux_core.specs.Opening.{IsOpened, AreOpened, has_right_rows}
 use Rattle.demux_core.specs.declared.service.ServiceReceiver.{ServiceReceiver}
@@ -226,8 +227,6 @@ received_nothing plan receivers none no_unit no_frame all = record {
       record {
         pid_is = opened.pid_is;
         reception = subst (λ (t : ServiceFields). IsReception false plan.recording t receiver.reception []) (sym (same_service it receiver.pid opened.pid_is)) opened.reception;
-        before_on_pid = opened.before_on_pid ∙ sym (none k receiver.pid);
-        before_of_units = opened.before_of_units ∙ sym (no_unit k receiver.pid);
-        before_of_frames = opened.before_of_frames ∙ sym (no_frame k receiver.pid);
+        before_is = opened.before_is ∙ same_counts (sym (none k receiver.pid)) (sym (no_unit k receiver.pid)) (sym (no_frame k receiver.pid));
       };
 }

@@ -23,10 +23,9 @@ use Rattle.reception_spec.specs.Delivered.{service_on, pairs_of_record}
 use Rattle.reception_spec.specs.Delivered as delivered
 use Rattle.reception_law.specs.Words.{added_by}
 use Rattle.reception_law.specs.InForce.{pid_in_force}
-use Rattle.service_reception.specs.Telling.{pairs_of, Told, StopsWithin}
+use Rattle.outlet_spec.specs.Pairs.{pairs_of}
 use Rattle.service_reception.specs.Table.{shown_among}
 use Rattle.service_reception.proofs.Fronts.{table_stays}
-use Rattle.bb_demux.specs.Outlets.{Delivers, DeliversFront}
 use Rattle.demux_core.specs.Moving.{AllFollow, closed_by_switch}
 use Rattle.demux_core.specs.Services.{IsReception, HasReceivedOne, HaveReceived, HasReceivedBy, HasReceivedInt, HaveAllReceived, is_table_pid, is_service_pid, version_of_table}
 use Rattle.demux_core.specs.declared.service.ServiceReceiver.{ServiceReceiver}
@@ -274,9 +273,9 @@ module _ (plan : PlanFields) (laws : Laws plan) (receivers : List ServiceReceive
 
     -- the receiver of a service took it
     module _ (k : ℕ) (old : ServiceReceiver) (there : slice_get receivers k ≡ Some old) (at : old.pid ≡ pid) where
-      pub service_took : (new : ServiceReceiver) → is_table_pid table pid ≡ false → new.pid ≡ old.pid → new.before ≡ old.before → new.frames_before ≡ old.frames_before
+      pub service_took : (new : ServiceReceiver) → is_table_pid table pid ≡ false → new.pid ≡ old.pid → new.before ≡ old.before
           → IsReception false plan.recording (service_on plan k old.pid) new.reception (span_of plan k old.pid records ++ r ∷ []) → HaveAllReceived false plan (set receivers k new) table after
-      service_took new off pid_same before_same frames_same took =
+      service_took new off pid_same before_same took =
           let int = int_passes (off_int off) in
           record {
             services = subst (λ (v : ℕ). HaveReceived false plan v (set receivers k new) after) (sym int.1) (record {
@@ -292,7 +291,7 @@ module _ (plan : PlanFields) (laws : Laws plan) (receivers : List ServiceReceive
               let is : new ≡ receiver = set_same receivers k new receiver (ap (λ (n : ℕ). slice_get (set receivers k new) n) (sym place) ∙ found) in
               subst (λ (n : ℕ). HasReceivedOne false plan now n receiver after) (sym place)
               (subst (λ (t : ServiceReceiver). HasReceivedOne false plan now k t after) is
-              (one_took plan laws k old records r (all.services.each k old there) new pid_same before_same frames_same took))
+              (one_took plan laws k old records r (all.services.each k old there) new pid_same before_same took))
           by_place j receiver found false e =
               let apart : j ≡ k → ⊥ = λ same. true_false (sym (eq-eqb j k same) ∙ e) in
               let before : slice_get receivers j ≡ Some receiver = set_other receivers k j new receiver apart found in
@@ -302,23 +301,3 @@ module _ (plan : PlanFields) (laws : Laws plan) (receivers : List ServiceReceive
       pub given_by_one : is_on pid r ≡ true → pairs_of_record plan after (length records) ≡ pairs_of k (added_by plan.recording (service_on plan k old.pid) (span_of plan k old.pid records) r)
       given_by_one own = laws.pairs_one k old.pid records r (omega (arith, slice_get_within receivers k old there, all.services.count_is))
           (all.services.each k old there).pid_is (ap (λ (p : ℕ). is_on p r) at ∙ own)
-
--- a service's part of an outlet
-pub told_one : (old new : List (ℕ × List ℕ) → Type 0) (k : ℕ) (datagrams : List (List ℕ)) (pairs : List (ℕ × List ℕ)) → pairs ≡ pairs_of k datagrams
-    → Told old new k datagrams → Delivers old new pairs
-told_one old new k datagrams pairs are told = λ before stands. subst (λ (t : List (ℕ × List ℕ)). new (before ++ t)) (sym are) (told before stands)
-
-pub stopped_one : (old new : List (ℕ × List ℕ) → Type 0) (refused : ℕ → List ℕ → Type 0) (k : ℕ) (datagrams : List (List ℕ)) (pairs : List (ℕ × List ℕ)) → pairs ≡ pairs_of k datagrams
-    → StopsWithin old new (refused k) k datagrams → DeliversFront old new refused pairs
-stopped_one old new refused k datagrams pairs are stops = record {
-  front = pairs_of k stops.done;
-  service = k;
-  datagram = stops.next;
-  behind = pairs_of k stops.rest;
-  pairs_are = are ∙ ap (pairs_of k) stops.datagrams_are ∙ map-append (λ (datagram : List ℕ). (k, datagram)) stops.done (stops.next ∷ stops.rest);
-  delivers = stops.told;
-  refuses = stops.refused;
-}
-
-pub told_none : (old : List (ℕ × List ℕ) → Type 0) (pairs : List (ℕ × List ℕ)) → pairs ≡ [] → Delivers old old pairs
-told_none old pairs none = λ before stands. subst old (sym (ap (λ (t : List (ℕ × List ℕ)). before ++ t) none ∙ append-nil before)) stands

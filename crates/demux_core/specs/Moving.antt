@@ -4,9 +4,8 @@ use Rattle.ts_spec.specs.Recording.{RecordingForm, Record}
 use Rattle.plan_spec.specs.Plan.{ServiceFields, PlanFields}
 use Rattle.plan_spec.specs.Changes.{pid_in}
 use Rattle.reception_law.specs.Words.{closed_on}
-use Rattle.service_reception.specs.Counting.{on_pid, of_units}
-use Rattle.demux_core.specs.Counts.{raised_numbers, raised_units, raised_frames, totals_in}
-use Rattle.demux_core.specs.Services.{ReadsKind, IsReception, IsFresh, IsEndingOne, pid_numbers_in, unit_numbers_in, frame_numbers_in}
+use Rattle.service_counts.specs.Sums.{raised_counts}
+use Rattle.demux_core.specs.Services.{ReadsKind, IsReception, IsFresh, IsEndingOne, counts_in}
 use Rattle.demux_core.specs.declared.service.ByKind.{ByKind}
 use Rattle.demux_core.specs.declared.service.ServiceReceiver.{ServiceReceiver}
 
@@ -21,9 +20,7 @@ pub record IsMoved (pid : ℕ) (old new : ServiceReceiver) : Type 0 where
   pub closes : Closes old.reception closed
   pub pid_is : new.pid ≡ pid
   pub fresh : (form : RecordingForm) (it : ServiceFields) → ReadsKind form closed it.kind → IsFresh form it new.reception
-  pub on_pid_are : on_pid new.before ≡ raised_numbers (on_pid old.before) (pid_numbers_in closed)
-  pub of_units_are : of_units new.before ≡ raised_units (of_units old.before) (unit_numbers_in closed)
-  pub of_frames_are : totals_in new.frames_before ≡ raised_frames (totals_in old.frames_before) (frame_numbers_in closed)
+  pub counts_are : new.before ≡ raised_counts old.before (counts_in closed)
 
 -- the receiver follows its service to a PID: where it is there already it stays as it is
 pub record FollowsTo (pid : ℕ) (old new : ServiceReceiver) : Type 0 where

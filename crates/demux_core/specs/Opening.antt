@@ -6,8 +6,7 @@ use Rattle.plan_spec.specs.Checks.{is_row_count}
 use Rattle.reception_spec.specs.Numbers.{no_numbers}
 use Rattle.reception_spec.specs.Frames.{no_frames}
 use Rattle.reception_law.specs.Sums.{no_units}
-use Rattle.service_reception.specs.Counting.{on_pid, of_units}
-use Rattle.demux_core.specs.Counts.{totals_in}
+use Rattle.service_reception.specs.Counting.{service_counts_of}
 use Rattle.demux_core.specs.Services.{IsReception}
 use Rattle.demux_core.specs.declared.service.ServiceReceiver.{ServiceReceiver}
 
@@ -15,9 +14,7 @@ use Rattle.demux_core.specs.declared.service.ServiceReceiver.{ServiceReceiver}
 pub record IsOpened (form : RecordingForm) (it : ServiceFields) (receiver : ServiceReceiver) : Type 0 where
   pub pid_is : pid_of it.kind ≡ Some receiver.pid
   pub reception : IsReception false form it receiver.reception []
-  pub before_on_pid : on_pid receiver.before ≡ no_numbers
-  pub before_of_units : of_units receiver.before ≡ no_units
-  pub before_of_frames : totals_in receiver.frames_before ≡ no_frames
+  pub before_is : receiver.before ≡ service_counts_of no_numbers no_units no_frames
 
 -- each receiver is, service by service
 abbrev pub AreOpened : RecordingForm → List ServiceFields → List ServiceReceiver → Type 0

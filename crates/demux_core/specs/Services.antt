@@ -6,17 +6,17 @@ use Rattle.slice_spec.specs.Sections.{Timing}
 use Rattle.frame_spec.specs.Groups.{timing_in}
 use Rattle.plan_spec.specs.Plan.{KindFields, ule, mpe, fec, gse, pid_of, ServiceFields, IntFields, PlanFields}
 use Rattle.plan_spec.specs.Changes.{pid_in, has_wrong_change}
-use Rattle.reception_spec.specs.Numbers.{PidNumbers, UnitNumbers}
-use Rattle.reception_spec.specs.Frames.{FrameNumbers, no_frames}
+use Rattle.reception_spec.specs.Frames.{no_frames}
 use Rattle.reception_spec.specs.Spans.{version_at_end, span_of}
 use Rattle.reception_spec.specs.Delivered.{service_on}
-use Rattle.reception_law.specs.Sums.{numbers_before, unit_numbers_before, frame_numbers_before}
-use Rattle.service_reception.specs.Counting.{on_pid, of_units}
+use Rattle.service_counts.specs.declared.counts.ServiceCounts.{ServiceCounts}
+use Rattle.service_reception.specs.Counting.{service_counts_of}
 use Rattle.service_reception.specs.Services.{IsUle, IsMpe}
 use Rattle.service_reception.specs.Reception as one
 use Rattle.frame_reception.specs.Reception.{FramesState, FrameReceptionState, IsOver}
 use Rattle.frame_reception.specs.Reception as framed
-use Rattle.demux_core.specs.Counts.{totals_in}
+use Rattle.frame_reception.specs.Counting.{unread_alone}
+use Rattle.demux_core.specs.Counts.{counts_before}
 use Rattle.service_reception.specs.Table.{HasReceivedTable}
 use Rattle.demux_core.specs.declared.service.ByKind.{ByKind}
 use Rattle.demux_core.specs.declared.service.ByKind.TheVariants.{Ule, Mpe, Fec}
@@ -25,21 +25,11 @@ use Rattle.demux_core.specs.declared.table.TableReceiver.{TableReceiver}
 
 -- One service.
 
--- what a reception counted, whatever the kind of its units: of the PID, of what the units give by themselves, and of frames
-abbrev pub pid_numbers_in : ByKind → PidNumbers
-pid_numbers_in (Ule reception) = reception.on_pid
-pid_numbers_in (Mpe reception) = reception.on_pid
-pid_numbers_in (Fec reception) = reception.frames.on_pid
-
-abbrev pub unit_numbers_in : ByKind → UnitNumbers
-unit_numbers_in (Ule reception) = reception.of_units
-unit_numbers_in (Mpe reception) = reception.of_units
-unit_numbers_in (Fec reception) = record { unread = reception.frames.unread; filtered = 0; datagrams = 0 }
-
-abbrev pub frame_numbers_in : ByKind → FrameNumbers
-frame_numbers_in (Ule reception) = no_frames
-frame_numbers_in (Mpe reception) = no_frames
-frame_numbers_in (Fec reception) = reception.frames.of_frames
+-- what a reception counted, whatever the kind of its units
+abbrev pub counts_in : ByKind → ServiceCounts
+counts_in (Ule reception) = service_counts_of reception.on_pid reception.of_units no_frames
+counts_in (Mpe reception) = service_counts_of reception.on_pid reception.of_units no_frames
+counts_in (Fec reception) = service_counts_of reception.frames.on_pid (unread_alone reception.frames.unread) reception.frames.of_frames
 
 -- the frames are those of services of this kind, in recordings of this form
 abbrev pub ReadsFrames : RecordingForm → FramesState → KindFields → Type 0
@@ -98,9 +88,7 @@ pub record IsEndingOne (form : RecordingForm) (it : ServiceFields) (reception : 
 pub record HasReceivedOne (ended : Bool) (plan : PlanFields) (version k : ℕ) (receiver : ServiceReceiver) (records : List Record) : Type 0 where
   pub pid_is : pid_in plan version k ≡ Some receiver.pid
   pub reception : IsReception ended plan.recording (service_on plan k receiver.pid) receiver.reception (span_of plan k receiver.pid records)
-  pub before_on_pid : on_pid receiver.before ≡ numbers_before plan k receiver.pid records
-  pub before_of_units : of_units receiver.before ≡ unit_numbers_before plan k receiver.pid records
-  pub before_of_frames : totals_in receiver.frames_before ≡ frame_numbers_before plan k receiver.pid records
+  pub before_is : receiver.before ≡ counts_before plan k receiver.pid records
 
 -- All services.
 

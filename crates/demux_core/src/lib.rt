@@ -2,7 +2,8 @@
 //! counted. It follows the plan where its INT puts another version in force.
 //!
 //! Receiving: ts_record -> ts_packet -> service_reception, frame_reception -> [demux_core] -> outlet, loss_report.
-//! Begin with `Receiver::open`, then `step` for each record or `step_frame` for each frame, and `finish`.
+//! Begin with `Receiver::open`, then `read_to_end` of recording_reader, or `step` for each record or `step_frame` for each frame, and
+//! `finish`.
 #![tactic(auto)]
 
 mod content;
@@ -12,9 +13,9 @@ mod places;
 mod receiver;
 mod service;
 mod services;
-mod sums;
 mod switch;
 mod table;
+mod taking;
 
 pub use packet_receiver::PacketReceiver;
 pub use receiver::Receiver;

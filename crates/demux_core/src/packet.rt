@@ -10,7 +10,7 @@ ghost use Rattle.reception_spec.specs.Delivered.{pairs_of_record};
 ghost use Rattle.service_reception.specs.Reception.{packet_record};
 ghost use Rattle.demux_core.specs.Contents.{IsRead};
 ghost use Rattle.demux_core.specs.Places.{AreFound};
-ghost use Rattle.bb_demux.specs.Outlets.{Delivers, DeliversFront};
+ghost use Rattle.outlet_spec.specs.Pairs.{Delivers, DeliversFront};
 ghost use Rattle.demux_core.specs.Services.{FitsPlan, HaveAllReceived, is_table_pid};
 
 use crate::services::{Services, place_of};

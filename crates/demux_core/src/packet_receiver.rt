@@ -11,7 +11,7 @@ ghost use Rattle.reception_spec.specs.Table.{table_units};
 ghost use Rattle.reception_spec.specs.Shown.{table_section};
 ghost use Rattle.reception_spec.specs.Spans.{version_at_end};
 ghost use Rattle.demux_core.specs.Counts.{stream_counts_of, counts_of_service};
-ghost use Rattle.bb_demux.specs.Outlets.{Delivers, DeliversFront};
+ghost use Rattle.outlet_spec.specs.Pairs.{Delivers, DeliversFront};
 ghost use Rattle.demux_core.specs.Receiving.{HasReceived};
 
 use crate::content::{Content, content_of};
@@ -203,23 +203,7 @@ impl<'a> PacketReceiver<'a> {
             → result ≡ counts_of_service ended plan service records }
     {
         let receiver = &self.services.receivers[service as usize];
-        let counts = receiver.counts();
-        let totals = receiver.totals();
-        ServiceCounts {
-            heard: counts.heard,
-            repeats: counts.repeats,
-            gaps: counts.gaps,
-            units: counts.units,
-            bad_check: counts.bad_check,
-            delimited: counts.delimited,
-            bad_length: counts.bad_length,
-            unread: counts.unread,
-            filtered: counts.filtered,
-            frames: totals.frames,
-            rows_mended: totals.rows_mended,
-            rows_left: totals.rows_left,
-            datagrams: counts.datagrams.saturating_add(totals.datagrams),
-        }
+        receiver.counts()
     }
 
     /// The version of the plan that is in force: the greatest that an accepted section of the INT said, at first 0.

@@ -7,12 +7,13 @@ ghost use Rattle.ts_record.specs.Reading.{record_seen};
 ghost use Rattle.plan.specs.PlanView.{plan_fields};
 ghost use Rattle.reception_spec.specs.Sums.{stream_numbers};
 ghost use Rattle.reception_spec.specs.Delivered.{pairs_of_record, pairs_of_end};
+ghost use Rattle.reception_spec.specs.Spans.{version_at_end};
 ghost use Rattle.reception_spec.specs.Table.{table_units};
 ghost use Rattle.reception_spec.specs.Shown.{table_section};
 ghost use Rattle.bb_reception_spec.specs.Delivered.{pairs_of_frame};
 ghost use Rattle.bb_reception_spec.specs.Numbers.{recording_numbers};
 ghost use Rattle.bb_demux.specs.Counts.{stream_counts_of as counts_of_frames, counts_of_service as counts_in_frames};
-ghost use Rattle.bb_demux.specs.Outlets.{Delivers, DeliversFront};
+ghost use Rattle.outlet_spec.specs.Pairs.{Delivers, DeliversFront};
 ghost use Rattle.demux_core.specs.Counts.{stream_counts_of, counts_of_service};
 ghost use Rattle.demux_core.specs.Carriers.{plan_of, is_open_in, stream_of, HasReceivedPackets, HasReceivedFrames};
 
@@ -27,7 +28,7 @@ use ts_record::Record;
 
 /// A receiver, by the carrier of its plan.
 #[derive(Drop)]
-enum ByCarrier<'a> {
+pub(crate) enum ByCarrier<'a> {
     /// Of transport packets.
     Packets(PacketReceiver<'a>),
     /// Of baseband frames.
@@ -37,7 +38,7 @@ enum ByCarrier<'a> {
 /// The receiver of all services of a plan.
 #[derive(Drop)]
 pub struct Receiver<'a> {
-    part: ByCarrier<'a>,
+    pub(crate) part: ByCarrier<'a>,
 }
 
 impl<'a> Model for Receiver<'a> {
@@ -148,7 +149,10 @@ impl<'a> Receiver<'a> {
     {
         match &mut self.part {
             ByCarrier::Packets(receiver) => receiver.finish(outlet),
-            ByCarrier::Frames(receiver) => receiver.finish(outlet),
+            ByCarrier::Frames(receiver) => {
+                receiver.close();
+                Ok(())
+            }
         }
     }
 
@@ -210,6 +214,18 @@ impl<'a> Receiver<'a> {
     {
         match &self.part {
             ByCarrier::Packets(receiver) => receiver.table_units(),
+            ByCarrier::Frames(_) => 0,
+        }
+    }
+
+    /// The version of the plan that is in force: the one that the last switch put in force, or 0. Baseband frames carry no INT that could switch.
+    pub fn plan_in_force(&self) -> u8
+        ensures packets { (ended : Bool) (plan : PlanFields) (records : List ReadRecord) → HasReceivedPackets ended plan records self.now
+            → result ≡ version_at_end plan records }
+        ensures frames { is_baseband (plan_of self.now) ≡ true → result ≡ 0 }
+    {
+        match &self.part {
+            ByCarrier::Packets(receiver) => receiver.plan_in_force(),
             ByCarrier::Frames(_) => 0,
         }
     }

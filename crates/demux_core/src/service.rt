@@ -8,17 +8,15 @@ ghost use Rattle.plan_spec.specs.Plan.{ServiceFields, WindowFields, fec, pid_of}
 ghost use Rattle.plan.specs.Parts.{form_of, kind_seen};
 ghost use Rattle.reception_law.specs.Words.{added_by, closed_by};
 ghost use Rattle.service_reception.specs.Reception.{packet_record};
-ghost use Rattle.service_reception.specs.Telling.{Told, StopsWithin};
-ghost use Rattle.service_reception.specs.Counting.{on_pid, of_units};
+ghost use Rattle.outlet_spec.specs.Pairs.{pairs_of, Delivers, DeliversFront};
+ghost use Rattle.service_counts.specs.Sums.{raised_counts};
 ghost use Rattle.service_reception.specs.Services.{IsUle, IsMpe};
-ghost use Rattle.frame_reception.specs.Delivering.{Delivers, GoesOn};
+ghost use Rattle.outlet_spec.specs.Going.{DeliversAfter, GoesOn};
 ghost use Rattle.demux_core.specs.Contents.{IsRead};
-ghost use Rattle.demux_core.specs.Counts.{raised_numbers, raised_units, raised_frames, totals_in};
-ghost use Rattle.demux_core.specs.Services.{ReadsKind, IsReception, IsReceivingOne, IsEndingOne, IsFresh, pid_numbers_in, unit_numbers_in, frame_numbers_in};
+ghost use Rattle.demux_core.specs.Services.{ReadsKind, IsReception, IsReceivingOne, IsEndingOne, IsFresh, counts_in};
 ghost use Rattle.demux_core.specs.Opening.{IsOpened, has_right_rows};
 ghost use Rattle.demux_core.specs.Moving.{Closes};
 
-use crate::sums::{FrameTotals, counts_of, sum, sum_totals, totals_of};
 use addr_rules::MacList;
 use bumpalo::Bump;
 use byte_slices::zeros;
@@ -27,7 +25,8 @@ use frame_reception::FrameReception;
 use ipe_io::{Failed, OutOfMemory, Outlet, Recording};
 use plan::Kind;
 use section_codec::SectionForm;
-use service_reception::{Counts, Reception};
+use service_counts::ServiceCounts;
+use service_reception::Reception;
 use ts_packet::Packet;
 use ule_unit::UleForm;
 use unit_stream::UnitForm;
@@ -51,9 +50,7 @@ pub(crate) struct ServiceReceiver<'a> {
     /// What is received on it.
     pub(crate) reception: ByKind<'a>,
     /// What was counted on all PIDs before.
-    pub(crate) before: Counts,
-    /// And of the frames there.
-    pub(crate) frames_before: FrameTotals,
+    pub(crate) before: ServiceCounts,
 }
 
 /// A reception of SNDUs that was given nothing.
@@ -126,7 +123,7 @@ impl<'a> ByKind<'a> {
         requires served { service < T.services outlet.old }
         ensures closed { Closes self.old self.new }
         ensures delivered { (form : RecordingForm) (it : ServiceFields) (records : List Record) → IsEndingOne form it self.old records
-            → Delivers T.StandsFor T.Refused service (closed_by form it records) (record { outlet = outlet.old; went = went }) (record { outlet = outlet.new; went = result }) }
+            → DeliversAfter T.StandsFor T.Refused service (closed_by form it records) (record { outlet = outlet.old; went = went }) (record { outlet = outlet.new; went = result }) }
         ensures goes { GoesOn T.services T.faults (record { outlet = outlet.old; went = went }) (record { outlet = outlet.new; went = result }) }
     {
         match self {
@@ -136,25 +133,14 @@ impl<'a> ByKind<'a> {
         }
     }
 
-    /// The numbers of all that was taken since it began, but for its frames.
-    fn counts(&self) -> Counts
-        ensures packets { on_pid result ≡ pid_numbers_in self.now }
-        ensures units { of_units result ≡ unit_numbers_in self.now }
+    /// The numbers of all that was taken since it began.
+    fn counts(&self) -> ServiceCounts
+        ensures read { result ≡ counts_in self.now }
     {
         match self {
             ByKind::Ule(reception) => reception.counts(),
             ByKind::Mpe(reception) => reception.counts(),
-            ByKind::Fec(reception) => counts_of(&reception.counts()),
-        }
-    }
-
-    /// The numbers of its frames.
-    fn totals(&self) -> FrameTotals
-        ensures frames { totals_in result ≡ frame_numbers_in self.now }
-    {
-        match self {
-            ByKind::Ule(_) | ByKind::Mpe(_) => FrameTotals::new(),
-            ByKind::Fec(reception) => totals_of(&reception.counts()),
+            ByKind::Fec(reception) => reception.counts(),
         }
     }
 }
@@ -166,8 +152,7 @@ fn first_receiver(pid: u16, reception: ByKind<'_>) -> ServiceReceiver<'_>
     ServiceReceiver {
         pid,
         reception,
-        before: Counts::new(),
-        frames_before: FrameTotals::new(),
+        before: ServiceCounts::default(),
     }
 }
 
@@ -213,12 +198,11 @@ impl<'a> ServiceReceiver<'a> {
         ensures received { (form : RecordingForm) (it : ServiceFields) (records : List Record) → IsReceivingOne form filter.now packet.now.pid it self.old records
             → IsReception false form it self.new.reception (records ++ packet_record moment bytes.now ∷ []) }
         ensures delivered { (form : RecordingForm) (it : ServiceFields) (records : List Record) → IsReceivingOne form filter.now packet.now.pid it self.old records
-            → OnOk result (Told (T.StandsFor outlet.old) (T.StandsFor outlet.new) service (added_by form it records (packet_record moment bytes.now))) }
+            → OnOk result (Delivers (T.StandsFor outlet.old) (T.StandsFor outlet.new) (pairs_of service (added_by form it records (packet_record moment bytes.now)))) }
         ensures failed { (form : RecordingForm) (it : ServiceFields) (records : List Record) → IsReceivingOne form filter.now packet.now.pid it self.old records
-            → OnErr result (StopsWithin (T.StandsFor outlet.old) (T.StandsFor outlet.new) (T.Refused outlet.new service) service (added_by form it records (packet_record moment bytes.now))) }
+            → OnErr result (DeliversFront (T.StandsFor outlet.old) (T.StandsFor outlet.new) (T.Refused outlet.new) (pairs_of service (added_by form it records (packet_record moment bytes.now)))) }
         ensures pid { self.new.pid ≡ self.old.pid }
         ensures before { self.new.before ≡ self.old.before }
-        ensures frames_before { self.new.frames_before ≡ self.old.frames_before }
         ensures services { T.services outlet.new ≡ T.services outlet.old }
         ensures cause { HasCause (T.faults outlet.old) (T.faults outlet.new) result }
     {
@@ -243,11 +227,10 @@ impl<'a> ServiceReceiver<'a> {
         requires served { service < T.services outlet.old }
         ensures closed { Closes self.old.reception self.new.reception }
         ensures delivered { (form : RecordingForm) (it : ServiceFields) (records : List Record) → IsEndingOne form it self.old.reception records
-            → Delivers T.StandsFor T.Refused service (closed_by form it records) (record { outlet = outlet.old; went = went }) (record { outlet = outlet.new; went = result }) }
+            → DeliversAfter T.StandsFor T.Refused service (closed_by form it records) (record { outlet = outlet.old; went = went }) (record { outlet = outlet.new; went = result }) }
         ensures goes { GoesOn T.services T.faults (record { outlet = outlet.old; went = went }) (record { outlet = outlet.new; went = result }) }
         ensures pid { self.new.pid ≡ self.old.pid }
         ensures before { self.new.before ≡ self.old.before }
-        ensures frames_before { self.new.frames_before ≡ self.old.frames_before }
     {
         self.reception.close(service, went, outlet)
     }
@@ -256,28 +239,17 @@ impl<'a> ServiceReceiver<'a> {
     pub(crate) fn move_to(&mut self, pid: u16)
         ensures pid { self.new.pid ≡ pid }
         ensures fresh { (form : RecordingForm) (it : ServiceFields) → ReadsKind form self.old.reception it.kind → IsFresh form it self.new.reception }
-        ensures packets { on_pid self.new.before ≡ raised_numbers (on_pid self.old.before) (pid_numbers_in self.old.reception) }
-        ensures units { of_units self.new.before ≡ raised_units (of_units self.old.before) (unit_numbers_in self.old.reception) }
-        ensures frames { totals_in self.new.frames_before ≡ raised_frames (totals_in self.old.frames_before) (frame_numbers_in self.old.reception) }
+        ensures counts { self.new.before ≡ raised_counts self.old.before (counts_in self.old.reception) }
     {
         self.before = self.counts();
-        self.frames_before = self.totals();
         self.reception.begin_anew();
         self.pid = pid;
     }
 
-    /// The numbers of all that was taken, on this PID and on those before, but for frames.
-    pub(crate) fn counts(&self) -> Counts
-        ensures packets { on_pid result ≡ raised_numbers (on_pid self.now.before) (pid_numbers_in self.now.reception) }
-        ensures units { of_units result ≡ raised_units (of_units self.now.before) (unit_numbers_in self.now.reception) }
+    /// The numbers of all that was taken, on this PID and on those before.
+    pub(crate) fn counts(&self) -> ServiceCounts
+        ensures read { result ≡ raised_counts self.now.before (counts_in self.now.reception) }
     {
-        sum(&self.before, &self.reception.counts())
-    }
-
-    /// The numbers of all frames, on this PID and on those before.
-    pub(crate) fn totals(&self) -> FrameTotals
-        ensures frames { totals_in result ≡ raised_frames (totals_in self.now.frames_before) (frame_numbers_in self.now.reception) }
-    {
-        sum_totals(&self.frames_before, &self.reception.totals())
+        self.before.sum(&self.reception.counts())
     }
 }

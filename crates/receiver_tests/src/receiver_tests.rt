@@ -1,10 +1,12 @@
 //! Small recordings of several services: what is delivered, in which order, and every number.
-ghost use Rattle.std.specs.Prelude.{◌≡◌, ◌≤◌, ◌<◌, length};
+ghost use Rattle.std.specs.Prelude.{◌≡◌, ◌≤◌, ◌<◌, false, length};
+ghost use Rattle.plan_spec.specs.Plan.{is_baseband};
 ghost use Rattle.plan.specs.PlanView.{plan_fields};
+ghost use Rattle.demux_core.specs.Carriers.{plan_of as plan_in};
 
 use crate::receiver_cases::{Part, plan_of, record_of};
 use bumpalo::Bump;
-use demux_core::PacketReceiver;
+use demux_core::Receiver;
 use loss_report::{ServiceCounts, StreamCounts};
 use service_plan::{Plan, ule_plan};
 use std::alloc::Global;
@@ -78,9 +80,10 @@ const EMPTY: StreamCounts = StreamCounts {
 };
 
 /// Takes a record, where the receiver can be given one.
-fn take(receiver: &mut PacketReceiver<'_>, item: &Record, noted: &mut NotedOutlet)
-    requires { length receiver.old.plan.services ≤ 8 }
-    ensures { receiver.new.plan ≡ receiver.old.plan }
+fn take(receiver: &mut Receiver<'_>, item: &Record, noted: &mut NotedOutlet)
+    requires packets { is_baseband (plan_in receiver.old) ≡ false }
+    requires few { length (plan_in receiver.old).services ≤ 8 }
+    ensures { plan_in receiver.new ≡ plan_in receiver.old }
 {
     if receiver.is_open() && receiver.stream_counts().records < 1000 {
         match receiver.step(item, noted) {
@@ -91,8 +94,8 @@ fn take(receiver: &mut PacketReceiver<'_>, item: &Record, noted: &mut NotedOutle
 }
 
 /// The numbers of a service; none where there is no such service.
-fn numbers(receiver: &PacketReceiver<'_>, service: u32, count: usize) -> ServiceCounts
-    requires { count ≤ length receiver.now.plan.services }
+fn numbers(receiver: &Receiver<'_>, service: u32, count: usize) -> ServiceCounts
+    requires { count ≤ length (plan_in receiver.now).services }
 {
     if service as usize >= count {
         return NONE;
@@ -101,7 +104,7 @@ fn numbers(receiver: &PacketReceiver<'_>, service: u32, count: usize) -> Service
 }
 
 /// Which section is lent.
-fn lent_by(receiver: &PacketReceiver<'_>) -> Lent {
+fn lent_by(receiver: &Receiver<'_>) -> Lent {
     match receiver.table_section() {
         Some(section) => {
             if section == FIRST_INT.as_slice() {
@@ -115,9 +118,10 @@ fn lent_by(receiver: &PacketReceiver<'_>) -> Lent {
 }
 
 /// Gives a receiver records, and where it is open then the end; whether nothing was refused at the end.
-fn give(receiver: &mut PacketReceiver<'_>, parts: &[Part], noted: &mut NotedOutlet) -> bool
-    requires { length receiver.old.plan.services ≤ 8 }
-    ensures { receiver.new.plan ≡ receiver.old.plan }
+fn give(receiver: &mut Receiver<'_>, parts: &[Part], noted: &mut NotedOutlet) -> bool
+    requires packets { is_baseband (plan_in receiver.old) ≡ false }
+    requires few { length (plan_in receiver.old).services ≤ 8 }
+    ensures { plan_in receiver.new ≡ plan_in receiver.old }
 {
     for part in parts {
         take(receiver, &record_of(part), noted);
@@ -133,7 +137,7 @@ fn ran(alloc: Global, plan: &Plan, parts: &[Part], refuses_from: usize) -> Resul
     }
     let arena = Bump::new(alloc);
     let mut noted = NotedOutlet::new(refuses_from);
-    let mut receiver = PacketReceiver::open(&arena, plan)?;
+    let mut receiver = Receiver::open(&arena, plan)?;
     let is_finished = give(&mut receiver, parts, &mut noted);
     Ok(Ended {
         is_finished,

@@ -1,5 +1,5 @@
 //! Packets by hand, and what is counted of them.
-use service_reception::Counts;
+use service_counts::ServiceCounts;
 use test_recordings::units::{ADDRESSED, MAC, OTHER, SECTION, SNDU, TOO_SHORT};
 
 /// A packet, how often it comes, and what is counted of it and of a packet with a good unit.
@@ -11,11 +11,11 @@ pub(crate) struct Case<'a> {
     pub(crate) times: u8,
     /// An address that the filter lists.
     pub(crate) filter: Option<[u8; 6]>,
-    pub(crate) counts: Counts,
+    pub(crate) counts: ServiceCounts,
 }
 
 /// Nothing is counted.
-const NONE: Counts = Counts {
+const NONE: ServiceCounts = ServiceCounts {
     heard: 0,
     repeats: 0,
     gaps: 0,
@@ -25,11 +25,14 @@ const NONE: Counts = Counts {
     bad_length: 0,
     unread: 0,
     filtered: 0,
+    frames: 0,
+    rows_mended: 0,
+    rows_left: 0,
     datagrams: 0,
 };
 
 /// Both packets, and one unit with its datagram.
-const ONE: Counts = Counts {
+const ONE: ServiceCounts = ServiceCounts {
     heard: 2,
     units: 1,
     datagrams: 1,
@@ -37,7 +40,7 @@ const ONE: Counts = Counts {
 };
 
 /// Both packets, and their units with datagrams.
-pub(crate) const TWO: Counts = Counts {
+pub(crate) const TWO: ServiceCounts = ServiceCounts {
     heard: 2,
     units: 2,
     datagrams: 2,
@@ -71,19 +74,19 @@ pub(crate) static SNDUS: [Case; 14] = [
     Case {
         name: "a duplicate",
         times: 2,
-        counts: Counts { repeats: 1, ..TWO },
+        counts: ServiceCounts { repeats: 1, ..TWO },
         ..GOOD_SNDU
     },
     Case {
         name: "three duplicates",
         times: 4,
-        counts: Counts { repeats: 3, ..TWO },
+        counts: ServiceCounts { repeats: 3, ..TWO },
         ..GOOD_SNDU
     },
     Case {
         name: "none before it: no gap",
         times: 0,
-        counts: Counts { heard: 1, ..ONE },
+        counts: ServiceCounts { heard: 1, ..ONE },
         ..GOOD_SNDU
     },
     Case {
@@ -95,7 +98,7 @@ pub(crate) static SNDUS: [Case; 14] = [
     Case {
         name: "a pointer that passes it by one byte",
         pointer: 184,
-        counts: Counts {
+        counts: ServiceCounts {
             delimited: 1,
             ..ONE
         },
@@ -104,7 +107,7 @@ pub(crate) static SNDUS: [Case; 14] = [
     Case {
         name: "the largest pointer",
         pointer: 255,
-        counts: Counts {
+        counts: ServiceCounts {
             delimited: 1,
             ..ONE
         },
@@ -113,7 +116,7 @@ pub(crate) static SNDUS: [Case; 14] = [
     Case {
         name: "D and a Length of 3",
         unit: &[0x80, 3, 8, 0, 1, 2, 3],
-        counts: Counts {
+        counts: ServiceCounts {
             bad_length: 1,
             ..ONE
         },
@@ -122,7 +125,7 @@ pub(crate) static SNDUS: [Case; 14] = [
     Case {
         name: "a wrong CRC-32",
         unit: &DAMAGED,
-        counts: Counts {
+        counts: ServiceCounts {
             bad_check: 1,
             ..ONE
         },
@@ -131,7 +134,7 @@ pub(crate) static SNDUS: [Case; 14] = [
     Case {
         name: "a unit of 204 bytes, with which the good unit's packet does not go on",
         unit: &[0x80, 200, 8, 0],
-        counts: Counts {
+        counts: ServiceCounts {
             delimited: 1,
             ..ONE
         },
@@ -152,7 +155,7 @@ pub(crate) static SNDUS: [Case; 14] = [
         name: "another address",
         unit: &ADDRESSED,
         filter: Some([2; 6]),
-        counts: Counts {
+        counts: ServiceCounts {
             filtered: 1,
             datagrams: 1,
             ..TWO
@@ -171,13 +174,13 @@ pub(crate) static SECTIONS: [Case; 9] = [
     Case {
         name: "two duplicates",
         times: 3,
-        counts: Counts { repeats: 2, ..TWO },
+        counts: ServiceCounts { repeats: 2, ..TWO },
         ..GOOD_SECTION
     },
     Case {
         name: "a section_length of 4,094",
         unit: &[0x3E, 0xBF, 0xFE],
-        counts: Counts {
+        counts: ServiceCounts {
             bad_length: 1,
             ..ONE
         },
@@ -186,7 +189,7 @@ pub(crate) static SECTIONS: [Case; 9] = [
     Case {
         name: "a Total Length of 19",
         unit: &TOO_SHORT,
-        counts: Counts {
+        counts: ServiceCounts {
             unread: 1,
             datagrams: 1,
             ..TWO
@@ -196,7 +199,7 @@ pub(crate) static SECTIONS: [Case; 9] = [
     Case {
         name: "another table_id",
         unit: &OTHER,
-        counts: Counts {
+        counts: ServiceCounts {
             unread: 1,
             datagrams: 1,
             ..TWO
@@ -206,7 +209,7 @@ pub(crate) static SECTIONS: [Case; 9] = [
     Case {
         name: "a pointer that passes the payload",
         pointer: 184,
-        counts: Counts {
+        counts: ServiceCounts {
             delimited: 1,
             ..ONE
         },
@@ -221,7 +224,7 @@ pub(crate) static SECTIONS: [Case; 9] = [
         name: "the listed address, and no datagram",
         unit: &TOO_SHORT,
         filter: Some(MAC),
-        counts: Counts {
+        counts: ServiceCounts {
             unread: 1,
             datagrams: 1,
             ..TWO
@@ -231,7 +234,7 @@ pub(crate) static SECTIONS: [Case; 9] = [
     Case {
         name: "another address",
         filter: Some([2; 6]),
-        counts: Counts {
+        counts: ServiceCounts {
             filtered: 2,
             datagrams: 0,
             ..TWO
@@ -242,7 +245,7 @@ pub(crate) static SECTIONS: [Case; 9] = [
         name: "another address, and no datagram",
         unit: &TOO_SHORT,
         filter: Some([2; 6]),
-        counts: Counts {
+        counts: ServiceCounts {
             unread: 1,
             filtered: 1,
             datagrams: 0,

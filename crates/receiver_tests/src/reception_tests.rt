@@ -3,7 +3,8 @@ use crate::reception_cases::{Case, SECTIONS, SNDUS, TWO};
 use addr_rules::MacList;
 use ipe_io::Failed;
 use section_codec::SectionForm;
-use service_reception::{Counts, Reception, TableReception, UnitReader};
+use service_counts::ServiceCounts;
+use service_reception::{Reception, TableReception, UnitReader};
 use std::alloc::Global;
 use std::test::Fail;
 use test_recordings::units::{DATAGRAM, INT, INT_OF_TWO, NEXT_INT, OTHER, SECTION, SNDU};
@@ -114,7 +115,7 @@ fn two_thousand_headers_are_passed(rt: HostRuntime) -> Result<(), Fail> {
     let mut reception = reception_of::<UleForm>(rt.alloc())?;
     let mut noted = NotedOutlet::new(100);
     take_headers(&mut reception, &filter, &mut noted)?;
-    let counts = Counts {
+    let counts = ServiceCounts {
         heard: 23,
         gaps: 1,
         ..TWO
@@ -347,7 +348,7 @@ fn begin_anew_in_a_unit(
     unit[..4].copy_from_slice(&[0x80, 0xC4, 8, 0]);
     take(reception, &start(0, 0, &unit), filter, noted)?;
     reception.begin_anew();
-    let is_anew = reception.counts() == Counts::new();
+    let is_anew = reception.counts() == ServiceCounts::default();
     take(reception, &go_on(1, &unit[183..]), filter, noted)?;
     take(reception, &start(2, 0, &SNDU), filter, noted)?;
     Ok(is_anew)
@@ -361,11 +362,11 @@ fn a_unit_under_way_ends_where_a_reception_begins_anew(rt: HostRuntime) -> Resul
     let mut noted = NotedOutlet::new(100);
     let is_anew = begin_anew_in_a_unit(&mut reception, &filter, &mut noted)?;
     assert!(rt; is_anew);
-    let counts = Counts {
+    let counts = ServiceCounts {
         heard: 2,
         units: 1,
         datagrams: 1,
-        ..Counts::new()
+        ..ServiceCounts::default()
     };
     assert_eq!(rt; reception.counts(), counts);
     Ok(())

@@ -9,9 +9,11 @@ use Rattle.plan.specs.Parts.{service_seen}
 use Rattle.plan.specs.PlanView.{plan_fields}
 use Rattle.bb_stream_law.proofs.PlanChecks.{of_whole}
 use Rattle.bb_reception_spec.specs.Delivered.{service_at, added_by}
+use Rattle.outlet_spec.specs.Pairs.{pairs_of}
+use Rattle.outlet_spec.proofs.Pairs.{delivers_nothing, delivers_same, front_same}
 use Rattle.bb_demux.specs.Finding.{is_on_isi}
 use Rattle.bb_demux.specs.declared.services.IsiReceiver.{IsiReceiver}
-use Rattle.bb_demux.proofs.OneFrame.{foreign, none_on, none_pairs, other_off, not_foreign, to_receive, one_on, one_pairs, told_none, told_one, stopped_one}
+use Rattle.bb_demux.proofs.OneFrame.{foreign, none_on, none_pairs, other_off, not_foreign, to_receive, one_on, one_pairs}
 use Rattle.bb_demux.proofs.frames.receive_frame.Goals as goal
 
 -- Of no service.
@@ -28,7 +30,7 @@ returns-in-None-clause-other g c = λ frames b read on.
 
 pub returns-in-None-clause-written : goal.returns-in-None-clause-written
 returns-in-None-clause-written g c = λ frames b read few on.
-    told_none (g.T.Outlet.StandsFor c.args.outlet.now) _
+    delivers_nothing (g.T.Outlet.StandsFor c.args.outlet.now) _
     (none_pairs (plan_fields c.args.plan.now) c.args.receivers.now frames b on
     (other_off (plan_fields c.args.plan.now) c.args.receivers.now frames b on c.args.frame.now read (sym c.place_of.ensures.found ∙ c.in-None.is)))
 
@@ -81,7 +83,7 @@ returns-clause-written g c = λ frames b read few on.
     let found = sym c.place_of.ensures.found ∙ c.in-Some.is in
     let receiving = to_receive plan c.args.receivers.now frames b on c.args.frame.now read c.in-Some.at c.index-receivers-at.result found c.index-receivers-at.is
     (service_seen c.at.result.now) (slice_get-map service_seen c.args.plan.now.services c.in-Some.at ∙ ap (option_map service_seen) c.at.ensures.read) few in
-    told_one (g.T.Outlet.StandsFor c.args.outlet.now) (g.T.Outlet.StandsFor c.take.new.outlet) c.in-Some.at (added_by (service_at plan c.in-Some.at) frames b) _
+    delivers_same (g.T.Outlet.StandsFor c.args.outlet.now) (g.T.Outlet.StandsFor c.take.new.outlet) (pairs_of c.in-Some.at (added_by (service_at plan c.in-Some.at) frames b)) _
     (one_pairs plan c.args.receivers.now frames b on c.args.frame.now read c.in-Some.at c.index-receivers-at.result found c.index-receivers-at.is
     (of_whole plan c.args.plan.now.whole c.requires.baseband).differ)
     (c.in_ok-take.ensures.delivered (service_at plan c.in-Some.at) frames b read receiving)
@@ -94,7 +96,7 @@ returns-in_err-take-clause-failed g c = λ frames b read few on.
     (service_seen c.at.result.now) (slice_get-map service_seen c.args.plan.now.services c.in-Some.at ∙ ap (option_map service_seen) c.at.ensures.read) few in
     let failed = err_from_is_err_and c.from_residual.result c.from_residual.ensures.1 in
     rw failed.1
-    (stopped_one (g.T.Outlet.StandsFor c.args.outlet.now) (g.T.Outlet.StandsFor c.take.new.outlet) (g.T.Outlet.Refused c.take.new.outlet) c.in-Some.at (added_by (service_at plan c.in-Some.at) frames b) _
+    (front_same (g.T.Outlet.StandsFor c.args.outlet.now) (g.T.Outlet.StandsFor c.take.new.outlet) (g.T.Outlet.Refused c.take.new.outlet) (pairs_of c.in-Some.at (added_by (service_at plan c.in-Some.at) frames b)) _
     (one_pairs plan c.args.receivers.now frames b on c.args.frame.now read c.in-Some.at c.index-receivers-at.result found c.index-receivers-at.is
     (of_whole plan c.args.plan.now.whole c.requires.baseband).differ)
     (c.in_err-take.ensures.failed (service_at plan c.in-Some.at) frames b read receiving))

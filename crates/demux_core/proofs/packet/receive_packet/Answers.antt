@@ -11,11 +11,11 @@ use Rattle.reception_spec.specs.Spans.{span_of}
 use Rattle.reception_spec.specs.Delivered.{service_on, pairs_of_record}
 use Rattle.reception_law.specs.Words.{added_by}
 use Rattle.service_reception.specs.Reception.{packet_record}
-use Rattle.bb_demux.specs.Outlets.{Delivers, DeliversFront}
+use Rattle.outlet_spec.specs.Pairs.{pairs_of, Delivers, DeliversFront}
+use Rattle.outlet_spec.proofs.Pairs.{delivers_nothing, delivers_same, front_same}
 use Rattle.demux_core.specs.Services.{HaveAllReceived, is_table_pid}
 use Rattle.demux_core.specs.declared.table.TableReceiver.{TableReceiver}
 use Rattle.demux_core.proofs.Laws.{Laws, laws_of}
-use Rattle.demux_core.proofs.Whole.{told_one, told_none, stopped_one}
 use Rattle.demux_core.proofs.OnePacket.{left_as, none_received, none_known, none_pairs, one_known, to_receive, one_received, one_pairs}
 use Rattle.demux_core.proofs.packet.receive_packet.Goals as goal
 
@@ -58,7 +58,7 @@ returns-in-None-clause-written g c = λ records few all.
     let now : HaveAllReceived false plan c.receive_table.new.services.receivers.items c.receive_table.new.table records =
     left_as plan c.args.services.now c.receive_table.new.services c.args.table.now c.receive_table.new.table records left.0 left.1 all in
     subst (λ o. Delivers (g.T.Outlet.StandsFor c.args.outlet.now) (g.T.Outlet.StandsFor o) (pairs_of_record plan (records ++ packet_record c.args.moment c.args.bytes.now ∷ []) (length records))) (sym left.2)
-    (told_none (g.T.Outlet.StandsFor c.args.outlet.now) _
+    (delivers_nothing (g.T.Outlet.StandsFor c.args.outlet.now) _
     (none_pairs plan laws c.requires.fits.right_changes c.receive_table.new.services.receivers.items c.receive_table.new.table records
     c.args.moment c.args.bytes.now c.args.packet.now.pid c.requires.read.readable pid still now
     (sym c.place_of.ensures ∙ c.in-None.is)))
@@ -82,7 +82,7 @@ returns-clause-received g c = λ records few all.
     (service_seen c.at.result.now) (slice_get-map service_seen c.args.plan.now.services c.in-Some.at ∙ ap (option_map service_seen) c.at.ensures.read) few in
     one_received plan laws c.requires.fits.right_changes c.receive_table.new.services.receivers.items c.receive_table.new.table records
     c.args.moment c.args.bytes.now c.args.packet.now.pid c.requires.read.readable pid still now
-    c.in-Some.at c.index_mut.result.now (sym c.place_of.ensures ∙ c.in-Some.is) c.index_mut.ensures.value c.take.new.self c.take.ensures.pid c.take.ensures.before c.take.ensures.frames_before
+    c.in-Some.at c.index_mut.result.now (sym c.place_of.ensures ∙ c.in-Some.is) c.index_mut.ensures.value c.take.new.self c.take.ensures.pid c.take.ensures.before
     (c.take.ensures.received plan.recording it span receiving)
 
 pub returns-in_err-take-clause-received : goal.returns-in_err-take-clause-received
@@ -104,7 +104,7 @@ returns-in_err-take-clause-received g c = λ records few all.
     (service_seen c.at.result.now) (slice_get-map service_seen c.args.plan.now.services c.in-Some.at ∙ ap (option_map service_seen) c.at.ensures.read) few in
     one_received plan laws c.requires.fits.right_changes c.receive_table.new.services.receivers.items c.receive_table.new.table records
     c.args.moment c.args.bytes.now c.args.packet.now.pid c.requires.read.readable pid still now
-    c.in-Some.at c.index_mut.result.now (sym c.place_of.ensures ∙ c.in-Some.is) c.index_mut.ensures.value c.take.new.self c.take.ensures.pid c.take.ensures.before c.take.ensures.frames_before
+    c.in-Some.at c.index_mut.result.now (sym c.place_of.ensures ∙ c.in-Some.is) c.index_mut.ensures.value c.take.new.self c.take.ensures.pid c.take.ensures.before
     (c.take.ensures.received plan.recording it span receiving)
 
 pub returns-clause-known : goal.returns-clause-known
@@ -155,8 +155,8 @@ returns-clause-written g c = λ records few all.
     c.in-Some.at c.index_mut.result.now (sym c.place_of.ensures ∙ c.in-Some.is) c.index_mut.ensures.value
     (service_seen c.at.result.now) (slice_get-map service_seen c.args.plan.now.services c.in-Some.at ∙ ap (option_map service_seen) c.at.ensures.read) few in
     subst (λ o. Delivers (g.T.Outlet.StandsFor o) (g.T.Outlet.StandsFor c.take.new.outlet) (pairs_of_record plan (records ++ packet_record c.args.moment c.args.bytes.now ∷ []) (length records))) left.2
-    (told_one (g.T.Outlet.StandsFor c.receive_table.new.outlet) (g.T.Outlet.StandsFor c.take.new.outlet) c.in-Some.at
-    (added_by plan.recording it span (packet_record c.args.moment c.args.bytes.now)) _
+    (delivers_same (g.T.Outlet.StandsFor c.receive_table.new.outlet) (g.T.Outlet.StandsFor c.take.new.outlet)
+    (pairs_of c.in-Some.at (added_by plan.recording it span (packet_record c.args.moment c.args.bytes.now))) _
     (one_pairs plan laws c.requires.fits.right_changes c.receive_table.new.services.receivers.items c.receive_table.new.table records
     c.args.moment c.args.bytes.now c.args.packet.now.pid c.requires.read.readable pid still now
     c.in-Some.at c.index_mut.result.now (sym c.place_of.ensures ∙ c.in-Some.is) c.index_mut.ensures.value)
@@ -182,8 +182,8 @@ returns-in_err-take-clause-failed g c = λ records few all.
     let failed = err_from_is_err_and c.from_residual-in_err-take.result c.from_residual-in_err-take.ensures.1 in
     rw failed.1
     (subst (λ o. DeliversFront (g.T.Outlet.StandsFor o) (g.T.Outlet.StandsFor c.take.new.outlet) (g.T.Outlet.Refused c.take.new.outlet) (pairs_of_record plan (records ++ packet_record c.args.moment c.args.bytes.now ∷ []) (length records))) left.2
-    (stopped_one (g.T.Outlet.StandsFor c.receive_table.new.outlet) (g.T.Outlet.StandsFor c.take.new.outlet) (g.T.Outlet.Refused c.take.new.outlet) c.in-Some.at
-    (added_by plan.recording it span (packet_record c.args.moment c.args.bytes.now)) _
+    (front_same (g.T.Outlet.StandsFor c.receive_table.new.outlet) (g.T.Outlet.StandsFor c.take.new.outlet) (g.T.Outlet.Refused c.take.new.outlet)
+    (pairs_of c.in-Some.at (added_by plan.recording it span (packet_record c.args.moment c.args.bytes.now))) _
     (one_pairs plan laws c.requires.fits.right_changes c.receive_table.new.services.receivers.items c.receive_table.new.table records
     c.args.moment c.args.bytes.now c.args.packet.now.pid c.requires.read.readable pid still now
     c.in-Some.at c.index_mut.result.now (sym c.place_of.ensures ∙ c.in-Some.is) c.index_mut.ensures.value)

@@ -9,9 +9,10 @@ use Rattle.reception_spec.specs.Spans.{version_at_end}
 use Rattle.service_reception.specs.Reception.{packet_record}
 use Rattle.service_reception.proofs.Records.{is_of_read}
 use Rattle.demux_core.specs.Moving.{AllFollow}
-use Rattle.bb_demux.specs.Outlets.{Delivers, DeliversFront}
+use Rattle.outlet_spec.specs.Pairs.{Delivers, DeliversFront}
 use Rattle.demux_core.proofs.Laws.{laws_of}
-use Rattle.demux_core.proofs.Whole.{told_none, int_took, int_switched, int_gives_none, int_gives}
+use Rattle.outlet_spec.proofs.Pairs.{delivers_nothing}
+use Rattle.demux_core.proofs.Whole.{int_took, int_switched, int_gives_none, int_gives}
 use Rattle.demux_core.proofs.packet.receive_table.Goals as goal
 
 pub move_services-requires-clause-version : goal.move_services-requires-clause-version
@@ -90,7 +91,7 @@ returns-else-version-before-clause-received g c = λ records few all own.
 pub returns-else-version-before-clause-written : goal.returns-else-version-before-clause-written
 returns-else-version-before-clause-written g c = λ records few all own.
     let plan : PlanFields = plan_fields c.args.plan.now in
-    told_none (g.T.Outlet.StandsFor c.args.outlet.now) _
+    delivers_nothing (g.T.Outlet.StandsFor c.args.outlet.now) _
     (int_gives_none plan (laws_of plan c.requires.fits.right_changes) c.args.services.now.receivers.items c.args.table.now records (packet_record c.args.moment c.args.bytes.now) all
     c.requires.fits.right_changes c.args.packet.now.pid (sym (ap (λ (f : PacketFields). f.pid) c.requires.read.fields_are)) c.take_for_table.new.table own
     (c.take_for_table.ensures.received plan records few all.int c.if-not-take_for_table.false)

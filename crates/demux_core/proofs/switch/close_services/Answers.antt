@@ -4,7 +4,7 @@ use Rattle.std.proofs.lemmas.List.{length-set, length-map}
 use Rattle.std.proofs.lemmas.Option.{slice_get_read}
 use Rattle.plan.specs.Parts.{service_seen}
 use Rattle.plan.specs.PlanView.{plan_fields}
-use Rattle.bb_demux.specs.Outlets.{Delivers, DeliversFront}
+use Rattle.outlet_spec.specs.Pairs.{Delivers, DeliversFront}
 use Rattle.demux_core.specs.Moving.{closed_at}
 use Rattle.demux_core.proofs.Closing.{HasClosed, set_next, left_next, on_then, one_closed, places_stay, pairs_below, all_ended}
 use Rattle.demux_core.proofs.switch.close_services.Goals as goal
@@ -25,7 +25,6 @@ loop-at-preserved g c =
           c.loop-at.invariant.3 c.loop-at.invariant.4 there (record {
             pid_same = c.close-went.ensures.pid;
             before_same = c.close-went.ensures.before;
-            frames_same = c.close-went.ensures.frames_before;
             closes = c.close-went.ensures.closed;
           }),
       left_next c.args.services.now.receivers.items c.loop-at.services.receivers.items c.loop-at.at c.close-went.new.self c.loop-at.invariant.4,

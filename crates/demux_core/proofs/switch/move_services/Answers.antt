@@ -5,7 +5,7 @@ use Rattle.std.proofs.lemmas.Option.{slice_get_read, slice_get_within}
 use Rattle.plan_spec.specs.Changes.{pid_in}
 use Rattle.plan.specs.Parts.{service_seen}
 use Rattle.plan.specs.PlanView.{plan_fields}
-use Rattle.bb_demux.specs.Outlets.{Delivers, DeliversFront}
+use Rattle.outlet_spec.specs.Pairs.{Delivers, DeliversFront}
 use Rattle.demux_core.specs.Moving.{Follows, closed_by_switch}
 use Rattle.demux_core.proofs.Closing.{set_next, left_next, on_then, one_switched, pairs_below}
 use Rattle.demux_core.proofs.switch.move_services.Goals as goal

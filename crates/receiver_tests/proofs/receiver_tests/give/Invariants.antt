@@ -1,5 +1,8 @@
-use Rattle.std.proofs.Common.{◌≡◌, ◌≤◌, length}
+use Rattle.std.proofs.Common.{◌≡◌, ◌≤◌, false, length}
+use Rattle.plan_spec.specs.Plan.{is_baseband}
+use Rattle.demux_core.specs.Carriers.{plan_of}
 use Rattle.receiver_tests.proofs.receiver_tests.give.Given as goal
 
 abbrev pub invariant-loop-part : goal.invariant-loop-part
-invariant-loop-part l = (l.receiver.plan ≡ l.initial.receiver.plan) × (length l.receiver.plan.services ≤ 8)
+invariant-loop-part l =
+    (plan_of l.receiver ≡ plan_of l.initial.receiver) × (is_baseband (plan_of l.receiver) ≡ false) × (length (plan_of l.receiver).services ≤ 8)

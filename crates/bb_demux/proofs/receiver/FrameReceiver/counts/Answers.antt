@@ -2,7 +2,7 @@ use Rattle.std.proofs.Common.{◌≡◌, ◌<◌, length, Some, refl, ap₂, ◌
 use Rattle.std.specs.Prelude.{slice_get}
 use Rattle.std.proofs.lemmas.Option.{slice_get_read}
 use Rattle.bb_reception_spec.specs.Delivered.{service_at}
-use Rattle.bb_demux.specs.Counts.{service_counts_of}
+use Rattle.gse_reception.specs.Counting.{service_counts_of}
 use Rattle.bb_demux.specs.Receiving.{FrameReceiverState, HasReceived, IsOn}
 use Rattle.bb_demux.proofs.receiver.FrameReceiver.counts.Goals as goal
 
@@ -15,5 +15,5 @@ returns c = record {
       slice_get_read c.self.inside.services.items (length c.self.inside.services.items) c.args.service c.index-receiver.result.now refl
       (omega (arith, asked, c.self.invariant.1)) c.index-receiver.ensures in
       let one : IsOn (service_at plan c.args.service) c.index-receiver.result.now frames = seen.all.each c.args.service c.index-receiver.result.now there in
-      ap₂ service_counts_of (c.counts-counts.ensures.isi ∙ one.taken.of_isi_are) (c.counts-counts.ensures.pdus ∙ one.taken.of_pdus_are);
+      c.counts.ensures.read ∙ ap₂ service_counts_of one.taken.of_isi_are one.taken.of_pdus_are;
 }

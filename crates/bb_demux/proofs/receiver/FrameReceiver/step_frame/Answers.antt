@@ -3,9 +3,10 @@ use Rattle.std.proofs.lemmas.List.{with_items_is}
 use Rattle.plan_spec.specs.Plan.{PlanFields}
 use Rattle.plan.specs.PlanView.{plan_fields}
 use Rattle.bb_reception_spec.specs.Delivered.{pairs_of_frame}
-use Rattle.bb_demux.specs.Outlets.{Delivers}
+use Rattle.outlet_spec.specs.Pairs.{Delivers}
+use Rattle.outlet_spec.proofs.Pairs.{delivers_nothing}
 use Rattle.bb_demux.specs.Receiving.{FrameReceiverState, HasReceived}
-use Rattle.bb_demux.proofs.OneFrame.{refused_off, none_pairs, told_none}
+use Rattle.bb_demux.proofs.OneFrame.{refused_off, none_pairs}
 use Rattle.bb_demux.proofs.Counted.{few_frames}
 use Rattle.bb_demux.proofs.Whole.{lent_on, refused_received, other_received, own_received}
 use Rattle.bb_demux.proofs.receiver.FrameReceiver.step_frame.Goals as goal
@@ -22,7 +23,7 @@ returns-in-Err-clause-received g c = λ plan frames has.
 pub returns-in-Err-clause-written : goal.returns-in-Err-clause-written
 returns-in-Err-clause-written g c = λ plan frames has.
     let seen : HasReceived plan frames _ = subst (λ (v : FrameReceiverState). HasReceived plan frames v) (sym c.self.view_is) has in
-    told_none (g.T.Outlet.StandsFor c.args.outlet.now) _
+    delivers_nothing (g.T.Outlet.StandsFor c.args.outlet.now) _
     (none_pairs plan c.self.inside.services.items frames c.args.frame.now seen.all (refused_off plan c.self.inside.services.items frames c.args.frame.now seen.all c.in-Err.ensures.refused))
 
 -- One of a service.

@@ -4,7 +4,7 @@ use Rattle.plan.specs.PlanView.{plan_fields}
 use Rattle.reception_spec.specs.Spans.{version_at_end}
 use Rattle.reception_spec.specs.Delivered.{pairs_of_end}
 use Rattle.loss_report.specs.declared.counts.StreamCounts.{StreamCounts}
-use Rattle.bb_demux.specs.Outlets.{Delivers, DeliversFront}
+use Rattle.outlet_spec.specs.Pairs.{Delivers, DeliversFront}
 use Rattle.demux_core.specs.Receiving.{ReceiverState, HasReceived}
 use Rattle.demux_core.specs.Services.{HaveAllReceived}
 use Rattle.demux_core.proofs.Laws.{laws_of}

@@ -9,7 +9,7 @@ use Rattle.reception_spec.specs.Spans.{version_at_end}
 use Rattle.service_reception.specs.Reception.{packet_record}
 use Rattle.demux_core.specs.Receiving.{ReceiverState, HasReceived}
 use Rattle.demux_core.proofs.Laws.{Laws, laws_of}
-use Rattle.demux_core.proofs.Whole.{told_none}
+use Rattle.outlet_spec.proofs.Pairs.{delivers_nothing}
 use Rattle.demux_core.proofs.Numbers.{unreadable_is, unreadable_on_none, without_is, without_on_none, packet_is, unreadable_more, without_more, other_more, records_more, few_records, all_miss, none_given, all_along}
 use Rattle.demux_core.proofs.packet_receiver.PacketReceiver.step_record.Goals as goal
 
@@ -31,7 +31,7 @@ pub returns-in-WithoutPayload-clause-written : goal.returns-in-WithoutPayload-cl
 returns-in-WithoutPayload-clause-written g c = λ plan records has.
     let seen : HasReceived false plan records _ = (subst (λ (v : ReceiverState). HasReceived false plan records v) (sym c.self.view_is) has) in
     let laws : Laws plan = laws_of plan (subst (λ (p : PlanFields). has_wrong_change p ≡ false) seen.plan_is c.self.invariant.0.right_changes) in
-    told_none (g.T.Outlet.StandsFor c.args.outlet.now) _
+    delivers_nothing (g.T.Outlet.StandsFor c.args.outlet.now) _
     (none_given plan laws c.self.inside.services.receivers.items c.self.inside.table records (packet_with c.args.moment c.args.bytes.now) (without_on_none (packet_with c.args.moment c.args.bytes.now) c.in-WithoutPayload.ensures.holds) seen.all)
 
 pub returns-in-Unreadable-clause-received : goal.returns-in-Unreadable-clause-received
@@ -49,7 +49,7 @@ pub returns-in-Unreadable-clause-written : goal.returns-in-Unreadable-clause-wri
 returns-in-Unreadable-clause-written g c = λ plan records has.
     let seen : HasReceived false plan records _ = (subst (λ (v : ReceiverState). HasReceived false plan records v) (sym c.self.view_is) has) in
     let laws : Laws plan = laws_of plan (subst (λ (p : PlanFields). has_wrong_change p ≡ false) seen.plan_is c.self.invariant.0.right_changes) in
-    told_none (g.T.Outlet.StandsFor c.args.outlet.now) _
+    delivers_nothing (g.T.Outlet.StandsFor c.args.outlet.now) _
     (none_given plan laws c.self.inside.services.receivers.items c.self.inside.table records (packet_with c.args.moment c.args.bytes.now) (unreadable_on_none (packet_with c.args.moment c.args.bytes.now) c.in-Unreadable.ensures.holds) seen.all)
 
 pub returns-in-Ok-true-clause-received : goal.returns-in-Ok-true-clause-received
