@@ -5,9 +5,10 @@ use Rattle.datagram_routing.specs.declared.offered.Offered.{Offered}
 use Rattle.bb_mux.specs.Sending.{WritesBaseband, IsUnderPlan as IsInFrames}
 use Rattle.bb_mux.specs.declared.sending.StreamFault.{StreamFault}
 use Rattle.carrier_law.proofs.Cases.{in_frames, in_records}
-use Rattle.mux_core.specs.Sending.{IsUnderPlan, WritesStream, WritesPackets}
-use Rattle.mux_core.specs.declared.sending.Sent.{Sent}
-use Rattle.mux_core.specs.declared.sending.MuxFault.{MuxFault}
+use Rattle.ts_mux.specs.Sending.{IsUnderPlan, WritesPackets}
+use Rattle.ts_mux.specs.declared.sending.Sent.{Sent}
+use Rattle.ts_mux.specs.declared.sending.MuxFault.{MuxFault}
+use Rattle.mux_core.specs.Sending.{WritesStream}
 
 -- what was offered is the same for both
 pub in_frames_under : (plan : PlanFields) (offer : Offered) → IsUnderPlan plan offer → IsInFrames plan offer

@@ -1,24 +1,11 @@
-//! The sender's stream: the packets of all services and of the INT, slot by slot, or the baseband frames of all services in rotation.
+//! The sender's stream, by the carrier of the plan: transport packets, or baseband frames.
 //!
-//! Sending: capture -> pcap_file -> datagram_routing -> [mux_core] -> Sink.
+//! Sending: capture -> pcap_file -> datagram_routing -> ts_mux, bb_mux, one of them by [mux_core] -> Sink.
 //! Begin with `stream`.
 #![tactic(auto)]
 
-mod batch;
 mod carriers;
-mod int_packets;
-mod int_section;
-mod part_units;
-mod records;
-mod sending;
-mod service_packets;
-mod service_units;
-mod services;
-mod slots;
-mod stamps;
-mod unit_bytes;
-mod units;
 
 pub use carriers::stream;
 pub use datagram_routing::{Lists, Offered};
-pub use sending::{MuxFault, Sent};
+pub use ts_mux::{MuxFault, Sent};

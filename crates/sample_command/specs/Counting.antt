@@ -1,7 +1,7 @@
 -- What is counted of delivered datagrams.
 use Rattle.std.specs.Prelude.{◌≡◌, ℕ, List, length}
 use Rattle.wire_spec.specs.Causes.{raised}
-use Rattle.reception_law.specs.Words.{datagrams_of}
+use Rattle.outlet_spec.specs.Pairs.{datagrams_of}
 use Rattle.sample_command.specs.declared.outlet.Delivered.{Delivered}
 
 -- the number of a service's datagrams among pairs of service and datagram

@@ -7,20 +7,21 @@ ghost use Rattle.plan_spec.specs.Offered.{Records, offered_in};
 ghost use Rattle.plan.specs.PlanView.{plan_fields};
 ghost use Rattle.ipe_io.specs.Counts.{IsFlushed};
 ghost use Rattle.datagram_routing.specs.Offering.{IsOffered};
-ghost use Rattle.mux_core.specs.Sending.{IsUnderPlan};
-ghost use Rattle.mux_core.specs.declared.sending.MuxFault.TheVariants.{Sink as SinkFault, OutOfMemory as NoMemory};
+ghost use Rattle.ts_mux.specs.Sending.{IsUnderPlan};
+ghost use Rattle.ts_mux.specs.declared.sending.MuxFault.TheVariants.{Sink as SinkFault, OutOfMemory as NoMemory};
 ghost use Rattle.sample_spec.specs.Summary.{IsSummary};
 ghost use Rattle.sample_command.specs.Numbers.{HoldsStream};
 
 use crate::held::Held;
 use crate::losses::receive_rest;
 use crate::summary::{ServiceNumbers, Summary, summary_text};
+use datagram_routing::Offered;
 use ipe_io::{Failed, OutOfMemory, Sink, put_all};
-use mux_core::{MuxFault, Offered, stream};
 use plan::{Plan, sample_plan};
 use sample_draws::{Draws, a_sample_offers_datagrams, offer_sample};
 use std::alloc::Global;
 use stream_law::a_stream_is_cut_into_its_records;
+use ts_mux::{MuxFault, stream_packets};
 
 /// The stream of a sample.
 #[derive(Drop)]
@@ -88,7 +89,7 @@ fn send_sample(alloc: Global, plan: &Plan, offered: &Offered) -> Result<SentSamp
     ensures sent { (gives : Records) → IsOffered plan_of_sample gives offered.now → IfOk result (λ sent. HoldsStream (offered_in plan_of_sample gives) sent) }
 {
     let mut held = Held::new(alloc);
-    let Ok(sent) = stream(alloc, plan, offered, &mut held) else {
+    let Ok(sent) = stream_packets(alloc, plan, offered, &mut held) else {
         return Err(OutOfMemory);
     };
     match u32::try_from(sent.packets) {

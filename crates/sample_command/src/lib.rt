@@ -1,6 +1,6 @@
 //! The command `sample`: datagrams by draws are sent, a part of the stream is lost by draws, the rest is received, all in memory; the summary out.
 //!
-//! Both ways: sample_draws -> mux_core -> stream with losses -> demux_core -> summary -> Sink, all of it in [sample_command].
+//! Both ways: sample_draws -> ts_mux -> stream with losses -> demux_core -> summary -> Sink, all of it in [sample_command].
 //! Begin with `sample`.
 #![tactic(auto)]
 

@@ -17,7 +17,7 @@ use Rattle.plan_spec.specs.Offered.{Records}
 use Rattle.stream_law.specs.Captures.{datagram_in, given_by}
 use Rattle.datagram_routing.specs.Offering.{IsOffered, HasRoom}
 use Rattle.datagram_routing.specs.declared.offered.Offered.{Offered}
-use Rattle.mux_core.specs.Sending.{IsUnderPlan}
+use Rattle.ts_mux.specs.Sending.{IsUnderPlan}
 use Rattle.send_command.specs.Gathering.{IsIntake, IsGathered}
 use Rattle.send_command.specs.declared.gather.Gathered.{Gathered}
 use Rattle.send_command.specs.declared.gather.PlacedFault.{PlacedFault}

@@ -9,8 +9,9 @@ use Rattle.plan_spec.specs.Plan.{PlanFields}
 use Rattle.plan_spec.specs.Offered.{Records, offered_in}
 use Rattle.stream_law.specs.Captures.{given_by}
 use Rattle.datagram_routing.specs.Offering.{IsOffered}
-use Rattle.mux_core.specs.Sending.{WritesStream, datagram_count}
-use Rattle.mux_core.specs.declared.sending.Sent.{Sent}
+use Rattle.mux_core.specs.Sending.{WritesStream}
+use Rattle.ts_mux.specs.Sending.{datagram_count}
+use Rattle.ts_mux.specs.declared.sending.Sent.{Sent}
 use Rattle.send_command.specs.Gathering.{IsGathered}
 use Rattle.send_command.specs.Sending.{SendsAll, SendsFront}
 use Rattle.send_command.specs.declared.ends.Tally.{Tally}

@@ -5,7 +5,7 @@ ghost use Rattle.pcap_file.specs.Reader.{is_cut, rest_of};
 ghost use Rattle.pcap_file.specs.declared.faults.CaptureFault.{CaptureFault as FaultFound};
 ghost use Rattle.plan.specs.PlanView.{plan_fields};
 ghost use Rattle.datagram_routing.specs.Offering.{HasRoom};
-ghost use Rattle.mux_core.specs.Sending.{IsUnderPlan};
+ghost use Rattle.ts_mux.specs.Sending.{IsUnderPlan};
 ghost use Rattle.send_command.specs.Gathering.{HasReadCause, IsIntake, IsGathered, ReadsAll, ReadsNext, TakesIn};
 
 use datagram_routing::Offered;

@@ -5,7 +5,7 @@ use Rattle.pcap_file.specs.Reader.{Takes, rest_of}
 use Rattle.pcap_file.proofs.Shown.{no_fault_in_head}
 use Rattle.plan.specs.PlanView.{plan_fields}
 use Rattle.datagram_routing.specs.declared.offered.Offered.{Offered}
-use Rattle.mux_core.specs.Sending.{IsUnderPlan}
+use Rattle.ts_mux.specs.Sending.{IsUnderPlan}
 use Rattle.send_command.proofs.Intakes.{consumed_none, intake_none, nearer, gathered_none, gathered_all, intake_under, place_behind}
 use Rattle.send_command.specs.declared.gather.Gathered.{Gathered}
 use Rattle.send_command.specs.declared.gather.Next.{Next}

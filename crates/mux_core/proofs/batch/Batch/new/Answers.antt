@@ -1,6 +1,0 @@
-use Rattle.std.proofs.Common.{arith}
-use Rattle.mux_core.proofs.Items.{length-zeros}
-use Rattle.mux_core.proofs.batch.Batch.new.Goals as goal
-
-pub invariant_of-result : goal.invariant_of-result
-invariant_of-result c = (omega arith, length-zeros c.in_ok-buffer.buffer.items 192708 c.in_ok-buffer.ensures.zeros)

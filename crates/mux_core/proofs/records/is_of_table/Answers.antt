@@ -1,7 +1,0 @@
-use Rattle.std.proofs.Common.{arith}
-use Rattle.plan.specs.PlanView.{plan_fields}
-use Rattle.mux_core.proofs.Signalled.{cycle_some}
-use Rattle.mux_core.proofs.records.is_of_table.Goals as goal
-
-pub nonzero_rem-result : goal.nonzero_rem-result
-nonzero_rem-result c = omega (arith, c.from.ensures, cycle_some (plan_fields c.args.plan.now) c.args.plan.now.valid)

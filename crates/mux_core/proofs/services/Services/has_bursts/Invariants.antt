@@ -1,7 +1,0 @@
--- None before has packets left.
-use Rattle.std.proofs.Common.{◌≡◌, drop}
-use Rattle.mux_core.specs.Services.{burst_total}
-use Rattle.mux_core.proofs.services.Services.has_bursts.Given as goal
-
-abbrev pub invariant-loop-k : goal.invariant-loop-k
-invariant-loop-k l = burst_total l.self.bursts ≡ burst_total (drop l.k l.self.bursts)

@@ -1,0 +1,11 @@
+pub mod OnPids
+pub mod Sending
+pub mod Units
+pub mod Reading
+pub mod Coming
+pub mod Services
+pub mod ServiceUnits
+pub mod PartUnits
+pub mod SectionPackets
+pub mod IntPackets
+pub mod Slots

@@ -1,0 +1,21 @@
+//! The sender's stream in transport packets: those of all services and of the INT, slot by slot.
+//!
+//! Sending: capture -> pcap_file -> datagram_routing -> [ts_mux] -> Sink.
+//! Begin with `stream_packets`.
+#![tactic(auto)]
+
+mod batch;
+mod int_packets;
+mod int_section;
+mod part_units;
+mod records;
+mod sending;
+mod service_packets;
+mod service_units;
+mod services;
+mod slots;
+mod stamps;
+mod unit_bytes;
+mod units;
+
+pub use sending::{MuxFault, Sent, count_datagrams, stream_packets};
