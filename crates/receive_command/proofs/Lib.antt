@@ -6,11 +6,14 @@ pub mod Outlets
 pub mod Adding
 pub mod Parts
 pub mod Flushed
+pub mod Pieces
 pub mod Pairs
-pub mod Advance
-pub mod Next
 pub mod Assembly
-pub mod Ends
+pub mod Written
+pub mod Captured
+pub mod Received
+pub mod Counted
+pub mod Begun
 pub mod Parted
 pub mod Lines
 pub mod Longer

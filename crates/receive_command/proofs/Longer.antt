@@ -11,7 +11,8 @@ use Rattle.reception_spec.specs.Delivered.{told_of, delivered_of, given_by_recor
 use Rattle.reception_law.proofs.WhatIsTold.{told_stays, all_at_end}
 use Rattle.bb_reception_spec.specs.Delivered.{service_at, added_by, delivered_of as delivered_of_frames}
 use Rattle.bb_reception_law.proofs.FrameByFrame.{delivered_stays}
-use Rattle.receive_command.specs.Pieces.{records_in, told_capture_on, capture_on, capture_from}
+use Rattle.recording_spec.specs.Pieces.{by_carrier, records_in}
+use Rattle.receive_command.specs.Files.{told_capture, delivered_capture}
 
 text-append : (xs ys : List (List ℕ)) → capture_text (xs ++ ys) ≡ capture_text xs ++ flat_map capture_record ys
 text-append xs ys =
@@ -65,18 +66,19 @@ frames_go_on plan k (y ∷ ys) xs =
     )
 
 -- what the pieces of a front tell goes on in the capture of what all deliver
-capture_more_on : (carrier : Option ℕ) (plan : PlanFields) → has_wrong_change plan ≡ false → (xs ys : List (List ℕ)) (k : ℕ)
-    → (more : List ℕ) × (capture_on carrier plan (xs ++ ys) k ≡ told_capture_on carrier plan xs k ++ more)
-capture_more_on None plan right xs ys k =
+more_on : (carrier : Option ℕ) (plan : PlanFields) → has_wrong_change plan ≡ false → (xs ys : List (List ℕ)) (k : ℕ)
+    → (more : List ℕ) × (capture_text (by_carrier carrier (delivered_of plan k (records_in plan (xs ++ ys))) (delivered_of_frames plan k (xs ++ ys)))
+    ≡ capture_text (by_carrier carrier (told_of plan k (records_in plan xs)) (delivered_of_frames plan k xs)) ++ more)
+more_on None plan right xs ys k =
     let records : (more : List Record) × (records_in plan (xs ++ ys) ≡ records_in plan xs ++ more) = records_more plan.recording xs ys in
     let datagrams = delivered_goes_on plan right k (records_in plan xs) records.0 in (
       flat_map capture_record datagrams.0,
       ap (λ (r : List Record). capture_text (delivered_of plan k r)) records.1 ∙ ap capture_text datagrams.1 ∙ text-append (told_of plan k (records_in plan xs)) datagrams.0,
     )
-capture_more_on (Some size) plan right xs ys k =
+more_on (Some size) plan right xs ys k =
     let datagrams = frames_go_on plan k ys xs in
     (flat_map capture_record datagrams.0, ap capture_text datagrams.1 ∙ text-append (delivered_of_frames plan k xs) datagrams.0)
 
 pub capture_more : (plan : PlanFields) → has_wrong_change plan ≡ false → (xs ys : List (List ℕ)) (k : ℕ)
-    → (more : List ℕ) × (capture_from plan (xs ++ ys) k ≡ told_capture_on plan.frame_bytes plan xs k ++ more)
-capture_more plan right xs ys k = capture_more_on plan.frame_bytes plan right xs ys k
+    → (more : List ℕ) × (delivered_capture plan (xs ++ ys) k ≡ told_capture plan xs k ++ more)
+capture_more plan right xs ys k = more_on plan.frame_bytes plan right xs ys k

@@ -1,4 +1,4 @@
--- Pairs of service and datagram: one record more, and what the file of a service has of them.
+-- Pairs of service and datagram: what the file of a service has of them.
 use Rattle.std.proofs.Common.{◌≡◌, inl, inr, ℕ, ◌+◌, ◌<◌, Bool, false, cond, ◌==◌, Option, None, Some, List, [], ◌∷◌, ◌++◌, length, flat_map, refl, ap, ap₂, sym, ◌∙◌, arith}
 use Rattle.std.proofs.lemmas.List.{append-nil}
 use Rattle.std.proofs.lemmas.Grind.{flat_map-append}
@@ -7,21 +7,14 @@ use Rattle.ts_spec.specs.Recording.{Record}
 use Rattle.plan_spec.specs.Plan.{PlanFields}
 use Rattle.plan_spec.specs.Changes.{has_wrong_change}
 use Rattle.pcap_file.specs.Capture.{capture_head, capture_record, capture_text}
-use Rattle.reception_spec.specs.Delivered.{told_of, delivered_of, told_pairs, delivered_pairs, pairs_of_record}
-use Rattle.bb_reception_spec.specs.Delivered.{delivered_of as delivered_of_frames, delivered_pairs as delivered_frames}
+use Rattle.reception_spec.specs.Delivered.{told_of as told_of_records, delivered_of as delivered_of_records, told_pairs as told_pairs_of_records, pairs_of_end as pairs_behind_records, delivered_pairs}
+use Rattle.bb_reception_spec.specs.Delivered.{delivered_of as delivered_of_frames, delivered_pairs as pairs_of_frames}
 use Rattle.bb_reception_law.proofs.FrameByFrame.{part_is as part_of_frames}
-use Rattle.reception_law.specs.Words.{datagram_of, datagrams_of}
-use Rattle.reception_law.proofs.DeliveredPairs.{pairs_more, part_is_told, part_is}
+use Rattle.outlet_spec.specs.Pairs.{datagram_of, datagrams_of}
+use Rattle.reception_law.proofs.DeliveredPairs.{part_is_told, part_is}
+use Rattle.recording_spec.specs.Pieces.{by_carrier, records_in, told_pairs, pairs_of_end}
 use Rattle.receive_command.specs.Growth.{text_in, record_in_file, records_at}
-use Rattle.receive_command.specs.Pieces.{records_in, told_pairs_on, pairs_of_end_on, told_capture_on, capture_on}
-use Rattle.receive_command.specs.Files.{capture_of_pairs}
-
-pub pairs_none : (plan : PlanFields) → told_pairs plan [] ≡ []
-pairs_none plan = refl
-
-pub pairs_next : (plan : PlanFields) (records : List Record) (r : Record)
-    → told_pairs plan (records ++ r ∷ []) ≡ told_pairs plan records ++ pairs_of_record plan (records ++ r ∷ []) (length records)
-pairs_next plan records r = pairs_more plan records r
+use Rattle.receive_command.specs.Files.{told_capture, delivered_capture, capture_of_pairs}
 
 -- one pair: its record stands in the file of its service
 one_record : (first k : ℕ) (pair : ℕ × List ℕ) → record_in_file first (first + k) pair ≡ flat_map capture_record (datagram_of k pair)
@@ -49,19 +42,30 @@ capture_is k pairs datagrams are =
     ∙ ap (λ (t : List ℕ). capture_head ++ t) (records_of_service 0 k pairs ∙ ap (flat_map capture_record) are)
 
 -- of what pieces tell
-pub capture_of_told : (carrier : Option ℕ) (plan : PlanFields) → has_wrong_change plan ≡ false → (pieces : List (List ℕ)) (k : ℕ) → k < length plan.services
-    → capture_of_pairs (told_pairs_on carrier plan pieces) k ≡ told_capture_on carrier plan pieces k
-capture_of_told None plan right pieces k there =
-    capture_is k (told_pairs plan (records_in plan pieces)) (told_of plan k (records_in plan pieces)) (part_is_told plan (records_in plan pieces) k right there)
-capture_of_told (Some size) plan right frames k there = capture_is k (delivered_frames plan frames) (delivered_of_frames plan k frames) (part_of_frames plan frames k there)
+told_on : (carrier : Option ℕ) (plan : PlanFields) → has_wrong_change plan ≡ false → (pieces : List (List ℕ)) (k : ℕ) → k < length plan.services
+    → capture_of_pairs (by_carrier carrier (told_pairs_of_records plan (records_in plan pieces)) (pairs_of_frames plan pieces)) k
+    ≡ capture_text (by_carrier carrier (told_of_records plan k (records_in plan pieces)) (delivered_of_frames plan k pieces))
+told_on None plan right pieces k there =
+    capture_is k (told_pairs_of_records plan (records_in plan pieces)) (told_of_records plan k (records_in plan pieces)) (part_is_told plan (records_in plan pieces) k right there)
+told_on (Some size) plan right frames k there = capture_is k (pairs_of_frames plan frames) (delivered_of_frames plan k frames) (part_of_frames plan frames k there)
+
+pub capture_of_told : (plan : PlanFields) → has_wrong_change plan ≡ false → (pieces : List (List ℕ)) (k : ℕ) → k < length plan.services
+    → capture_of_pairs (told_pairs plan pieces) k ≡ told_capture plan pieces k
+capture_of_told plan right pieces k there = told_on plan.frame_bytes plan right pieces k there
 
 -- and of what they deliver where the recording ends
-pub capture_of_delivered : (carrier : Option ℕ) (plan : PlanFields) → has_wrong_change plan ≡ false → (pieces : List (List ℕ)) (k : ℕ) → k < length plan.services
-    → capture_of_pairs (told_pairs_on carrier plan pieces ++ pairs_of_end_on carrier plan pieces) k ≡ capture_on carrier plan pieces k
-capture_of_delivered None plan right pieces k there =
-    capture_is k (delivered_pairs plan (records_in plan pieces)) (delivered_of plan k (records_in plan pieces)) (part_is plan (records_in plan pieces) k right there)
-capture_of_delivered (Some size) plan right frames k there =
-    ap (λ (pairs : List (ℕ × List ℕ)). capture_of_pairs pairs k) (append-nil (delivered_frames plan frames)) ∙ capture_of_told (Some size) plan right frames k there
+delivered_on : (carrier : Option ℕ) (plan : PlanFields) → has_wrong_change plan ≡ false → (pieces : List (List ℕ)) (k : ℕ) → k < length plan.services
+    → capture_of_pairs (by_carrier carrier (told_pairs_of_records plan (records_in plan pieces)) (pairs_of_frames plan pieces)
+    ++ by_carrier carrier (pairs_behind_records plan (records_in plan pieces)) []) k
+    ≡ capture_text (by_carrier carrier (delivered_of_records plan k (records_in plan pieces)) (delivered_of_frames plan k pieces))
+delivered_on None plan right pieces k there =
+    capture_is k (delivered_pairs plan (records_in plan pieces)) (delivered_of_records plan k (records_in plan pieces)) (part_is plan (records_in plan pieces) k right there)
+delivered_on (Some size) plan right frames k there =
+    ap (λ (pairs : List (ℕ × List ℕ)). capture_of_pairs pairs k) (append-nil (pairs_of_frames plan frames)) ∙ told_on (Some size) plan right frames k there
+
+pub capture_of_delivered : (plan : PlanFields) → has_wrong_change plan ≡ false → (pieces : List (List ℕ)) (k : ℕ) → k < length plan.services
+    → capture_of_pairs (told_pairs plan pieces ++ pairs_of_end plan pieces) k ≡ delivered_capture plan pieces k
+capture_of_delivered plan right pieces k there = delivered_on plan.frame_bytes plan right pieces k there
 
 -- The places of files.
 

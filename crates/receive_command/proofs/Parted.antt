@@ -9,79 +9,61 @@ use Rattle.plan_spec.specs.Plan.{ServiceFields, PlanFields}
 use Rattle.plan_spec.specs.Changes.{has_wrong_change}
 use Rattle.carrier_spec.specs.Stream.{piece_size}
 use Rattle.pcap_file.specs.Capture.{capture_head, capture_record}
-use Rattle.receive_command.specs.Pieces.{size_on, told_pairs_on, pairs_of_end_on, told_on, told_capture_on, capture_on}
+use Rattle.recording_spec.specs.Pieces.{told_pairs, pairs_of_end, told_of}
 use Rattle.receive_command.specs.Growth.{records_at, text_in}
-use Rattle.receive_command.specs.Files.{file_with, files_from, head_of, capture_of_pairs, capture_and, AreParts, AddsParts, AddsHeadsPart, AddsCaptures}
+use Rattle.receive_command.specs.Files.{file_with, files_from, head_of, told_capture, delivered_capture, capture_of_pairs, capture_and, AreParts, AddsParts, AddsHeadsPart, AddsCaptures}
 use Rattle.receive_command.specs.Reading.{HasRead}
-use Rattle.receive_command.specs.Ends.{EndsFrontOn, EndsAtLimitOn, StopsInPiece, StopsAtEnd, EndsInFilesOn, in_heads, in_piece, at_end, in_flush, EndsFront, EndsAtLimit, EndsInFiles}
+use Rattle.receive_command.specs.Ends.{EndsFront, EndsAtLimit, StopsInPiece, StopsAtEnd, EndsInFiles, in_heads, in_piece, at_end, in_flush}
 use Rattle.receive_command.proofs.Parts.{parts_whole, parts_front, parts_next, flushed_parts, heads_are_parts}
-use Rattle.receive_command.proofs.Advance.{consumes_none, last_pairs}
+use Rattle.receive_command.proofs.Pieces.{consumes_none, last_pairs}
 use Rattle.receive_command.proofs.Assembly.{captures_of_pairs}
 use Rattle.receive_command.proofs.Grown.{records-append}
 use Rattle.receive_command.proofs.Pairs.{capture_of_told, capture_of_delivered}
 
 -- these pieces were read, and files were added: those of the first services, each with a prefix of the capture of what these pieces tell
-pub record TellsPartOn (carrier : Option ℕ) (plan : PlanFields) (left now : Option (List ℕ)) (old new : Option (List File)) : Type 0 where
+pub record TellsPart (plan : PlanFields) (left now : Option (List ℕ)) (old new : Option (List File)) : Type 0 where
   pub pieces : List (List ℕ)
   pub behind : List ℕ
-  pub read : HasRead (size_on carrier plan) left now pieces behind
-  pub files : AddsParts (told_capture_on carrier plan pieces) plan.services old new
+  pub read : HasRead (piece_size plan) left now pieces behind
+  pub files : AddsParts (told_capture plan pieces) plan.services old new
 
 -- the input was read to its end, and the files have each a prefix of the capture of what its pieces deliver
-pub record DeliversPartOn (carrier : Option ℕ) (plan : PlanFields) (left now : Option (List ℕ)) (old new : Option (List File)) : Type 0 where
+pub record DeliversPart (plan : PlanFields) (left now : Option (List ℕ)) (old new : Option (List File)) : Type 0 where
   pub pieces : List (List ℕ)
   pub behind : List ℕ
-  pub read : HasRead (size_on carrier plan) left now pieces behind
+  pub read : HasRead (piece_size plan) left now pieces behind
   pub at_end : IsAtEnd now
-  pub files : AddsParts (capture_on carrier plan pieces) plan.services old new
+  pub files : AddsParts (delivered_capture plan pieces) plan.services old new
 
-pub data EndsPartOn (carrier : Option ℕ) (plan : PlanFields) (left now : Option (List ℕ)) (old new : Option (List File)) : Type 0 where
-  tells_part : TellsPartOn carrier plan left now old new → EndsPartOn carrier plan left now old new
-  delivers_part : DeliversPartOn carrier plan left now old new → EndsPartOn carrier plan left now old new
-
--- by the plan's own carrier
-abbrev pub TellsPart : PlanFields → Option (List ℕ) → Option (List ℕ) → Option (List File) → Option (List File) → Type 0
-TellsPart plan left now old new = TellsPartOn plan.frame_bytes plan left now old new
-
-abbrev pub DeliversPart : PlanFields → Option (List ℕ) → Option (List ℕ) → Option (List File) → Option (List File) → Type 0
-DeliversPart plan left now old new = DeliversPartOn plan.frame_bytes plan left now old new
-
-abbrev pub EndsPart : PlanFields → Option (List ℕ) → Option (List ℕ) → Option (List File) → Option (List File) → Type 0
-EndsPart plan left now old new = EndsPartOn plan.frame_bytes plan left now old new
+pub data EndsPart (plan : PlanFields) (left now : Option (List ℕ)) (old new : Option (List File)) : Type 0 where
+  tells_part : TellsPart plan left now old new → EndsPart plan left now old new
+  delivers_part : DeliversPart plan left now old new → EndsPart plan left now old new
 
 -- The captures of all told pairs.
 
-pairs_parts : (carrier : Option ℕ) (plan : PlanFields) → has_wrong_change plan ≡ false → (pieces : List (List ℕ)) (old new : Option (List File))
-    → AddsCaptures false (capture_of_pairs (told_pairs_on carrier plan pieces)) plan.services old new → AddsParts (told_capture_on carrier plan pieces) plan.services old new
-pairs_parts carrier plan right pieces old new added =
-    parts_whole false (told_capture_on carrier plan pieces) plan.services old new
-    (captures_of_pairs plan.services (told_pairs_on carrier plan pieces) (told_capture_on carrier plan pieces) old new (capture_of_told carrier plan right pieces) added)
-
-front_on : (carrier : Option ℕ) (plan : PlanFields) → has_wrong_change plan ≡ false → (left now : Option (List ℕ)) (a b : Option (List File)) → EndsFrontOn carrier plan left now a b
-    → EndsPartOn carrier plan left now a b
-front_on carrier plan right left now a b front = tells_part (record {
-  pieces = front.pieces;
-  behind = front.behind;
-  read = front.read;
-  files = pairs_parts carrier plan right front.pieces a b front.files;
-})
+pairs_parts : (plan : PlanFields) → has_wrong_change plan ≡ false → (pieces : List (List ℕ)) (old new : Option (List File))
+    → AddsCaptures false (capture_of_pairs (told_pairs plan pieces)) plan.services old new → AddsParts (told_capture plan pieces) plan.services old new
+pairs_parts plan right pieces old new added =
+    parts_whole false (told_capture plan pieces) plan.services old new
+    (captures_of_pairs plan.services (told_pairs plan pieces) (told_capture plan pieces) old new (capture_of_told plan right pieces) added)
 
 pub part_of_front : (plan : PlanFields) → has_wrong_change plan ≡ false → (left now : Option (List ℕ)) (a b : Option (List File)) → EndsFront plan left now a b
     → EndsPart plan left now a b
-part_of_front plan right left now a b front = front_on plan.frame_bytes plan right left now a b front
-
-limit_on : (carrier : Option ℕ) (plan : PlanFields) → has_wrong_change plan ≡ false → (left now : Option (List ℕ)) (a b : Option (List File)) → EndsAtLimitOn carrier plan left now a b
-    → EndsPartOn carrier plan left now a b
-limit_on carrier plan right left now a b limit = tells_part (record {
-  pieces = limit.pieces;
-  behind = [];
-  read = limit.read;
-  files = pairs_parts carrier plan right limit.pieces a b limit.files;
+part_of_front plan right left now a b front = tells_part (record {
+  pieces = front.pieces;
+  behind = front.behind;
+  read = front.read;
+  files = pairs_parts plan right front.pieces a b front.files;
 })
 
 pub part_of_limit : (plan : PlanFields) → has_wrong_change plan ≡ false → (left now : Option (List ℕ)) (a b : Option (List File)) → EndsAtLimit plan left now a b
     → EndsPart plan left now a b
-part_of_limit plan right left now a b limit = limit_on plan.frame_bytes plan right left now a b limit
+part_of_limit plan right left now a b limit = tells_part (record {
+  pieces = limit.pieces;
+  behind = [];
+  read = limit.read;
+  files = pairs_parts plan right limit.pieces a b limit.files;
+})
 
 -- Stopped at a head.
 
@@ -159,19 +141,19 @@ record_parts services pairs before service datagram rest count text are all less
           ∙ ap (take cut.0) (ap (capture_of_pairs pairs) (sym here) ∙ are k low ∙ ap text here),
     ))
 
-part_in_piece : (carrier : Option ℕ) (plan : PlanFields) → has_wrong_change plan ≡ false → (left now : Option (List ℕ)) (a b : Option (List File)) → StopsInPiece carrier plan left now a b
-    → EndsPartOn carrier plan left now a b
-part_in_piece carrier plan right left now a b stop =
+part_in_piece : (plan : PlanFields) → has_wrong_change plan ≡ false → (left now : Option (List ℕ)) (a b : Option (List File)) → StopsInPiece plan left now a b
+    → EndsPart plan left now a b
+part_in_piece plan right left now a b stop =
     let pieces : List (List ℕ) = stop.pieces ++ stop.piece ∷ [] in
-    let told : List (ℕ × List ℕ) = told_pairs_on carrier plan stop.pieces in tells_part (record {
+    let told : List (ℕ × List ℕ) = told_pairs plan stop.pieces in tells_part (record {
       pieces = pieces;
       behind = [];
       read = stop.read;
       files = record {
         files = files_from false 0 (capture_and stop.service (take stop.count (capture_record stop.datagram)) (told ++ stop.front)) plan.services;
-        parts = record_parts plan.services (told_pairs_on carrier plan pieces) (told ++ stop.front) stop.service stop.datagram stop.rest stop.count (told_capture_on carrier plan pieces)
-            (capture_of_told carrier plan right pieces)
-            (last_pairs carrier plan stop.pieces stop.piece ∙ ap (λ (ps : List (ℕ × List ℕ)). told ++ ps) stop.pairs
+        parts = record_parts plan.services (told_pairs plan pieces) (told ++ stop.front) stop.service stop.datagram stop.rest stop.count (told_capture plan pieces)
+            (capture_of_told plan right pieces)
+            (last_pairs plan stop.pieces stop.piece ∙ ap (λ (ps : List (ℕ × List ℕ)). told ++ ps) stop.pairs
             ∙ sym (append_assoc told stop.front ((stop.service, stop.datagram) ∷ stop.rest)))
             stop.less;
         added = stop.files;
@@ -180,18 +162,18 @@ part_in_piece carrier plan right left now a b stop =
 
 -- Stopped at the end.
 
-part_at_end : (carrier : Option ℕ) (plan : PlanFields) → has_wrong_change plan ≡ false → (left now : Option (List ℕ)) (a b : Option (List File)) → StopsAtEnd carrier plan left now a b
-    → EndsPartOn carrier plan left now a b
-part_at_end carrier plan right left now a b stop =
-    let told : List (ℕ × List ℕ) = told_pairs_on carrier plan stop.pieces in delivers_part (record {
+part_at_end : (plan : PlanFields) → has_wrong_change plan ≡ false → (left now : Option (List ℕ)) (a b : Option (List File)) → StopsAtEnd plan left now a b
+    → EndsPart plan left now a b
+part_at_end plan right left now a b stop =
+    let told : List (ℕ × List ℕ) = told_pairs plan stop.pieces in delivers_part (record {
       pieces = stop.pieces;
       behind = stop.behind;
       read = stop.read;
       at_end = stop.at_end;
       files = record {
         files = files_from false 0 (capture_and stop.service (take stop.count (capture_record stop.datagram)) (told ++ stop.front)) plan.services;
-        parts = record_parts plan.services (told ++ pairs_of_end_on carrier plan stop.pieces) (told ++ stop.front) stop.service stop.datagram stop.rest stop.count
-            (capture_on carrier plan stop.pieces) (capture_of_delivered carrier plan right stop.pieces)
+        parts = record_parts plan.services (told ++ pairs_of_end plan stop.pieces) (told ++ stop.front) stop.service stop.datagram stop.rest stop.count
+            (delivered_capture plan stop.pieces) (capture_of_delivered plan right stop.pieces)
             (ap (λ (ps : List (ℕ × List ℕ)). told ++ ps) stop.pairs
             ∙ sym (append_assoc told stop.front ((stop.service, stop.datagram) ∷ stop.rest)))
             stop.less;
@@ -201,29 +183,25 @@ part_at_end carrier plan right left now a b stop =
 
 -- Stopped anywhere.
 
-files_on : (carrier : Option ℕ) (plan : PlanFields) → has_wrong_change plan ≡ false → 0 < size_on carrier plan → (left now : Option (List ℕ)) (a b : Option (List File))
-    → EndsInFilesOn carrier plan left now a b → EndsPartOn carrier plan left now a b
-files_on carrier plan right some left now a b (in_heads stop) = tells_part (record {
+pub part_of_files : (plan : PlanFields) → has_wrong_change plan ≡ false → 0 < piece_size plan → (left now : Option (List ℕ)) (a b : Option (List File))
+    → EndsInFiles plan left now a b → EndsPart plan left now a b
+part_of_files plan right some left now a b (in_heads stop) = tells_part (record {
   pieces = [];
   behind = [];
-  read = none_read (size_on carrier plan) left now some stop.unread;
-  files = heads_are_parts (λ k. told_on carrier plan k []) plan.services a b (parts_of_heads_part plan.services stop.count a b stop.files);
+  read = none_read (piece_size plan) left now some stop.unread;
+  files = heads_are_parts (λ k. told_of plan k []) plan.services a b (parts_of_heads_part plan.services stop.count a b stop.files);
 })
-files_on carrier plan right some left now a b (in_piece stop) = part_in_piece carrier plan right left now a b stop
-files_on carrier plan right some left now a b (at_end stop) = part_at_end carrier plan right left now a b stop
-files_on carrier plan right some left now a b (in_flush stop) = delivers_part (record {
+part_of_files plan right some left now a b (in_piece stop) = part_in_piece plan right left now a b stop
+part_of_files plan right some left now a b (at_end stop) = part_at_end plan right left now a b stop
+part_of_files plan right some left now a b (in_flush stop) = delivers_part (record {
   pieces = stop.pieces;
   behind = stop.behind;
   read = stop.read;
   at_end = stop.at_end;
   files = record {
-    files = take stop.count (files_from true 0 (capture_on carrier plan stop.pieces) plan.services)
-        ++ drop stop.count (files_from false 0 (capture_on carrier plan stop.pieces) plan.services);
-    parts = flushed_parts 0 (capture_on carrier plan stop.pieces) plan.services stop.count;
+    files = take stop.count (files_from true 0 (delivered_capture plan stop.pieces) plan.services)
+        ++ drop stop.count (files_from false 0 (delivered_capture plan stop.pieces) plan.services);
+    parts = flushed_parts 0 (delivered_capture plan stop.pieces) plan.services stop.count;
     added = stop.files;
   };
 })
-
-pub part_of_files : (plan : PlanFields) → has_wrong_change plan ≡ false → 0 < piece_size plan → (left now : Option (List ℕ)) (a b : Option (List File)) → EndsInFiles plan left now a b
-    → EndsPart plan left now a b
-part_of_files plan right some left now a b stop = files_on plan.frame_bytes plan right some left now a b stop

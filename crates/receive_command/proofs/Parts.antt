@@ -6,8 +6,8 @@ use Rattle.std.proofs.lemmas.Option.{slice_get_within}
 use Rattle.wire_spec.specs.Content.{File}
 use Rattle.plan_spec.specs.Plan.{ServiceFields, PlanFields}
 use Rattle.pcap_file.specs.Capture.{capture_record, capture_text}
-use Rattle.receive_command.specs.Pieces.{delivered_from, capture_from}
-use Rattle.receive_command.specs.Files.{file_with, files_from, head_of, AddsCaptures, AddsHeads, AddsParts, IsPart, AreParts}
+use Rattle.recording_spec.specs.Pieces.{delivered_of}
+use Rattle.receive_command.specs.Files.{file_with, files_from, head_of, delivered_capture, AddsCaptures, AddsHeads, AddsParts, IsPart, AreParts}
 
 -- the whole is a part
 whole_part : (b : Bool) (text name : List ℕ) → IsPart text name (file_with b name text)
@@ -89,8 +89,8 @@ heads_are_parts datagrams services old new parts = record {
 }
 
 pub parts_of_heads : (plan : PlanFields) (pieces : List (List ℕ)) (services : List ServiceFields) (old new : Option (List File)) → AddsParts head_of services old new
-    → AddsParts (capture_from plan pieces) services old new
-parts_of_heads plan pieces services old new parts = heads_are_parts (λ k. delivered_from plan k pieces) services old new parts
+    → AddsParts (delivered_capture plan pieces) services old new
+parts_of_heads plan pieces services old new parts = heads_are_parts (λ k. delivered_of plan k pieces) services old new parts
 
 pub parts_of_some : (services : List ServiceFields) (old new : Option (List File)) → AddsHeads services old new → AddsParts head_of services old new
 parts_of_some services old new heads = record {

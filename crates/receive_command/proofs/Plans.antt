@@ -12,8 +12,9 @@ use Rattle.carrier_spec.specs.Stream.{piece_size}
 use Rattle.bb_stream_law.proofs.PlanChecks.{has_size}
 use Rattle.plan_law.proofs.Lists.{not_false}
 use Rattle.plan_law.proofs.Alone.{right_alone}
-use Rattle.receive_command.specs.Pieces.{size_on}
-use Rattle.receive_command.proofs.Advance.{some_size}
+use Rattle.std.specs.Option.{unwrap_or}
+use Rattle.ts_spec.specs.Recording.{record_size}
+use Rattle.receive_command.proofs.Pieces.{some_size}
 
 both : (a b : Bool) → (a && b) ≡ true → (a ≡ true) × (b ≡ true)
 both true b e = (refl, e)
@@ -103,7 +104,7 @@ changes_right plan whole = elim (either (is_whole_of_settings plan) (is_whole_of
 
 -- The bytes of a piece.
 
-some_on : (plan : PlanFields) (carrier : Option ℕ) → plan.frame_bytes ≡ carrier → is_whole_plan plan ≡ true → 0 < size_on carrier plan
+some_on : (plan : PlanFields) (carrier : Option ℕ) → plan.frame_bytes ≡ carrier → is_whole_plan plan ≡ true → 0 < unwrap_or carrier (record_size plan.recording)
 some_on plan None is whole = some_size plan.recording
 some_on plan (Some size) is whole = omega (arith, (has_size plan size whole is).0)
 

@@ -1,8 +1,9 @@
 -- The files of services: a capture for each, in the order of the services. Texts are told by the numbers of services.
 use Rattle.std.specs.Prelude.{◌≡◌, ◌⊎◌, ℕ, ◌+◌, ◌<◌, Bool, true, false, List, [], ◌∷◌, ◌++◌, length, take, drop, slice_get, codes, if◌then◌else◌, Option, None, Some, ⊤}
 use Rattle.wire_spec.specs.Content.{File, AddsFile, Stays}
-use Rattle.plan_spec.specs.Plan.{ServiceFields}
-use Rattle.pcap_file.specs.Capture.{capture_head}
+use Rattle.plan_spec.specs.Plan.{ServiceFields, PlanFields}
+use Rattle.pcap_file.specs.Capture.{capture_head, capture_text}
+use Rattle.recording_spec.specs.Pieces.{told_of, delivered_of}
 use Rattle.receive_command.specs.Growth.{records_at, records_and}
 
 -- the name of the file of a service
@@ -17,7 +18,7 @@ file_with is_flushed name text = record {
   flushed = if is_flushed then length text else 0;
 }
 
--- What the file of service k has, but for the capture of all (in Pieces).
+-- What the file of service k has.
 
 -- before any record
 abbrev pub head_of : ℕ → List ℕ
@@ -27,7 +28,14 @@ head_of k = capture_head
 abbrev pub capture_of_pairs : List (ℕ × List ℕ) → ℕ → List ℕ
 capture_of_pairs pairs k = capture_head ++ records_at 0 pairs k
 
--- and after it, in the file of one service alone, a text
+-- of what pieces tell, and of what a recording of them delivers
+abbrev pub told_capture : PlanFields → List (List ℕ) → ℕ → List ℕ
+told_capture plan pieces k = capture_text (told_of plan k pieces)
+
+abbrev pub delivered_capture : PlanFields → List (List ℕ) → ℕ → List ℕ
+delivered_capture plan pieces k = capture_text (delivered_of plan k pieces)
+
+-- of pairs, and after it, in the file of one service alone, a text
 abbrev pub capture_and : ℕ → List ℕ → List (ℕ × List ℕ) → ℕ → List ℕ
 capture_and service text pairs k = capture_head ++ records_and 0 service text pairs k
 

@@ -1,86 +1,78 @@
-//! The command `receive` for a plan of transport packets: a recording of records in, a capture for each service and the report out.
-ghost use Rattle.std.specs.Prelude.{◌≡◌, ◌⊎◌, ℕ, ◌*◌, ◌<◌, ◌≤◌, true, false, List, length, None, Some, slice_get, OnOk, OnErr, IsErrOf};
-ghost use Rattle.wire_spec.specs.Causes.{Rose, raised};
-ghost use Rattle.wire_spec.specs.Content.{Stays};
-ghost use Rattle.ts_spec.specs.Recording.{record_size, Record as ReadRecord};
+//! The command `receive` for any plan: a recording of transport packets or of baseband frames in, a capture for each service and the report out.
+ghost use Rattle.std.specs.Prelude.{◌≡◌, ℕ, ◌≤◌, true, List, [], length, Some, slice_get, IfOk};
 ghost use Rattle.plan_spec.specs.Plan.{ServiceFields};
 ghost use Rattle.plan_spec.specs.Checks.{is_service_name};
 ghost use Rattle.plan.specs.PlanView.{plan_fields};
-ghost use Rattle.ipe_io.specs.Counts.{IsFlushed};
-ghost use Rattle.demux_core.specs.Receiving.{HasReceived};
-ghost use Rattle.receive_command.specs.Files.{AddsHeads};
-ghost use Rattle.receive_command.specs.Reading.{most_records};
+ghost use Rattle.demux_core.specs.Carriers.{plan_of};
+ghost use Rattle.recording_reader.specs.Any.{form_in, size_in, count_in, HasReadIn};
 ghost use Rattle.receive_command.specs.Report.{IsReport};
-ghost use Rattle.receive_command.specs.Ends.{EndsWholeOn, EndsFrontOn, EndsAtLimitOn, EndsInFilesOn, EndsReportedOn, EndsInReportOn, Reports, ReportsPart};
+ghost use Rattle.receive_command.specs.Writing.{IsGiven, IsFormOf, HasContentOf};
+ghost use Rattle.receive_command.specs.Receives.{Receives, PutsReport};
 
 use crate::captures::write_captures;
 use crate::faults::ReceiveFault;
 use crate::report::report_of;
 use bumpalo::Bump;
-use demux_core::PacketReceiver;
-use ipe_io::{Failed, Rack, Sink, Source, put_all};
+use demux_core::Receiver;
+use ipe_io::{Failed, OutOfMemory, Rack, Sink, Source, put_all};
 use plan::Plan;
+use recording_reader::{FramePieces, PacketPieces, RecordingPieces};
 use std::alloc::Global;
 
-/// The same as `receive_recording`, of a plan of transport packets.
-pub(crate) fn receive_packets<I: Source, O: Sink, R: Rack>(
+/// Receives a recording under a plan, of packets or of frames as the plan says: a capture for each service, `NAME.pcap` in the order of the
+/// plan, and the report.
+///
+/// The input is read to its end. In front of the files nothing is read; after the last record or frame the files get what the end gives and
+/// are flushed, and then the report is written.
+pub fn receive_recording<I: Source, O: Sink, R: Rack>(
     alloc: Global,
     plan: &Plan,
     input: &mut I,
     output: &mut O,
     rack: &mut R,
 ) -> Result<(), ReceiveFault>
-    requires packets { (plan_fields plan.now).frame_bytes ≡ None }
-    ensures done { OnOk result (EndsReportedOn None (plan_fields plan.now) (I.told input.old).left (I.told input.new).left (R.told rack.old).files (R.told rack.new).files (O.told output.old).held (O.told output.new).held) }
-    ensures flushed { OnOk result (IsFlushed (O.told output.new).held (O.told output.new).flushed) }
-    ensures read { OnOk result ((I.told input.new).ended ≡ true) }
-    ensures fewer { OnOk result ((n : ℕ) × (n < record_size (plan_fields plan.now).recording * most_records) × ((I.told input.new).taken ≡ raised (I.told input.old).taken n)) }
-    ensures front { IsErrOf result ReceiveFault.Source → EndsFrontOn None (plan_fields plan.now) (I.told input.old).left (I.told input.new).left (R.told rack.old).files (R.told rack.new).files }
-    ensures front_taken { IsErrOf result ReceiveFault.Source → (n : ℕ) × (n < record_size (plan_fields plan.now).recording * most_records) × ((I.told input.new).taken ≡ raised (I.told input.old).taken n) }
-    ensures not_ended { IsErrOf result ReceiveFault.Source → (I.told input.old).ended ≡ false → (I.told input.new).ended ≡ false }
-    ensures limit { IsErrOf result ReceiveFault.TooLong → EndsAtLimitOn None (plan_fields plan.now) (I.told input.old).left (I.told input.new).left (R.told rack.old).files (R.told rack.new).files }
-    ensures limit_taken { IsErrOf result ReceiveFault.TooLong → (I.told input.new).taken ≡ raised (I.told input.old).taken (record_size (plan_fields plan.now).recording * most_records) }
-    ensures files { IsErrOf result ReceiveFault.Rack → EndsInFilesOn None (plan_fields plan.now) (I.told input.old).left (I.told input.new).left (R.told rack.old).files (R.told rack.new).files }
-    ensures files_taken { IsErrOf result ReceiveFault.Rack → (n : ℕ) × (n ≤ record_size (plan_fields plan.now).recording * most_records) × ((I.told input.new).taken ≡ raised (I.told input.old).taken n) }
-    ensures report { IsErrOf result ReceiveFault.Sink → EndsInReportOn None (plan_fields plan.now) (I.told input.old).left (I.told input.new).left (R.told rack.old).files (R.told rack.new).files (O.told output.old).held (O.told output.new).held }
-    ensures memory { IsErrOf result ReceiveFault.OutOfMemory → ((input.new ≡ input.old) × AddsHeads (plan_fields plan.now).services (R.told rack.old).files (R.told rack.new).files)
-        ⊎ EndsWholeOn None (plan_fields plan.now) (I.told input.old).left (I.told input.new).left (R.told rack.old).files (R.told rack.new).files }
-    ensures report_unflushed { IsErrOf result ReceiveFault.Sink → Stays (O.told output.old).flushed (O.told output.new).flushed }
-    ensures unchanged { ¬ IsErrOf result ReceiveFault.Sink → OnErr result (output.new ≡ output.old) }
-    ensures source { IsErrOf result ReceiveFault.Source → Rose (I.told input.old).faults (I.told input.new).faults }
-    ensures sink { IsErrOf result ReceiveFault.Sink → Rose (O.told output.old).faults (O.told output.new).faults }
-    ensures file { IsErrOf result ReceiveFault.Rack → Rose (R.told rack.old).faults (R.told rack.new).faults }
-    ensures input_kept { ¬ IsErrOf result ReceiveFault.Source → (I.told input.new).faults ≡ (I.told input.old).faults }
-    ensures output_kept { ¬ IsErrOf result ReceiveFault.Sink → (O.told output.new).faults ≡ (O.told output.old).faults }
-    ensures rack_kept { ¬ IsErrOf result ReceiveFault.Rack → (R.told rack.new).faults ≡ (R.told rack.old).faults }
+    ensures receives { Receives result (plan_fields plan.now) (I.told input.old) (I.told input.new) (R.told rack.old) (R.told rack.new) (O.told output.old) (O.told output.new)
+        (input.new ≡ input.old) (output.new ≡ output.old) }
 {
     let arena = Bump::new(alloc);
-    let mut receiver = PacketReceiver::open(&arena, plan)?;
-    let tail = write_captures(alloc, plan, &mut receiver, input, rack)?;
+    let mut receiver = Receiver::open(&arena, plan)?;
+    let mut pieces = open_pieces(&arena, plan)?;
+    let tail = write_captures(alloc, plan, &mut receiver, &mut pieces, input, rack)?;
     put_report(alloc, plan, &receiver, tail, output)
+}
+
+/// The pieces of a recording under a plan. None was read.
+pub(crate) fn open_pieces<'a>(
+    arena: &'a Bump,
+    plan: &Plan,
+) -> Result<RecordingPieces<&'a Bump>, OutOfMemory>
+    ensures form { IfOk result (λ pieces. IsFormOf (plan_fields plan.now) (form_in pieces) (size_in pieces)) }
+    ensures content { IfOk result (λ pieces. HasContentOf (plan_fields plan.now) pieces) }
+    ensures unread { IfOk result (λ pieces. HasReadIn pieces []) }
+    ensures uncounted { IfOk result (λ pieces. count_in pieces ≡ 0) }
+{
+    match plan.frame_bytes {
+        None => Ok(RecordingPieces::Packets(PacketPieces::new(plan.recording))),
+        Some(size) => {
+            let place = vec![in arena; 0u8; usize::from(size)]?;
+            Ok(RecordingPieces::Frames(FramePieces::over(size, place)))
+        }
+    }
 }
 
 /// Writes the report and flushes it.
 fn put_report<O: Sink>(
     alloc: Global,
     plan: &Plan,
-    receiver: &PacketReceiver<'_>,
+    receiver: &Receiver<'_>,
     tail: u32,
     output: &mut O,
 ) -> Result<(), ReceiveFault>
-    requires same { receiver.now.plan ≡ plan_fields plan.now }
+    requires same { plan_of receiver.now ≡ plan_fields plan.now }
     requires few { length plan.now.services ≤ 64 }
     requires named { (k : ℕ) (service : ServiceFields) → slice_get (plan_fields plan.now).services k ≡ Some service → is_service_name service.name ≡ true }
-    ensures done { (records : List ReadRecord) → HasReceived true (plan_fields plan.now) records receiver.now
-        → OnOk result (Reports (IsReport (plan_fields plan.now) records tail) (O.told output.old).held (O.told output.new).held) }
-    ensures report { (records : List ReadRecord) → HasReceived true (plan_fields plan.now) records receiver.now → IsErrOf result ReceiveFault.Sink
-        → ReportsPart (IsReport (plan_fields plan.now) records tail) (O.told output.old).held (O.told output.new).held }
-    ensures flushed { OnOk result (IsFlushed (O.told output.new).held (O.told output.new).flushed) }
-    ensures report_unflushed { IsErrOf result ReceiveFault.Sink → Stays (O.told output.old).flushed (O.told output.new).flushed }
-    ensures unchanged { ¬ IsErrOf result ReceiveFault.Sink → OnErr result (output.new ≡ output.old) }
-    ensures kept { ¬ IsErrOf result ReceiveFault.Sink → (O.told output.new).faults ≡ (O.told output.old).faults }
-    ensures sink { IsErrOf result ReceiveFault.Sink → Rose (O.told output.old).faults (O.told output.new).faults }
-    ensures others { ¬ IsErrOf result ReceiveFault.Source × (¬ IsErrOf result ReceiveFault.Rack × ¬ IsErrOf result ReceiveFault.TooLong) }
+    ensures puts { (pieces : List (List ℕ)) → IsGiven true (plan_fields plan.now) pieces receiver.now
+        → PutsReport result (IsReport (plan_fields plan.now) pieces tail) (O.told output.old) (O.told output.new) (output.new ≡ output.old) }
 {
     let text = report_of(alloc, plan, receiver, tail)?;
     match put_all(output, &text) {

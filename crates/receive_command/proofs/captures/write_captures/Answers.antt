@@ -1,101 +1,60 @@
-use Rattle.std.proofs.Common.{◌∙◌, ap, sym, refl, arith, true, false, length, None, Err, ◌+◌, ℕ}
+use Rattle.std.proofs.Common.{rules, refl, ◌≡◌, ◌+◌, ℕ, Result, Err, length, sym, ◌∙◌, subst, arith}
 use Rattle.std.proofs.lemmas.List.{length-map}
-use Rattle.wire_spec.specs.Causes.{raised}
 use Rattle.plan_spec.specs.Plan.{PlanFields}
-use Rattle.receive_command.specs.declared.faults.ReceiveFault.TheVariants as fault
 use Rattle.plan.specs.Parts.{service_seen}
 use Rattle.plan.specs.PlanView.{plan_fields}
-use Rattle.demux_core.specs.Receiving.{HasReceived}
-use Rattle.receive_command.specs.Pieces.{records_in}
-use Rattle.receive_command.proofs.Ends.{sized, ends_in_heads, ends_front, ends_at_limit, ends_in_piece, ends_whole, ends_after_pieces}
-use Rattle.ipe_io.proofs.Told.{raised-zero}
+use Rattle.receive_command.specs.Faults.{fault_of_reading, fault_of_adding}
+use Rattle.receive_command.proofs.CameUp.{comes_up}
 use Rattle.receive_command.proofs.Plans.{changes_right}
-use Rattle.receive_command.proofs.CameUp.{came_up, comes_up, adding_failed, adding_not_failed, adding_no_memory}
+use Rattle.receive_command.proofs.Captured.{sized, heads_stopped, captured_part, captured_whole, captured_in_flush}
 use Rattle.receive_command.proofs.captures.write_captures.Goals as goal
 
-pub returns-in_err-first-clause-files : goal.returns-in_err-first-clause-files
-returns-in_err-first-clause-files g c = λ e.
-    ends_in_heads None (plan_fields c.args.plan.now) (g.I.Source.told c.args.input.now).left (g.I.Source.told c.args.input.now).left (g.R.Rack.told c.args.rack.now).files (g.R.Rack.told c.add_files.new.rack).files
-    refl (c.in_err-first.ensures.failed (ap (λ f. Err f) (adding_failed c.from_residual.result c.in_err-first.field-0.0 c.from_residual.ensures.1 e)))
+pub returns-in_err-first : goal.returns-in_err-first
+returns-in_err-first g c =
+    let failed = comes_up c.from_residual.result (fault_of_adding c.in_err-first.field-0.0) (fault_of_adding c.in_err-first.field-0.0) c.from_residual.ensures.1 refl in
+    record {
+      captures = rw failed (heads_stopped c.in_err-first.field-0.0 (plan_fields c.args.plan.now) (g.I.Source.told c.args.input.now) (g.R.Rack.told c.args.rack.now) (g.R.Rack.told c.add_files.new.rack)
+          c.args.receiver.now (c.args.input.now ≡ c.args.input.now) (search rules) refl c.in_err-first.ensures.failed (λ e. let begun = c.in_err-first.ensures.memory e in record { heads = begun.0; many = begun.1 }) c.in_err-first.ensures.cause);
+    }
 
-pub returns-in_err-first-clause-files_taken : goal.returns-in_err-first-clause-files_taken
-returns-in_err-first-clause-files_taken g c = λ e. (0, omega arith, sym (raised-zero (g.I.Source.told c.args.input.now).taken (g.met.I.Source.taken_fits c.args.input.now)))
-
-pub returns-in_err-first-clause-memory : goal.returns-in_err-first-clause-memory
-returns-in_err-first-clause-memory g c = λ e. (refl, c.in_err-first.ensures.memory (ap (λ f. Err f) (adding_no_memory c.from_residual.result c.in_err-first.field-0.0 c.from_residual.ensures.1 e)))
-
-pub end_captures-requires-clause-given : goal.end_captures-requires-clause-given
-end_captures-requires-clause-given g c =
-    let whole = c.in_ok-tail.ensures.whole in
-    (records_in (plan_fields c.args.plan.now) whole.pieces, whole.received)
-
-pub returns-in_err-tail-clause-front : goal.returns-in_err-tail-clause-front
-returns-in_err-tail-clause-front g c = λ e.
-    ends_front None (plan_fields c.args.plan.now) (g.I.Source.told c.args.input.now).left (g.I.Source.told c.read_records.new.input).left (g.R.Rack.told c.args.rack.now).files (g.R.Rack.told c.add_files.new.rack).files (g.R.Rack.told c.read_records.new.rack).files
-    c.in_ok-first.first (sized (g.R.Rack.told c.args.rack.now).files (g.R.Rack.told c.args.rack.now).count c.in_ok-first.first c.in_ok-first.ensures.place (g.met.R.Rack.as_many c.args.rack.now)) c.in_ok-first.ensures.written (c.in_err-tail.ensures.front (ap (λ x. Err x) (came_up c.from_residual-in_err-tail.result c.in_err-tail.field-0.0 fault.Source c.from_residual-in_err-tail.ensures.1 e)))
-
-pub returns-in_err-tail-clause-limit : goal.returns-in_err-tail-clause-limit
-returns-in_err-tail-clause-limit g c = λ e.
-    ends_at_limit None (plan_fields c.args.plan.now) (g.I.Source.told c.args.input.now).left (g.I.Source.told c.read_records.new.input).left (g.R.Rack.told c.args.rack.now).files (g.R.Rack.told c.add_files.new.rack).files (g.R.Rack.told c.read_records.new.rack).files
-    c.in_ok-first.first (sized (g.R.Rack.told c.args.rack.now).files (g.R.Rack.told c.args.rack.now).count c.in_ok-first.first c.in_ok-first.ensures.place (g.met.R.Rack.as_many c.args.rack.now)) c.in_ok-first.ensures.written (c.in_err-tail.ensures.limit (ap (λ x. Err x) (came_up c.from_residual-in_err-tail.result c.in_err-tail.field-0.0 fault.TooLong c.from_residual-in_err-tail.ensures.1 e)))
-
-pub returns-in_err-tail-clause-files : goal.returns-in_err-tail-clause-files
-returns-in_err-tail-clause-files g c = λ e.
-    ends_in_piece None (plan_fields c.args.plan.now) (g.I.Source.told c.args.input.now).left (g.I.Source.told c.read_records.new.input).left (g.R.Rack.told c.args.rack.now).files (g.R.Rack.told c.add_files.new.rack).files (g.R.Rack.told c.read_records.new.rack).files
-    c.in_ok-first.first (sized (g.R.Rack.told c.args.rack.now).files (g.R.Rack.told c.args.rack.now).count c.in_ok-first.first c.in_ok-first.ensures.place (g.met.R.Rack.as_many c.args.rack.now)) c.in_ok-first.ensures.written (c.in_err-tail.ensures.stop (ap (λ x. Err x) (came_up c.from_residual-in_err-tail.result c.in_err-tail.field-0.0 fault.Rack c.from_residual-in_err-tail.ensures.1 e)))
-
-pub returns-in-Ok-clause-whole : goal.returns-in-Ok-clause-whole
-returns-in-Ok-clause-whole g c =
+pub returns-in_err-tail : goal.returns-in_err-tail
+returns-in_err-tail g c =
     let plan : PlanFields = plan_fields c.args.plan.now in
-    let whole = c.in_ok-tail.ensures.whole in
-    ends_whole None plan (changes_right plan c.args.plan.now.whole) (λ pieces. HasReceived false plan (records_in plan pieces) c.read_records.new.receiver)
-    (λ pieces. HasReceived true plan (records_in plan pieces) c.end_captures.new.receiver) (g.I.Source.told c.args.input.now).left (g.I.Source.told c.read_records.new.input).left
-    (g.R.Rack.told c.args.rack.now).files (g.R.Rack.told c.add_files.new.rack).files (g.R.Rack.told c.read_records.new.rack).files (g.R.Rack.told c.end_captures.new.rack).files
-    c.in_ok-first.first (c.in_ok-first.first + length c.args.plan.now.services) c.in_ok-tail.tail
-    (sized (g.R.Rack.told c.args.rack.now).files (g.R.Rack.told c.args.rack.now).count c.in_ok-first.first c.in_ok-first.ensures.place (g.met.R.Rack.as_many c.args.rack.now)) c.in_ok-first.ensures.written
-    whole (ap (λ n. c.in_ok-first.first + n) (sym (length-map c.args.plan.now.services service_seen)))
-    (c.in-Ok.ensures.flushed (records_in plan whole.pieces) whole.received) (c.end_captures.ensures.received (records_in plan whole.pieces) whole.received)
+    let failed = comes_up c.from_residual-in_err-tail.result (fault_of_reading c.in_err-tail.field-0.0) (fault_of_reading c.in_err-tail.field-0.0) c.from_residual-in_err-tail.ensures.1 refl in
+    record {
+      captures = rw failed (captured_part plan c.in_ok-first.first (g.I.Source.told c.args.input.now) (g.I.Source.told c.write_pieces.new.input)
+          (g.R.Rack.told c.args.rack.now) (g.R.Rack.told c.add_files.new.rack) (g.R.Rack.told c.write_pieces.new.rack) c.write_pieces.new.receiver (c.write_pieces.new.input ≡ c.args.input.now)
+          (sized (g.R.Rack.told c.args.rack.now).files (g.R.Rack.told c.args.rack.now).count c.in_ok-first.first c.in_ok-first.ensures.place.0 (g.met.R.Rack.as_many c.args.rack.now))
+          c.in_ok-first.ensures.written.1 (c.in_ok-first.ensures.cause.kept (λ f. absurd (cc)))
+          c.in_err-tail.field-0.0 c.in_err-tail.ensures.writes);
+    }
 
-pub returns-in-Err-clause-files : goal.returns-in-Err-clause-files
-returns-in-Err-clause-files g c = λ e.
-    let plan : PlanFields = plan_fields c.args.plan.now in
-    let whole = c.in_ok-tail.ensures.whole in
-    ends_after_pieces None plan (changes_right plan c.args.plan.now.whole) (λ pieces. HasReceived false plan (records_in plan pieces) c.read_records.new.receiver) (g.I.Source.told c.args.input.now).left (g.I.Source.told c.read_records.new.input).left
-    (g.R.Rack.told c.args.rack.now).files (g.R.Rack.told c.add_files.new.rack).files (g.R.Rack.told c.read_records.new.rack).files (g.R.Rack.told c.end_captures.new.rack).files
-    c.in_ok-first.first c.in_ok-tail.tail (length c.args.plan.now.services)
-    (sized (g.R.Rack.told c.args.rack.now).files (g.R.Rack.told c.args.rack.now).count c.in_ok-first.first c.in_ok-first.ensures.place (g.met.R.Rack.as_many c.args.rack.now)) c.in_ok-first.ensures.written
-    whole (sym (length-map c.args.plan.now.services service_seen)) (c.in-Err.ensures.stopped (records_in plan whole.pieces) whole.received)
+pub flush_files-requires-clause-there : goal.flush_files-requires-clause-there
+flush_files-requires-clause-there g c =
+    omega (arith, c.in_ok-tail.ensures.writes.ends.6, c.in_ok-first.ensures.written.0, c.in_ok-first.ensures.place.0, c.len-services.ensures.read)
 
-pub returns-in-Err-clause-files_taken : goal.returns-in-Err-clause-files_taken
-returns-in-Err-clause-files_taken g c = λ e.
-    let fewer = c.in_ok-tail.ensures.fewer in
-    (fewer.0, omega (arith, fewer.1), fewer.2)
+pub returns-in-Ok : goal.returns-in-Ok
+returns-in-Ok g c = record {
+  captures =
+      let plan : PlanFields = plan_fields c.args.plan.now in
+      captured_whole plan c.in_ok-first.first (g.I.Source.told c.args.input.now) (g.I.Source.told c.write_pieces.new.input)
+      (g.R.Rack.told c.args.rack.now) (g.R.Rack.told c.add_files.new.rack) (g.R.Rack.told c.write_pieces.new.rack) c.write_pieces.new.receiver (c.write_pieces.new.input ≡ c.args.input.now)
+      (sized (g.R.Rack.told c.args.rack.now).files (g.R.Rack.told c.args.rack.now).count c.in_ok-first.first c.in_ok-first.ensures.place.0 (g.met.R.Rack.as_many c.args.rack.now))
+      c.in_ok-first.ensures.written.1 (c.in_ok-first.ensures.cause.kept (λ f. absurd (cc)))
+      (g.R.Rack.told c.flush_files.new.rack) c.in_ok-tail.tail c.len-services.result (changes_right plan c.args.plan.now.whole)
+      (c.len-services.ensures.read ∙ sym (length-map c.args.plan.now.services service_seen))
+      c.in_ok-tail.ensures.writes (omega (arith, c.in_ok-first.ensures.written.0, length-map c.args.plan.now.services service_seen)) c.in-Ok.ensures.count c.in-Ok.ensures.flushed c.in-Ok.ensures.cause.kept;
+}
 
-pub returns-in_err-tail-clause-memory : goal.returns-in_err-tail-clause-memory
-returns-in_err-tail-clause-memory g c = λ e. absurd (c.in_err-tail.ensures.others.1 (ap (λ x. Err x) (came_up c.from_residual-in_err-tail.result c.in_err-tail.field-0.0 fault.OutOfMemory c.from_residual-in_err-tail.ensures.1 e)))
-
-pub returns-in_err-first-clause-file : goal.returns-in_err-first-clause-file
-returns-in_err-first-clause-file g c = λ e.
-    c.in_err-first.ensures.cause.failed (ap (λ f. Err f) (adding_failed c.from_residual.result c.in_err-first.field-0.0 c.from_residual.ensures.1 e))
-
-pub returns-in_err-first-clause-rack_kept : goal.returns-in_err-first-clause-rack_kept
-returns-in_err-first-clause-rack_kept g c = λ other.
-    c.in_err-first.ensures.cause.kept (λ f. adding_not_failed c.from_residual.result c.in_err-first.field-0.0 c.from_residual.ensures.1 other (cc))
-
-pub returns-in_err-tail-clause-file : goal.returns-in_err-tail-clause-file
-returns-in_err-tail-clause-file g c = λ e.
-    c.in_err-tail.ensures.file (ap (λ x. Err x) (came_up c.from_residual-in_err-tail.result c.in_err-tail.field-0.0 fault.Rack c.from_residual-in_err-tail.ensures.1 e))
-    ∙ ap (λ (n : ℕ). raised n 1) (c.in_ok-first.ensures.cause.kept (λ f. absurd (cc)))
-
-pub returns-in_err-tail-clause-rack_kept : goal.returns-in_err-tail-clause-rack_kept
-returns-in_err-tail-clause-rack_kept g c = λ other.
-    c.in_err-tail.ensures.rack_kept (λ f. other (comes_up c.from_residual-in_err-tail.result c.in_err-tail.field-0.0 fault.Rack c.from_residual-in_err-tail.ensures.1 (cc)))
-    ∙ c.in_ok-first.ensures.cause.kept (λ f. absurd (cc))
-
-pub returns-in-Ok-clause-rack_kept : goal.returns-in-Ok-clause-rack_kept
-returns-in-Ok-clause-rack_kept g c = λ other.
-    c.in-Ok.ensures.cause.kept ∙ (c.in_ok-tail.ensures.rack_kept (λ f. absurd (cc)) ∙ c.in_ok-first.ensures.cause.kept (λ f. absurd (cc)))
-
-pub returns-in-Err-clause-file : goal.returns-in-Err-clause-file
-returns-in-Err-clause-file g c = λ e.
-    c.in-Err.ensures.cause.failed ∙ ap (λ (n : ℕ). raised n 1) (c.in_ok-tail.ensures.rack_kept (λ f. absurd (cc)) ∙ c.in_ok-first.ensures.cause.kept (λ f. absurd (cc)))
+pub returns-in-Err : goal.returns-in-Err
+returns-in-Err g c = record {
+  captures =
+      let plan : PlanFields = plan_fields c.args.plan.now in
+      captured_in_flush plan c.in_ok-first.first (g.I.Source.told c.args.input.now) (g.I.Source.told c.write_pieces.new.input)
+      (g.R.Rack.told c.args.rack.now) (g.R.Rack.told c.add_files.new.rack) (g.R.Rack.told c.write_pieces.new.rack) c.write_pieces.new.receiver (c.write_pieces.new.input ≡ c.args.input.now)
+      (sized (g.R.Rack.told c.args.rack.now).files (g.R.Rack.told c.args.rack.now).count c.in_ok-first.first c.in_ok-first.ensures.place.0 (g.met.R.Rack.as_many c.args.rack.now))
+      c.in_ok-first.ensures.written.1 (c.in_ok-first.ensures.cause.kept (λ f. absurd (cc)))
+      (g.R.Rack.told c.flush_files.new.rack) c.in_ok-tail.tail c.len-services.result (changes_right plan c.args.plan.now.whole)
+      (c.len-services.ensures.read ∙ sym (length-map c.args.plan.now.services service_seen))
+      c.in_ok-tail.ensures.writes c.in-Err.ensures.stopped c.in-Err.ensures.cause.failed;
+}

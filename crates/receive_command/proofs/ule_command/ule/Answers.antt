@@ -1,56 +1,48 @@
-use Rattle.std.proofs.Common.{◌≡◌, ◌<◌, ◌≤◌, ◌*◌, ℕ, length, ap, subst, None, Err}
-use Rattle.wire_spec.specs.Causes.{raised}
-use Rattle.ts_spec.specs.Recording.{record_size}
+use Rattle.std.proofs.Common.{◌≡◌, ℕ, Ok, Err, length, refl, ap, subst, arith}
+use Rattle.std.proofs.lemmas.List.{length-map}
+use Rattle.receive_command.proofs.CameUp.{comes_up}
 use Rattle.plan_spec.specs.Plan.{PlanFields}
-use Rattle.receive_command.specs.Reading.{most_records}
-use Rattle.receive_command.specs.Ends.{EndsWholeOn, EndsFrontOn, EndsAtLimitOn, EndsInFilesOn}
-use Rattle.receive_command.specs.declared.faults.ReceiveFault.TheVariants as fault
-use Rattle.receive_command.proofs.Adding.{none_begun}
-use Rattle.receive_command.proofs.CameUp.{came_up}
+use Rattle.plan.specs.Parts.{service_seen}
+use Rattle.plan.specs.PlanView.{plan_fields}
+use Rattle.receive_command.specs.Receives.{ReceivesFiles}
+use Rattle.receive_command.proofs.Plans.{services_count}
+use Rattle.receive_command.proofs.Begun.{is_fresh, has_room, is_ready}
+use Rattle.receive_command.proofs.Received.{files_done, files_fail}
 use Rattle.receive_command.proofs.ule_command.ule.Goals as goal
 
-pub returns-clause-done : goal.returns-clause-done
-returns-clause-done g c =
-    subst (λ (plan : PlanFields). EndsWholeOn None plan (g.I.Source.told c.args.input.now).left (g.I.Source.told c.write_captures.new.input).left (g.R.Rack.told c.args.rack.now).files (g.R.Rack.told c.write_captures.new.rack).files)
-    c.in_ok-plan.ensures.written c.in_ok-write_captures.ensures.whole.ends
+pub write_captures-requires-clause-ready : goal.write_captures-requires-clause-ready
+write_captures-requires-clause-ready g c =
+    let plan : PlanFields = plan_fields c.in_ok-plan.plan in
+    is_ready plan c.in_ok-receiver.receiver _ _ c.in_ok-plan.plan.whole (is_fresh plan c.in_ok-receiver.receiver c.in_ok-receiver.ensures.packets c.in_ok-receiver.ensures.frames)
+    c.in_ok-receiver.ensures.is_open c.in_ok-receiver.ensures.plan (omega (arith, length-map c.in_ok-plan.plan.services service_seen)) c.in_ok-pieces.ensures.content
 
-pub returns-clause-fewer : goal.returns-clause-fewer
-returns-clause-fewer g c =
-    subst (λ (plan : PlanFields). (n : ℕ) × (n < record_size plan.recording * most_records) × ((g.I.Source.told c.write_captures.new.input).taken ≡ raised (g.I.Source.told c.args.input.now).taken n))
-    c.in_ok-plan.ensures.written c.in_ok-write_captures.ensures.fewer
+pub write_captures-requires-clause-room : goal.write_captures-requires-clause-room
+write_captures-requires-clause-room g c = has_room (plan_fields c.in_ok-plan.plan) c.in_ok-receiver.receiver c.in_ok-receiver.ensures.packets c.in_ok-receiver.ensures.frames
 
-pub returns-in_err-write_captures-clause-front : goal.returns-in_err-write_captures-clause-front
-returns-in_err-write_captures-clause-front g c = λ e.
-    subst (λ (plan : PlanFields). EndsFrontOn None plan (g.I.Source.told c.args.input.now).left (g.I.Source.told c.write_captures.new.input).left (g.R.Rack.told c.args.rack.now).files (g.R.Rack.told c.write_captures.new.rack).files)
-    c.in_ok-plan.ensures.written (c.in_err-write_captures.ensures.front (ap (λ x. Err x) (came_up c.from_residual-in_err-write_captures.result c.in_err-write_captures.field-0.0 fault.Source c.from_residual-in_err-write_captures.ensures.1 e)))
+pub write_captures-requires-clause-some : goal.write_captures-requires-clause-some
+write_captures-requires-clause-some g c = omega (arith, (services_count (plan_fields c.in_ok-plan.plan) c.in_ok-plan.plan.valid).0, length-map c.in_ok-plan.plan.services service_seen)
 
-pub returns-in_err-write_captures-clause-front_taken : goal.returns-in_err-write_captures-clause-front_taken
-returns-in_err-write_captures-clause-front_taken g c = λ e.
-    subst (λ (plan : PlanFields). (n : ℕ) × (n < record_size plan.recording * most_records) × ((g.I.Source.told c.write_captures.new.input).taken ≡ raised (g.I.Source.told c.args.input.now).taken n))
-    c.in_ok-plan.ensures.written (c.in_err-write_captures.ensures.front_taken (ap (λ x. Err x) (came_up c.from_residual-in_err-write_captures.result c.in_err-write_captures.field-0.0 fault.Source c.from_residual-in_err-write_captures.ensures.1 e)))
+pub write_captures-requires-clause-few : goal.write_captures-requires-clause-few
+write_captures-requires-clause-few g c = omega (arith, (services_count (plan_fields c.in_ok-plan.plan) c.in_ok-plan.plan.valid).1, length-map c.in_ok-plan.plan.services service_seen)
 
-pub returns-in_err-write_captures-clause-limit : goal.returns-in_err-write_captures-clause-limit
-returns-in_err-write_captures-clause-limit g c = λ e.
-    subst (λ (plan : PlanFields). EndsAtLimitOn None plan (g.I.Source.told c.args.input.now).left (g.I.Source.told c.write_captures.new.input).left (g.R.Rack.told c.args.rack.now).files (g.R.Rack.told c.write_captures.new.rack).files)
-    c.in_ok-plan.ensures.written (c.in_err-write_captures.ensures.limit (ap (λ x. Err x) (came_up c.from_residual-in_err-write_captures.result c.in_err-write_captures.field-0.0 fault.TooLong c.from_residual-in_err-write_captures.ensures.1 e)))
+pub write_captures-requires-clause-fresh : goal.write_captures-requires-clause-fresh
+write_captures-requires-clause-fresh g c = is_fresh (plan_fields c.in_ok-plan.plan) c.in_ok-receiver.receiver c.in_ok-receiver.ensures.packets c.in_ok-receiver.ensures.frames
 
-pub returns-in_err-write_captures-clause-limit_taken : goal.returns-in_err-write_captures-clause-limit_taken
-returns-in_err-write_captures-clause-limit_taken g c = λ e.
-    subst (λ (plan : PlanFields). (g.I.Source.told c.write_captures.new.input).taken ≡ raised (g.I.Source.told c.args.input.now).taken (record_size plan.recording * most_records))
-    c.in_ok-plan.ensures.written (c.in_err-write_captures.ensures.limit_taken (ap (λ x. Err x) (came_up c.from_residual-in_err-write_captures.result c.in_err-write_captures.field-0.0 fault.TooLong c.from_residual-in_err-write_captures.ensures.1 e)))
+pub returns : goal.returns
+returns g c = record {
+  receives = subst (λ (plan : PlanFields). ReceivesFiles (Ok tt) plan (g.I.Source.told c.args.input.now) (g.I.Source.told c.write_captures.new.input) (g.R.Rack.told c.args.rack.now) (g.R.Rack.told c.write_captures.new.rack)
+      (c.write_captures.new.input ≡ c.args.input.now)) c.in_ok-plan.ensures.written
+      (files_done (plan_fields c.in_ok-plan.plan) (g.I.Source.told c.args.input.now) (g.I.Source.told c.write_captures.new.input) (g.R.Rack.told c.args.rack.now) (g.R.Rack.told c.write_captures.new.rack)
+      c.write_captures.new.receiver (c.write_captures.new.input ≡ c.args.input.now) c.in_ok-write_captures.field-0 tt c.in_ok-write_captures.ensures.captures);
+}
 
-pub returns-in_err-write_captures-clause-files : goal.returns-in_err-write_captures-clause-files
-returns-in_err-write_captures-clause-files g c = λ e.
-    subst (λ (plan : PlanFields). EndsInFilesOn None plan (g.I.Source.told c.args.input.now).left (g.I.Source.told c.write_captures.new.input).left (g.R.Rack.told c.args.rack.now).files (g.R.Rack.told c.write_captures.new.rack).files)
-    c.in_ok-plan.ensures.written (c.in_err-write_captures.ensures.files (ap (λ x. Err x) (came_up c.from_residual-in_err-write_captures.result c.in_err-write_captures.field-0.0 fault.Rack c.from_residual-in_err-write_captures.ensures.1 e)))
-
-pub returns-in_err-write_captures-clause-files_taken : goal.returns-in_err-write_captures-clause-files_taken
-returns-in_err-write_captures-clause-files_taken g c = λ e.
-    subst (λ (plan : PlanFields). (n : ℕ) × (n ≤ record_size plan.recording * most_records) × ((g.I.Source.told c.write_captures.new.input).taken ≡ raised (g.I.Source.told c.args.input.now).taken n))
-    c.in_ok-plan.ensures.written (c.in_err-write_captures.ensures.files_taken (ap (λ x. Err x) (came_up c.from_residual-in_err-write_captures.result c.in_err-write_captures.field-0.0 fault.Rack c.from_residual-in_err-write_captures.ensures.1 e)))
-
-pub returns-in_err-write_captures-clause-memory : goal.returns-in_err-write_captures-clause-memory
-returns-in_err-write_captures-clause-memory g c = λ e.
-    let begun = c.in_err-write_captures.ensures.memory (ap (λ x. Err x) (came_up c.from_residual-in_err-write_captures.result c.in_err-write_captures.field-0.0 fault.OutOfMemory c.from_residual-in_err-write_captures.ensures.1 e)) in
-    let none = none_begun _ (g.R.Rack.told c.args.rack.now).files (g.R.Rack.told c.write_captures.new.rack).files (g.R.Rack.told c.args.rack.now).count (g.R.Rack.told c.write_captures.new.rack).count
-    (ap (λ (plan : PlanFields). length plan.services) c.in_ok-plan.ensures.written) begun.1 in (begun.0, none.0, none.1)
+pub returns-in_err-write_captures : goal.returns-in_err-write_captures
+returns-in_err-write_captures g c =
+    let failed = comes_up c.from_residual-in_err-write_captures.result c.in_err-write_captures.field-0.0 c.in_err-write_captures.field-0.0 c.from_residual-in_err-write_captures.ensures.1 refl in
+    let one : length (plan_fields c.in_ok-plan.plan).services ≡ 1 = ap (λ (plan : PlanFields). length plan.services) c.in_ok-plan.ensures.written in
+    record {
+      receives = rw failed (subst (λ (plan : PlanFields). ReceivesFiles (Err c.in_err-write_captures.field-0.0) plan (g.I.Source.told c.args.input.now) (g.I.Source.told c.write_captures.new.input) (g.R.Rack.told c.args.rack.now)
+          (g.R.Rack.told c.write_captures.new.rack) (c.write_captures.new.input ≡ c.args.input.now)) c.in_ok-plan.ensures.written
+          (files_fail (plan_fields c.in_ok-plan.plan) (g.I.Source.told c.args.input.now) (g.I.Source.told c.write_captures.new.input) (g.R.Rack.told c.args.rack.now) (g.R.Rack.told c.write_captures.new.rack)
+          c.write_captures.new.receiver (c.write_captures.new.input ≡ c.args.input.now) one c.in_err-write_captures.field-0.0 c.in_err-write_captures.ensures.captures));
+    }

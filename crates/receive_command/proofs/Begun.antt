@@ -1,0 +1,59 @@
+-- The receiver and the pieces of a plan, before the first piece.
+use Rattle.std.proofs.Common.{◌≡◌, ◌⊎◌, inl, inr, ℕ, ◌<◌, ◌≤◌, ◌^◌, Bool, true, false, List, [], length, refl, ap, sym, ◌∙◌, subst, arith, Option, None, Some}
+use Rattle.std.specs.Prelude.{is_some}
+use Rattle.std.specs.Option.{unwrap_or}
+use Rattle.ts_spec.specs.Recording.{Record}
+use Rattle.plan_spec.specs.Plan.{PlanFields, is_baseband}
+use Rattle.plan_spec.specs.Wholes.{is_whole_plan}
+use Rattle.bb_stream_law.proofs.PlanChecks.{has_size}
+use Rattle.demux_core.specs.Carriers.{plan_of, is_open_in, stream_of, HasReceivedPackets, HasReceivedFrames}
+use Rattle.demux_core.specs.Carried.{IsReady, TakesSize}
+use Rattle.demux_core.specs.declared.receiver.ByCarrier.{ByCarrier}
+use Rattle.demux_core.specs.declared.receiver.ByCarrier.TheVariants.{Packets, Frames}
+use Rattle.receive_command.specs.Writing.{IsGivenOn, IsGiven}
+use Rattle.receive_command.proofs.Pieces.{records_none}
+
+-- a receiver of the plan that was given nothing
+given_none : (carrier : Option ℕ) (plan : PlanFields) (receiver : ByCarrier) → plan.frame_bytes ≡ carrier
+    → (is_baseband plan ≡ false → HasReceivedPackets false plan [] receiver) → (is_baseband plan ≡ true → HasReceivedFrames plan [] receiver)
+    → IsGivenOn carrier false plan [] receiver
+given_none None plan receiver is packets frames =
+    subst (λ (records : List Record). HasReceivedPackets false plan records receiver) (sym (records_none plan.recording)) (packets (ap is_some is))
+given_none (Some bytes) plan receiver is packets frames = frames (ap is_some is)
+
+pub is_fresh : (plan : PlanFields) (receiver : ByCarrier)
+    → (is_baseband plan ≡ false → HasReceivedPackets false plan [] receiver) → (is_baseband plan ≡ true → HasReceivedFrames plan [] receiver)
+    → IsGiven false plan [] receiver
+is_fresh plan receiver packets frames = given_none plan.frame_bytes plan receiver refl packets frames
+
+-- has counted none
+counted_none : (plan : PlanFields) (receiver : ByCarrier) → HasReceivedPackets false plan [] receiver ⊎ HasReceivedFrames plan [] receiver → (stream_of receiver).records ≡ 0
+counted_none plan (Packets receiver) (inl given) = ap (λ n. n.records) given.stream
+counted_none plan (Packets receiver) (inr given) = absurd given
+counted_none plan (Frames receiver) (inl given) = absurd given
+counted_none plan (Frames receiver) (inr given) = ap (λ n. n.records) given.stream
+
+by_case : (b : Bool) {P Q : Type 0} → (b ≡ false → P) → (b ≡ true → Q) → P ⊎ Q
+by_case true p q = inr (q refl)
+by_case false p q = inl (p refl)
+
+pub has_room : (plan : PlanFields) (receiver : ByCarrier)
+    → (is_baseband plan ≡ false → HasReceivedPackets false plan [] receiver) → (is_baseband plan ≡ true → HasReceivedFrames plan [] receiver)
+    → (stream_of receiver).records ≡ 0
+has_room plan receiver packets frames = counted_none plan receiver (by_case (is_baseband plan) packets frames)
+
+-- and takes the pieces of the plan
+takes_size : (carrier : Option ℕ) (plan : PlanFields) (receiver : ByCarrier) → plan.frame_bytes ≡ carrier → is_whole_plan plan ≡ true → IsGivenOn carrier false plan [] receiver
+    → TakesSize receiver (unwrap_or carrier 188)
+takes_size None plan (Packets receiver) is whole given = refl
+takes_size None plan (Frames receiver) is whole given = absurd given
+takes_size (Some bytes) plan (Packets receiver) is whole given = absurd given
+takes_size (Some bytes) plan (Frames receiver) is whole given = omega (arith, (has_size plan bytes whole is).0)
+
+pub is_ready : (plan : PlanFields) (receiver : ByCarrier) (services content : ℕ) → is_whole_plan plan ≡ true → IsGiven false plan [] receiver
+    → is_open_in receiver ≡ true → plan_of receiver ≡ plan → length plan.services ≤ services → content ≡ unwrap_or plan.frame_bytes 188 → IsReady receiver services content
+is_ready plan receiver services content whole given opened same served is = (
+  subst (TakesSize receiver) (sym is) (takes_size plan.frame_bytes plan receiver refl whole given),
+  opened,
+  subst (λ (p : PlanFields). length p.services ≤ services) (sym same) served,
+)

@@ -1,0 +1,344 @@
+-- One reading of a recording of either carrier into files: what a receiver took and an outlet was given, in the words of the pieces and of the rack.
+use Rattle.std.proofs.Common.{◌≡◌, ◌⊎◌, inl, inr, ℕ, ◌+◌, ◌*◌, ◌<◌, ◌≤◌, Bool, true, false, List, [], ◌∷◌, ◌++◌, length, take, refl, ap, ap₂, sym, ◌∙◌, subst, arith, Option, None, Some, All, Result, Ok, Err, OnOk, OnErr, append_assoc}
+use Rattle.std.specs.Bool.{⊤}
+use Rattle.std.specs.Option.{unwrap_or}
+use Rattle.std.proofs.lemmas.List.{append-nil, length_push}
+use Rattle.wire_spec.specs.Causes.{Rose, raised}
+use Rattle.ts_spec.specs.Recording.{Record, RecordingForm, plain, record_size, records_of}
+use Rattle.ipe_io.specs.Told.{InputTold, RackTold}
+use Rattle.plan_spec.specs.Plan.{PlanFields, is_baseband}
+use Rattle.carrier_spec.specs.Stream.{piece_size}
+use Rattle.reception_spec.specs.Delivered.{told_pairs as told_pairs_of_records, pairs_of_record, pairs_of_end as pairs_behind_records}
+use Rattle.bb_reception_spec.specs.Delivered.{delivered_pairs as pairs_of_frames, pairs_of_frame}
+use Rattle.recording_spec.specs.Pieces.{by_carrier, records_in, told_pairs, pairs_of_end}
+use Rattle.pcap_file.specs.Capture.{capture_record}
+use Rattle.outlet_spec.specs.Pairs.{Delivers, DeliversFront}
+use Rattle.bb_demux.specs.Taking.{frames_in, TookFrames, StoppedInFrame}
+use Rattle.demux_core.specs.Taking.{TookRecords, StoppedInRecord}
+use Rattle.demux_core.specs.Carriers.{plan_of, HasReceivedPackets, HasReceivedFrames}
+use Rattle.demux_core.specs.Carried.{Took, Stopped as StoppedOn}
+use Rattle.demux_core.specs.declared.receiver.ByCarrier.{ByCarrier}
+use Rattle.demux_core.specs.declared.receiver.ByCarrier.TheVariants.{Packets, Frames}
+use Rattle.recording_reader.specs.declared.fault.ReadFault.{ReadFault}
+use Rattle.recording_reader.specs.declared.fault.ReadFault.TheVariants as fault
+use Rattle.recording_reader.specs.Reading.{Reads}
+use Rattle.receive_command.specs.declared.outlet.Progress.{Progress}
+use Rattle.receive_command.specs.declared.outlet.Progress.TheVariants.{Whole, Stopped, Passed}
+use Rattle.receive_command.specs.Growth.{Grow, records_at, records_and}
+use Rattle.receive_command.specs.Outlets.{RackSeen, StandsFor, Refuses, failures}
+use Rattle.receive_command.specs.Reading.{HasRead}
+use Rattle.receive_command.specs.Writing.{IsGivenOn, IsGiven, IsFormOn, IsFormOf, StopsInLast, StopsBehind, WriteEnds, WritesPieces}
+use Rattle.receive_command.proofs.Pieces.{records_length, records_none, records_next}
+use Rattle.receive_command.proofs.Outlets.{seen, BeginsWith, WritesAll, writes_all, PartOf, part_of}
+
+-- Lists by their last element.
+
+init_same : {A : Type 0} (xs ys : List A) (x y : A) → xs ++ x ∷ [] ≡ ys ++ y ∷ [] → xs ≡ ys
+init_same [] [] x y e = refl
+init_same [] (b ∷ ys) x y e = absurd (omega (arith, ap length e, length_push ys y))
+init_same (a ∷ xs) [] x y e = absurd (omega (arith, ap length e, length_push xs x))
+init_same (a ∷ xs) (b ∷ ys) x y e =
+    let heads : a ≡ b = cc in
+    let tails : xs ++ x ∷ [] ≡ ys ++ y ∷ [] = cc in
+    ap₂ (λ h t. h ∷ t) heads (init_same xs ys x y tails)
+
+by_last : {A : Type 0} (xs : List A) → (xs ≡ []) ⊎ ((ys : List A) × (y : A) × (xs ≡ ys ++ y ∷ []))
+by_last [] = inl refl
+by_last (x ∷ xs) = elim (by_last xs) [
+  | inl none ↦ inr ([], x, ap (λ l. x ∷ l) none)
+  | inr more ↦ inr (x ∷ more.0, more.1, ap (λ l. x ∷ l) more.2)
+]
+
+frames_are : (frames : List (List ℕ)) → frames_in (records_of plain frames) ≡ frames
+frames_are [] = refl
+frames_are (f ∷ frames) = ap (λ l. f ∷ l) (frames_are frames)
+
+-- The words of pieces, on a carrier.
+
+abbrev told_on : Option ℕ → PlanFields → List (List ℕ) → List (ℕ × List ℕ)
+told_on carrier plan pieces = by_carrier carrier (told_pairs_of_records plan (records_in plan pieces)) (pairs_of_frames plan pieces)
+
+abbrev of_piece_on : Option ℕ → PlanFields → List (List ℕ) → ℕ → List (ℕ × List ℕ)
+of_piece_on carrier plan pieces place = by_carrier carrier (pairs_of_record plan (records_in plan pieces) place) (pairs_of_frame plan pieces place)
+
+abbrev of_end_on : Option ℕ → PlanFields → List (List ℕ) → List (ℕ × List ℕ)
+of_end_on carrier plan pieces = by_carrier carrier (pairs_behind_records plan (records_in plan pieces)) []
+
+-- no pieces give no records
+none_given : (plan : PlanFields) (start : ByCarrier) → IsGivenOn None false plan [] start → HasReceivedPackets false plan [] start
+none_given plan start fresh = subst (λ (records : List Record). HasReceivedPackets false plan records start) (records_none plan.recording) fresh
+
+-- What a receiver of a carrier took.
+
+pub record TakenOn (carrier : Option ℕ) (plan : PlanFields) (now : ByCarrier) (old new : List (ℕ × List ℕ) → Type 0) (faults now_faults : ℕ) (pieces : List (List ℕ)) : Type 0 where
+  pub given : IsGivenOn carrier false plan pieces now
+  pub delivers : Delivers old new (told_on carrier plan pieces)
+  pub kept : now_faults ≡ faults
+
+pub taken_on : (carrier : Option ℕ) (plan : PlanFields) (start now : ByCarrier) (old new : List (ℕ × List ℕ) → Type 0) (faults now_faults : ℕ) (form : RecordingForm) (size : ℕ)
+    (pieces : List (List ℕ)) → IsGivenOn carrier false plan [] start → IsFormOn carrier plan form size → Took start now old new faults now_faults (records_of form pieces)
+    → TakenOn carrier plan now old new faults now_faults pieces
+taken_on None plan (Packets start) (Packets now) old new faults now_faults form size pieces fresh fits took =
+    let all = subst (λ (f : RecordingForm). TookRecords start now old new faults now_faults (records_of f pieces)) fits.0 took plan (none_given plan (Packets start) fresh) in
+    record { given = all.received; delivers = all.delivers; kept = all.outlet_faults }
+taken_on None plan (Packets start) (Frames now) old new faults now_faults form size pieces fresh fits took = absurd took
+taken_on None plan (Frames start) now old new faults now_faults form size pieces fresh fits took = absurd fresh
+taken_on (Some bytes) plan (Packets start) now old new faults now_faults form size pieces fresh fits took = absurd fresh
+taken_on (Some bytes) plan (Frames start) (Packets now) old new faults now_faults form size pieces fresh fits took = absurd took
+taken_on (Some bytes) plan (Frames start) (Frames now) old new faults now_faults form size pieces fresh fits took =
+    let all = subst (λ (f : RecordingForm). TookFrames start now old new faults now_faults (records_of f pieces)) fits.0 took plan fresh in
+    record {
+      given = subst (λ (fs : List (List ℕ)). IsGivenOn (Some bytes) false plan fs (Frames now)) (frames_are pieces) all.received;
+      delivers = subst (λ (fs : List (List ℕ)). Delivers old new (told_on (Some bytes) plan fs)) (frames_are pieces) all.delivers;
+      kept = all.outlet_faults;
+    }
+
+-- and where it stopped
+pub record StoppedLast (carrier : Option ℕ) (plan : PlanFields) (old new : List (ℕ × List ℕ) → Type 0) (refused : ℕ → List ℕ → Type 0) (all : List (List ℕ)) : Type 0 where
+  pub pieces : List (List ℕ)
+  pub piece : List ℕ
+  pub all_are : all ≡ pieces ++ piece ∷ []
+  pub front : List (ℕ × List ℕ)
+  pub service : ℕ
+  pub datagram : List ℕ
+  pub rest : List (ℕ × List ℕ)
+  pub pairs : of_piece_on carrier plan (pieces ++ piece ∷ []) (length pieces) ≡ front ++ (service, datagram) ∷ rest
+  pub delivers : Delivers old new (told_on carrier plan pieces ++ front)
+  pub refuses : refused service datagram
+
+pub stopped_on : (carrier : Option ℕ) (plan : PlanFields) (start now : ByCarrier) (old new : List (ℕ × List ℕ) → Type 0) (refused : ℕ → List ℕ → Type 0) (faults now_faults : ℕ)
+    (form : RecordingForm) (size : ℕ) (pieces : List (List ℕ)) → IsGivenOn carrier false plan [] start → IsFormOn carrier plan form size
+    → StoppedOn start now old new refused faults now_faults (records_of form pieces) → StoppedLast carrier plan old new refused pieces
+stopped_on None plan (Packets start) (Packets now) old new refused faults now_faults form size pieces fresh fits stopped =
+    let all = subst (λ (f : RecordingForm). StoppedInRecord start now old new refused faults now_faults (records_of f pieces)) fits.0 stopped plan (none_given plan (Packets start) fresh) in
+    elim (by_last pieces) [
+      | inl none ↦ absurd (omega (arith, ap length (sym (records_none plan.recording) ∙ ap (records_of plan.recording) (sym none) ∙ all.records_are), length_push all.before all.last))
+      | inr more ↦
+          let next = records_next plan.recording more.0 more.1 in
+          let are : records_in plan (more.0 ++ more.1 ∷ []) ≡ all.before ++ all.last ∷ [] = ap (records_of plan.recording) (sym more.2) ∙ all.records_are in
+          let inits : records_in plan more.0 ≡ all.before = init_same (records_in plan more.0) all.before next.0 all.last (sym next.1 ∙ are) in
+          record {
+            pieces = more.0;
+            piece = more.1;
+            all_are = more.2;
+            front = all.front;
+            service = all.stops.service;
+            datagram = all.stops.datagram;
+            rest = all.stops.behind;
+            pairs = ap₂ (λ (records : List Record) (n : ℕ). pairs_of_record plan records n) are (sym (records_length plan.recording more.0) ∙ ap length inits) ∙ all.gives;
+            delivers = subst (λ (pairs : List (ℕ × List ℕ)). Delivers old new pairs)
+                (all.late ∙ ap (λ (records : List Record). told_pairs_of_records plan records ++ all.front) (sym inits)) all.stops.delivers;
+            refuses = all.stops.refuses;
+          }
+    ]
+stopped_on None plan (Packets start) (Frames now) old new refused faults now_faults form size pieces fresh fits stopped = absurd stopped
+stopped_on None plan (Frames start) now old new refused faults now_faults form size pieces fresh fits stopped = absurd fresh
+stopped_on (Some bytes) plan (Packets start) now old new refused faults now_faults form size pieces fresh fits stopped = absurd fresh
+stopped_on (Some bytes) plan (Frames start) (Packets now) old new refused faults now_faults form size pieces fresh fits stopped = absurd stopped
+stopped_on (Some bytes) plan (Frames start) (Frames now) old new refused faults now_faults form size pieces fresh fits stopped =
+    let all = subst (λ (f : RecordingForm). StoppedInFrame start now old new refused faults now_faults (records_of f pieces)) fits.0 stopped plan fresh in
+    record {
+      pieces = all.before;
+      piece = all.last;
+      all_are = sym (frames_are pieces) ∙ all.frames_are;
+      front = all.front;
+      service = all.stops.service;
+      datagram = all.stops.datagram;
+      rest = all.stops.behind;
+      pairs = all.gives;
+      delivers = subst (λ (pairs : List (ℕ × List ℕ)). Delivers old new pairs) all.late all.stops.delivers;
+      refuses = all.stops.refuses;
+    }
+
+-- What its end gave.
+
+pub record EndedOn {E : Type 0} (result : Result ⊤ E) (carrier : Option ℕ) (plan : PlanFields) (now : ByCarrier) (old new : List (ℕ × List ℕ) → Type 0) (refused : ℕ → List ℕ → Type 0)
+    (pieces : List (List ℕ)) : Type 0 where
+  pub given : IsGivenOn carrier true plan pieces now
+  pub all : OnOk result (Delivers old new (of_end_on carrier plan pieces))
+  pub part : OnErr result (DeliversFront old new refused (of_end_on carrier plan pieces))
+
+-- an outlet that is as it was
+pub delivers_nothing : (began : RackSeen) (first now_first : ℕ) (rack now_rack : RackTold) (progress now_progress : Progress) (borrow now_borrow : ℕ)
+    → now_first ≡ first → now_rack ≡ rack → now_progress ≡ progress → now_borrow ≡ borrow
+    → Delivers (StandsFor began (seen first rack) progress borrow) (StandsFor began (seen now_first now_rack) now_progress now_borrow) []
+delivers_nothing began first now_first rack now_rack progress now_progress borrow now_borrow firsts racks progresses borrows = λ before stands.
+    subst (StandsFor began (seen now_first now_rack) now_progress now_borrow) (sym (append-nil before))
+    (subst (λ (n : ℕ). StandsFor began (seen now_first now_rack) now_progress n before) (sym borrows)
+    (subst (λ (p : Progress). StandsFor began (seen now_first now_rack) p borrow before) (sym progresses)
+    (subst (λ (r : RackTold). StandsFor began (seen now_first r) progress borrow before) (sym racks)
+    (subst (λ (n : ℕ). StandsFor began (seen n rack) progress borrow before) (sym firsts) stands))))
+
+module _ {E : Type 0} (Mid New : List (ℕ × List ℕ) → Type 0) (refused : ℕ → List ℕ → Type 0) (result : Result ⊤ E) (start now : ByCarrier)
+    (packets : (plan : PlanFields) (records : List Record) → HasReceivedPackets false plan records start → HasReceivedPackets true plan records now)
+    (written : (plan : PlanFields) (records : List Record) → HasReceivedPackets false plan records start → OnOk result (Delivers Mid New (pairs_behind_records plan records)))
+    (failed : (plan : PlanFields) (records : List Record) → HasReceivedPackets false plan records start → OnErr result (DeliversFront Mid New refused (pairs_behind_records plan records)))
+    (frames : (plan : PlanFields) (given : List (List ℕ)) → HasReceivedFrames plan given start → HasReceivedFrames plan given now)
+    (done : is_baseband (plan_of start) ≡ true → result ≡ Ok tt)
+    (unchanged : is_baseband (plan_of start) ≡ true → Delivers Mid New []) where
+  is_of_frames : (start : ByCarrier) (plan : PlanFields) (given : List (List ℕ)) → HasReceivedFrames plan given start → plan_of start ≡ plan
+  is_of_frames (Packets start) plan given has = absurd has
+  is_of_frames (Frames start) plan given has = has.plan_is
+
+  pub ended_on : (carrier : Option ℕ) (plan : PlanFields) (form : RecordingForm) (size : ℕ) (pieces : List (List ℕ)) → IsFormOn carrier plan form size → IsGivenOn carrier false plan pieces start
+      → EndedOn result carrier plan now Mid New refused pieces
+  ended_on None plan form size pieces fits given =
+      record { given = packets plan (records_in plan pieces) given; all = written plan (records_in plan pieces) given; part = failed plan (records_in plan pieces) given }
+  ended_on (Some bytes) plan form size pieces fits given =
+      let baseband : is_baseband (plan_of start) ≡ true = ap is_baseband (is_of_frames start plan pieces given) ∙ fits.2 in
+      record {
+        given = frames plan pieces given;
+        all = subst (λ (r : Result ⊤ E). OnOk r (Delivers Mid New [])) (sym (done baseband)) (unchanged baseband);
+        part = subst (λ (r : Result ⊤ E). OnErr r (DeliversFront Mid New refused [])) (sym (done baseband)) tt;
+      }
+
+-- The whole.
+
+size_on : (carrier : Option ℕ) (plan : PlanFields) (form : RecordingForm) (size : ℕ) → IsFormOn carrier plan form size → size ≡ unwrap_or carrier (record_size plan.recording)
+size_on None plan form size fits = fits.1
+size_on (Some bytes) plan form size fits = fits.1
+
+size_is : (plan : PlanFields) (form : RecordingForm) (size : ℕ) → IsFormOf plan form size → size ≡ piece_size plan
+size_is plan form size fits = size_on plan.frame_bytes plan form size fits
+
+module _ (plan : PlanFields) (form : RecordingForm) (size : ℕ) (fits : IsFormOf plan form size) (result : Result ℕ ReadFault) (input now : InputTold)
+    (Took Stopped : List Record → Type 0) (reads : Reads result form size input now Took Stopped) where
+  read_on : HasRead (piece_size plan) input.left now.left reads.pieces reads.behind
+  read_on = record {
+    each = subst (λ (n : ℕ). All (λ piece. length piece ≡ n) reads.pieces) (size_is plan form size fits) reads.each;
+    short = subst (λ (n : ℕ). length reads.behind < n) (size_is plan form size fits) reads.short;
+    consumed = reads.consumed;
+  }
+
+  taken_of : now.taken ≡ raised input.taken (piece_size plan * length reads.pieces + length reads.behind)
+  taken_of = subst (λ (n : ℕ). now.taken ≡ raised input.taken (n * length reads.pieces + length reads.behind)) (size_is plan form size fits) reads.taken
+
+module _ (plan : PlanFields) (first : ℕ) (input now : InputTold) (rack had now_rack : RackTold) (began : RackSeen) (now_first : ℕ) (progress : Progress)
+    (borrow now_borrow : ℕ) (form : RecordingForm) (size : ℕ) (start mid : ByCarrier) (place : began.first ≡ first) (same : BeginsWith began rack)
+    (is : borrow ≡ now_borrow → now_rack ≡ had) (fresh : IsGiven false plan [] start) (fits : IsFormOf plan form size) where
+  abbrev Old : List (ℕ × List ℕ) → Type 0
+  Old = StandsFor began (seen first rack) Whole borrow
+
+  abbrev New : List (ℕ × List ℕ) → Type 0
+  New = StandsFor began (seen now_first had) progress now_borrow
+
+  abbrev Refused : ℕ → List ℕ → Type 0
+  Refused = Refuses began (seen now_first had) progress
+
+  all_written : (pairs : List (ℕ × List ℕ)) → failures progress ≡ 0 → Delivers Old New pairs → WritesAll first rack now_rack pairs
+  all_written pairs none delivers = writes_all began first now_first rack had now_rack progress borrow now_borrow pairs none place same delivers is
+
+  part_written : (front : List (ℕ × List ℕ)) (service : ℕ) (datagram : List ℕ) → Delivers Old New front → Refused service datagram → PartOf first rack now_rack front service datagram
+  part_written front service datagram delivers refuses = part_of began first now_first rack had now_rack progress borrow now_borrow front service datagram place same delivers refuses is
+
+  -- the reading stopped
+  pub wrote_front : (e : ReadFault)
+      → Reads (Err e) form size input now (λ records. Took start mid Old New 0 (failures progress) records)
+      (λ records. StoppedOn start mid Old New Refused 0 (failures progress) records)
+      → WritesPieces (Err e) plan first input now rack now_rack mid
+  wrote_front fault.Source reads =
+      let took = taken_on plan.frame_bytes plan start mid Old New 0 (failures progress) form size reads.pieces fresh fits reads.ends.3 in
+      let all = all_written (told_pairs plan reads.pieces) took.kept took.delivers in
+      record {
+        pieces = reads.pieces;
+        behind = reads.behind;
+        read = read_on plan form size fits _ input now _ _ reads;
+        taken = taken_of plan form size fits _ input now _ _ reads;
+        ends = (reads.ends.0, reads.ends.1, reads.ends.2, all.kept, all.files);
+      }
+  wrote_front fault.TooLong reads =
+      let took = taken_on plan.frame_bytes plan start mid Old New 0 (failures progress) form size reads.pieces fresh fits reads.ends.3 in
+      let all = all_written (told_pairs plan reads.pieces) took.kept took.delivers in
+      record {
+        pieces = reads.pieces;
+        behind = reads.behind;
+        read = read_on plan form size fits _ input now _ _ reads;
+        taken = taken_of plan form size fits _ input now _ _ reads;
+        ends = (reads.ends.0, reads.ends.1, reads.ends.2, all.kept, all.files);
+      }
+  wrote_front fault.Taker reads =
+      let stop = stopped_on plan.frame_bytes plan start mid Old New Refused 0 (failures progress) form size reads.pieces fresh fits reads.ends.3 in
+      let part = part_written (told_pairs plan stop.pieces ++ stop.front) stop.service stop.datagram stop.delivers stop.refuses in
+      record {
+        pieces = reads.pieces;
+        behind = reads.behind;
+        read = read_on plan form size fits _ input now _ _ reads;
+        taken = taken_of plan form size fits _ input now _ _ reads;
+        ends = (
+          reads.ends.2,
+          part.rose,
+          inl (
+            reads.ends.0,
+            reads.ends.1,
+            record {
+              pieces = stop.pieces;
+              piece = stop.piece;
+              all_are = stop.all_are;
+              front = stop.front;
+              service = stop.service;
+              datagram = stop.datagram;
+              rest = stop.rest;
+              pairs = stop.pairs;
+              count = part.count;
+              less = part.less;
+              files = part.files;
+            },
+          ),
+        );
+      }
+
+  -- the reading came to the end, which gave what it gives, or stopped in it. The outlet between stands for what the pieces tell.
+  module _ (Mid : List (ℕ × List ℕ) → Type 0) (mid_faults tail : ℕ) (ended : ByCarrier) (Stops : List Record → Type 0)
+      (reads : Reads (Ok tail) form size input now (λ records. Took start mid Old Mid 0 mid_faults records) Stops) where
+    took_all : TakenOn plan.frame_bytes plan mid Old Mid 0 mid_faults reads.pieces
+    took_all = taken_on plan.frame_bytes plan start mid Old Mid 0 mid_faults form size reads.pieces fresh fits reads.ends.5
+
+    pub given_all : IsGiven false plan reads.pieces mid
+    given_all = took_all.given
+
+    pub wrote_whole : {E : Type 0} (x : ⊤) → failures progress ≡ mid_faults → EndedOn {E = E} (Ok x) plan.frame_bytes plan ended Mid New Refused reads.pieces
+        → WritesPieces (Ok tail) plan first input now rack now_rack ended
+    wrote_whole x none end =
+        let told : List (ℕ × List ℕ) = told_pairs plan reads.pieces in
+        let last : List (ℕ × List ℕ) = pairs_of_end plan reads.pieces in
+        let all = all_written (told ++ last) (none ∙ took_all.kept)
+        (λ before stands. subst New (append_assoc before told last) (end.all (before ++ told) (took_all.delivers before stands))) in
+        record {
+          pieces = reads.pieces;
+          behind = reads.behind;
+          read = read_on plan form size fits _ input now _ _ reads;
+          taken = taken_of plan form size fits _ input now _ _ reads;
+          ends = (reads.ends.0, reads.ends.1, reads.ends.2, reads.ends.3, reads.ends.4, all.kept, all.count, all.files, end.given);
+        }
+
+    pub wrote_behind : {E : Type 0} (e : E) → EndedOn (Err e) plan.frame_bytes plan ended Mid New Refused reads.pieces
+        → WritesPieces (Err fault.Taker) plan first input now rack now_rack ended
+    wrote_behind e end =
+        let told : List (ℕ × List ℕ) = told_pairs plan reads.pieces in
+        let stop = end.part in
+        let part = part_written (told ++ stop.front) stop.service stop.datagram
+        (λ before stands. subst New (append_assoc before told stop.front) (stop.delivers (before ++ told) (took_all.delivers before stands))) stop.refuses in
+        record {
+          pieces = reads.pieces;
+          behind = reads.behind;
+          read = read_on plan form size fits _ input now _ _ reads;
+          taken = taken_of plan form size fits _ input now _ _ reads;
+          ends = (
+            reads.ends.4,
+            part.rose,
+            inr (
+              reads.ends.1,
+              reads.ends.2,
+              record {
+                front = stop.front;
+                service = stop.service;
+                datagram = stop.datagram;
+                rest = stop.behind;
+                pairs = stop.pairs_are;
+                count = part.count;
+                less = part.less;
+                files = part.files;
+              },
+            ),
+          );
+        }

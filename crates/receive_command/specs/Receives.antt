@@ -1,0 +1,104 @@
+-- What a command that receives ensures, by its answer: one record, a field a sentence.
+use Rattle.std.specs.Prelude.{◌≡◌, ◌⊎◌, ℕ, ◌+◌, ◌*◌, ◌<◌, ◌≤◌, true, false, List, length, Result, Ok, Err, OnErr, IsErrOf, ⊤}
+use Rattle.wire_spec.specs.Causes.{raised, Rose}
+use Rattle.wire_spec.specs.Content.{Stays}
+use Rattle.ipe_io.specs.Told.{InputTold, RackTold, OutputTold}
+use Rattle.ipe_io.specs.Counts.{IsFlushed}
+use Rattle.plan_spec.specs.Plan.{PlanFields}
+use Rattle.carrier_spec.specs.Stream.{piece_size}
+use Rattle.demux_core.specs.declared.receiver.ByCarrier.{ByCarrier}
+use Rattle.receive_command.specs.declared.faults.ReceiveFault.{ReceiveFault}
+use Rattle.receive_command.specs.declared.faults.ReceiveFault.TheVariants as fault
+use Rattle.receive_command.specs.Files.{AddsHeads}
+use Rattle.receive_command.specs.Reading.{most_records}
+use Rattle.receive_command.specs.Ends.{WritesWhole, EndsWhole, EndsFront, EndsAtLimit, EndsInFiles, EndsReported, EndsInReport, Reports, ReportsPart}
+use Rattle.receive_command.specs.Writing.{IsGiven}
+
+-- an input was read to its end, and gave fewer bytes than the most pieces have
+pub record TakesAll (plan : PlanFields) (input now : InputTold) : Type 0 where
+  pub ended : now.ended ≡ true
+  pub count : ℕ
+  pub fewer : count < piece_size plan * most_records
+  pub taken : now.taken ≡ raised input.taken count
+
+-- it could not be read on, and gave fewer
+pub record TakesFront (plan : PlanFields) (input now : InputTold) : Type 0 where
+  pub going : input.ended ≡ false → now.ended ≡ false
+  pub count : ℕ
+  pub fewer : count < piece_size plan * most_records
+  pub taken : now.taken ≡ raised input.taken count
+
+-- it gave at most as many
+pub record TakesMost (plan : PlanFields) (input now : InputTold) : Type 0 where
+  pub count : ℕ
+  pub most : count ≤ piece_size plan * most_records
+  pub taken : now.taken ≡ raised input.taken count
+
+-- the rack has a file more for each service
+abbrev pub HasAllFiles : PlanFields → RackTold → RackTold → Type 0
+HasAllFiles plan rack now = now.count ≡ rack.count + length plan.services
+
+-- it has those of fewer than all, with their heads
+pub record HasHeads (plan : PlanFields) (rack now : RackTold) : Type 0 where
+  pub heads : AddsHeads plan.services rack.files now.files
+  pub many : now.count ≡ rack.count + heads.count
+
+-- a counter of faults: it rose where the answer names its object, and otherwise stayed
+pub record Blames {T : Type 0} (result : Result T ReceiveFault) (own : ReceiveFault) (before now : ℕ) : Type 0 where
+  pub rose : IsErrOf result own → Rose before now
+  pub kept : ¬ IsErrOf result own → now ≡ before
+
+-- How a recording is received into files, by the answer; where all is done, or memory runs out, or an output fails, as the command has it.
+abbrev pub ReceiveEnds : {T : Type 0} → Result T ReceiveFault → PlanFields → InputTold → InputTold → RackTold → RackTold → (Done : T → Type 0) → (LacksMemory Fails : Type 0) → Type 0
+ReceiveEnds (Ok it) plan input now rack now_rack Done LacksMemory Fails = Done it × HasAllFiles plan rack now_rack × TakesAll plan input now
+ReceiveEnds (Err fault.Source) plan input now rack now_rack Done LacksMemory Fails =
+    EndsFront plan input.left now.left rack.files now_rack.files × TakesFront plan input now
+ReceiveEnds (Err fault.TooLong) plan input now rack now_rack Done LacksMemory Fails =
+    EndsAtLimit plan input.left now.left rack.files now_rack.files × (now.taken ≡ raised input.taken (piece_size plan * most_records))
+ReceiveEnds (Err fault.Rack) plan input now rack now_rack Done LacksMemory Fails =
+    EndsInFiles plan input.left now.left rack.files now_rack.files × TakesMost plan input now
+ReceiveEnds (Err fault.OutOfMemory) plan input now rack now_rack Done LacksMemory Fails = LacksMemory
+ReceiveEnds (Err fault.Sink) plan input now rack now_rack Done LacksMemory Fails = Fails
+
+pub record ReceivesInto {T : Type 0} (result : Result T ReceiveFault) (plan : PlanFields) (input now : InputTold) (rack now_rack : RackTold) (Done : T → Type 0) (LacksMemory Fails : Type 0) : Type 0 where
+  pub ends : ReceiveEnds result plan input now rack now_rack Done LacksMemory Fails
+  pub input_faults : Blames result fault.Source input.faults now.faults
+  pub rack_faults : Blames result fault.Rack rack.faults now_rack.faults
+
+-- the captures alone: a receiver has all pieces, and the answer is how many bytes are after the last; where memory runs out nothing is
+-- read, and the heads of fewer than all files stand
+abbrev pub Captures : Result ℕ ReceiveFault → PlanFields → InputTold → InputTold → RackTold → RackTold → ByCarrier → (Unread : Type 0) → Type 0
+Captures result plan input now rack now_rack receiver Unread =
+    ReceivesInto result plan input now rack now_rack
+    (λ tail. WritesWhole plan (λ pieces. IsGiven true plan pieces receiver) input.left now.left rack.files now_rack.files tail)
+    (Unread × HasHeads plan rack now_rack) ⊥
+
+-- the captures alone, where all memory is taken before anything is read or added
+abbrev pub ReceivesFiles : Result ⊤ ReceiveFault → PlanFields → InputTold → InputTold → RackTold → RackTold → (Unread : Type 0) → Type 0
+ReceivesFiles result plan input now rack now_rack Unread =
+    ReceivesInto result plan input now rack now_rack
+    (λ done. EndsWhole plan input.left now.left rack.files now_rack.files)
+    (Unread × (now_rack.count ≡ rack.count) × Stays rack.files now_rack.files) ⊥
+
+-- the captures, and then the report on an output: without it, where memory runs out behind the captures; part of it, where the output fails
+pub record Receives (result : Result ⊤ ReceiveFault) (plan : PlanFields) (input now : InputTold) (rack now_rack : RackTold) (output now_output : OutputTold) (Unread Silent : Type 0) : Type 0 where
+  pub into : ReceivesInto result plan input now rack now_rack
+      (λ done. EndsReported plan input.left now.left rack.files now_rack.files output.held now_output.held × IsFlushed now_output.held now_output.flushed)
+      ((Unread × HasHeads plan rack now_rack) ⊎ EndsWhole plan input.left now.left rack.files now_rack.files)
+      (EndsInReport plan input.left now.left rack.files now_rack.files output.held now_output.held × Stays output.flushed now_output.flushed
+      × HasAllFiles plan rack now_rack × TakesAll plan input now)
+  pub unchanged : ¬ IsErrOf result fault.Sink → OnErr result Silent
+  pub output_faults : Blames result fault.Sink output.faults now_output.faults
+
+-- A report is put on an output, by the answer: the text is so; nothing is written where memory runs out.
+abbrev pub PutEnds : Result ⊤ ReceiveFault → (IsText : List ℕ → Type 0) → OutputTold → OutputTold → (Silent : Type 0) → Type 0
+PutEnds (Ok done) IsText output now Silent = Reports IsText output.held now.held × IsFlushed now.held now.flushed
+PutEnds (Err fault.Sink) IsText output now Silent = ReportsPart IsText output.held now.held × Stays output.flushed now.flushed
+PutEnds (Err fault.OutOfMemory) IsText output now Silent = Silent
+PutEnds (Err fault.Source) IsText output now Silent = ⊥
+PutEnds (Err fault.Rack) IsText output now Silent = ⊥
+PutEnds (Err fault.TooLong) IsText output now Silent = ⊥
+
+pub record PutsReport (result : Result ⊤ ReceiveFault) (IsText : List ℕ → Type 0) (output now : OutputTold) (Silent : Type 0) : Type 0 where
+  pub ends : PutEnds result IsText output now Silent
+  pub output_faults : Blames result fault.Sink output.faults now.faults
