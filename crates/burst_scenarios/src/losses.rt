@@ -21,7 +21,7 @@ use test_recordings::{Numbers, TableReport, damaged};
 
 /// What happens to the stream, and what is received.
 #[derive(Clone, Copy)]
-struct Loss<'a> {
+pub struct Loss<'a> {
     name: &'a str,
     harms: &'a [Harm],
     records: u64,
@@ -42,7 +42,7 @@ const WHOLE: Numbers = Numbers {
 };
 
 /// All packets of other PIDs are lost.
-const OTHERS: Loss = Loss {
+pub const OTHERS: Loss = Loss {
     name: "all packets of other PIDs",
     harms: &[
         Drop { first: 0, last: 99 },
@@ -64,7 +64,7 @@ const OTHERS: Loss = Loss {
 
 /// The end of burst 0 and the beginning of burst 1. Datagrams 0 to 5 of burst 0 have 8,064 bytes; the first one of burst 1 that
 /// arrives is its fifteenth, which begins at byte 18,816. No section of parity of burst 0 arrives, and all of burst 1.
-const BOTH: Loss = Loss {
+pub const BOTH: Loss = Loss {
     name: "the end of a burst and the beginning of the next",
     harms: &[
         Drop {
@@ -255,7 +255,7 @@ fn table_of(loss: &Loss<'_>) -> TableReport<'static> {
 }
 
 /// What comes of a loss is what must come.
-fn comes(alloc: Global, sent: &Sent<'_>, stream: &[u8], loss: &Loss<'_>) -> Result<(), Fail> {
+pub fn comes(alloc: Global, sent: &Sent<'_>, stream: &[u8], loss: &Loss<'_>) -> Result<(), Fail> {
     let due = Due {
         records: loss.records,
         tail_bytes: 0,

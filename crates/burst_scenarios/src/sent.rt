@@ -35,7 +35,7 @@ rules = [\"239.1.0.0/16\"]
 ";
 
 /// Of such a service with frames of 256 rows and four columns of parity: bursts of 29 packets at most.
-const SMALL: &str = "[[service]]
+pub const SMALL: &str = "[[service]]
 name = \"lecture\"
 kind = \"fec\"
 pid = 512
@@ -53,7 +53,7 @@ cycle = 1000
 ";
 
 /// A burst each 20 milliseconds and, from record 6 on, on PID 700.
-const SHORT: &str = "cycle = 200\n";
+pub const SHORT: &str = "cycle = 200\n";
 
 const MOVED: &str = "[[change]]
 at = 6

@@ -31,22 +31,26 @@ use std::alloc::Global;
 /// happened is a run of that job: specs/Runs.antt says in twelve sentences what that is.
 ///
 /// - ends: the table of jobs and their statuses;
-/// - settings: Settings comes exactly where the settings are refused, and nothing else is used then;
+/// - settings: Settings comes only where the settings are refused, and then nothing else is used; where they are, the run ends with it, or
+///   with a fault of the shelf or out of memory;
 /// - unused: what a job does not use, and what it had no turn to use, stays as it was;
 /// - counts: each fault has its cause in the count of its object, and no count rises at another status;
-/// - reads: how much of the input was read; Done says that it has ended;
+/// - reads: how much of the input was read; Done says that it has ended, and of a recording that a file was added for each service;
 /// - stands: what files and output hold after each status, to the byte;
 /// - memory: what they hold where memory ran out;
 /// - line_is: the line that is reported;
-/// - loss: the loss law in transport packets; whatever records of the recording were dropped, repeated or damaged on their way, if no damaged
-///   unit passes its CRC-32, each file has wanted datagrams that were sent, unchanged, in order, each once, among them each
-///   whose unit arrived intact, and of MPE-FEC frames each datagram of a frame in which no row lacks more than 64 of its 255
-///   bytes, if no 4,095 frames in a row go unheard between two that are heard; at every status but Done a prefix of such a
-///   file;
-/// - loss_in_frames: the loss law in baseband frames; whatever frames were dropped or damaged on their way, if each PDU that is
-///   reassembled from fragments was sent, each file has wanted datagrams that were sent, unchanged, in order, each once, among
-///   them each whose frames all arrived; at every status but Done a prefix of such a file;
-/// - isolation, isolation_in_frames: no service's file depends on packets or frames of others.
+/// - loss: the loss law in transport packets, of each service by itself, whatever became of others. Premises: the packets of its PIDs
+///   carried datagrams; records were lost, damaged or, if kept, repeated before a packet of their PID with other bytes, all in order, and any
+///   inserted in which nothing is read on its PIDs; no damaged or spliced unit of it passes its CRC-32; of MPE-FEC frames no 4,095 in a row go unheard between two that are heard, or with
+///   time slicing accepted sections come at times that part the frames as delta_t announces. Then its file has wanted datagrams that
+///   were sent, unchanged, in order, those of each unit at most once, among them each whose unit arrived intact, and of MPE-FEC frames
+///   each of a frame in which no row lacks more than 64 of its 255 bytes; at every status but Done a prefix of such a file, or none;
+/// - loss_in_frames: the same in baseband frames. Premises: the frames of its ISI carried datagrams; frames were lost, or damaged so that
+///   their header shows it, all in order, and refused ones and those of other ISIs inserted, but none of its ISI repeated; no PDU of it is
+///   put together that was not sent with that label. Then its file has wanted datagrams that were sent, unchanged, in order, each once,
+///   among them each whose frames were all kept; at every status but Done a prefix of such a file, or none;
+/// - isolation, isolation_in_frames: at Done no service's file depends on packets of other PIDs, but where the plan changes on the bytes of the
+///   INT's, nor on moments, but with time slicing on those of its own packets; nor on frames of other ISIs.
 pub fn run<S: Shelf, I: Source, O: Sink, R: Rack, E: Sink>(
     alloc: Global,
     words: &[String],

@@ -1,0 +1,35 @@
+-- Counts of faults: each fault has its cause in the count of its object, and no fault is passed over.
+use Rattle.std.specs.Prelude.{◌≡◌, ℕ, ◌≤◌, Bool, true, false, List, Some}
+use Rattle.wire_spec.specs.Causes.{Rose}
+use Rattle.ipe_io.specs.Told.{ShelfTold}
+use Rattle.ipencap_engine.specs.World.{World, Object, the_shelf, the_input, the_output, the_rack}
+use Rattle.ipencap_engine.specs.Jobs.{Job, row}
+use Rattle.ipencap_engine.specs.declared.status.Status.{Status}
+use Rattle.ipencap_engine.specs.declared.status.Status.TheVariants as status
+
+-- the status blames the object
+abbrev pub blames : Status → Object → Bool
+blames status.ShelfFault the_shelf = true
+blames status.SourceFault the_input = true
+blames status.SinkFault the_output = true
+blames status.RackFault the_rack = true
+blames end object = false
+
+-- a count rose where its object is blamed, and stays as it was where it is not
+abbrev pub IsCount : Bool → ℕ → ℕ → Type 0
+IsCount true before after = Rose before after
+IsCount false before after = after ≡ before
+
+-- of a shelf that is blamed, that count which the job's settings have; no count of it falls, and its files stay
+pub record KeepsShelf (job : Job) (is_blamed : Bool) (before after : ShelfTold) : Type 0 where
+  pub files : (name : List ℕ) → after.file name ≡ before.file name
+  pub later : (name : List ℕ) → before.faults name ≤ after.faults name
+  pub rose : (name : List ℕ) → (row job).settings ≡ Some name → is_blamed ≡ true → Rose (before.faults name) (after.faults name)
+  pub kept : (name : List ℕ) → is_blamed ≡ false → after.faults name ≡ before.faults name
+
+-- each fault has its cause in the count of its object, and each count that rose its status
+pub record CountsFaults (job : Job) (end : Status) (before after : World) : Type 0 where
+  pub shelf : KeepsShelf job (blames end the_shelf) before.shelf after.shelf
+  pub input : IsCount (blames end the_input) before.input.faults after.input.faults
+  pub output : IsCount (blames end the_output) before.output.faults after.output.faults
+  pub rack : IsCount (blames end the_rack) before.rack.faults after.rack.faults

@@ -1,0 +1,41 @@
+-- The line that a run reports.
+use Rattle.std.specs.Prelude.{◌≡◌, ℕ, true, List, []}
+use Rattle.pcap_file.specs.Reader.{is_cut}
+use Rattle.pcap_file.specs.declared.faults.CaptureFault.{CaptureFault}
+use Rattle.settings_load.specs.Settings.{Refusal, IsRefusedFile}
+use Rattle.settings_load.specs.Lines.{refusal_line}
+use Rattle.send_command.specs.Sending.{ShowsFault}
+use Rattle.send_command.specs.Lines.{tally_line, fault_line}
+use Rattle.send_command.specs.declared.ends.Tally.{Tally}
+use Rattle.ipencap_engine.specs.Statuses.{status_line}
+use Rattle.ipencap_engine.specs.World.{World}
+use Rattle.ipencap_engine.specs.Jobs.{Job, Intake, no_input, a_capture, a_recording, row, TellsSettings}
+use Rattle.ipencap_engine.specs.Reads.{TakesCapture}
+use Rattle.ipencap_engine.specs.declared.status.Status.{Status}
+use Rattle.ipencap_engine.specs.declared.status.Status.TheVariants as status
+
+-- that of a send that is done has numbers
+abbrev pub IsDoneLine : Intake → List ℕ → Type 0
+IsDoneLine no_input line = line ≡ []
+IsDoneLine a_capture line = (tally : Tally) × (line ≡ tally_line tally)
+IsDoneLine a_recording line = line ≡ []
+
+-- that of refused settings says why
+pub record IsRefusalLine (job : Job) (before : World) (line : List ℕ) : Type 0 where
+  pub refusal : Refusal
+  pub is : (bytes : List ℕ) → TellsSettings job before.shelf bytes → IsRefusedFile bytes refusal
+  pub line_is : line ≡ refusal_line refusal
+
+-- that of a capture its fault, which the bytes show that were read, and the record that has it; a capture that is cut was read to its end
+pub record IsFaultLine (before after : World) (line : List ℕ) : Type 0 where
+  pub fault : CaptureFault
+  pub place : ℕ
+  pub line_is : line ≡ fault_line fault place
+  pub shown : TakesCapture before.input after.input (λ bytes. ShowsFault bytes fault place)
+  pub cut : is_cut fault ≡ true → after.input.ended ≡ true
+
+abbrev pub IsLine : Job → Status → List ℕ → World → World → Type 0
+IsLine job status.Done line before after = IsDoneLine (row job).intake line
+IsLine job status.Settings line before after = IsRefusalLine job before line
+IsLine job status.Capture line before after = IsFaultLine before after line
+IsLine job end line before after = line ≡ status_line end
