@@ -1,5 +1,5 @@
 -- A service that was read, and the settings that it is from.
-use Rattle.std.specs.Prelude.{◌≡◌, ℕ, true, List, codes}
+use Rattle.std.specs.Prelude.{◌≡◌, ℕ, true, List, [], codes}
 use Rattle.toml.specs.Data.{Data, Members}
 use Rattle.addr_rules.specs.Macs.{broadcast_mac}
 use Rattle.addr_rules.specs.declared.rules.Rule.{Rule}
@@ -25,6 +25,7 @@ pub record IsEnded (table : Members) (place : ℕ) (name : List ℕ) (kind : Kin
     name = name;
     kind = kind_seen kind;
     rules = draft.service.rules;
+    urgent = [];
     filter = filter;
     unicast = address_or broadcast_mac (codes "unicast") table;
     service_id = number_or 1 (codes "service_id") table;

@@ -1,5 +1,6 @@
 //! Settings -> the plan that they give.
 ghost use Rattle.std.specs.Prelude.{◌≡◌, ℕ, List, IfOk, IfErr, MatchResult, IsUtf8, Some, None};
+ghost use Rattle.toml.specs.Errors.{IsMemory};
 ghost use Rattle.toml.specs.Parse.{parse_document};
 ghost use Rattle.toml.specs.View.{table_view};
 ghost use Rattle.settings_spec.specs.Keys.{no_document};
@@ -23,13 +24,19 @@ fn document(alloc: Global, text: &[u8]) -> Result<Table, PlanError>
 {
     match toml::table_from_slice(alloc, text) {
         Ok(top) => Ok(top),
-        Err(error) => {
-            if error.is_memory() {
-                Err(PlanError::OutOfMemory)
-            } else {
-                Err(PlanError::Fault(PlanFault::Text))
-            }
-        }
+        Err(error) => Err(error_of(&error)),
+    }
+}
+
+/// Why a text gives no document: memory ran out, or it is none.
+fn error_of(error: &toml::de::Error) -> PlanError
+    ensures memory { IsMemory error.now → result ≡ PlanError.OutOfMemory }
+    ensures text { ¬ IsMemory error.now → result ≡ PlanError.Fault PlanFault.Text }
+{
+    if error.is_memory() {
+        PlanError::OutOfMemory
+    } else {
+        PlanError::Fault(PlanFault::Text)
     }
 }
 
