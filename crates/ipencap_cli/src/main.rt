@@ -10,8 +10,12 @@ ghost use Rattle.ipencap_cli.specs.Exit.{exit_number};
 use ipe_io::{FileRack, FileShelf, OutOfMemory, Sink, StdSink, StdSource};
 use ipencap_engine::{Status, run};
 use std::env;
-use std::io::ErrorKind;
+use std::fs::{File, Files};
+use std::io::{self, ErrorKind, Read, Write};
 use std::process::ExitCode;
+
+/// What the system answers a call on a descriptor that is not open: EBADF.
+const NOT_OPEN: i32 = 9;
 
 /// Hands `run` the words after the program's name, and ends with the number of its status.
 ///
@@ -29,6 +33,9 @@ fn main(rt: HostRuntime) -> ExitCode {
 /// Runs the engine, and then writes out all that the real objects still hold, whatever the status.
 fn work(rt: HostRuntime) -> Result<Status, OutOfMemory> {
     let alloc = rt.alloc();
+    let _input = held(&rt, rt.reader().read(&mut []));
+    let _output = held(&rt, rt.stdout().write(&[]));
+    let _complaints = held(&rt, rt.stderr().write(&[]));
     let words = words_of(&rt)?;
     let mut shelf = FileShelf::new(rt);
     let mut input = StdSource::new(alloc, rt.reader())?;
@@ -47,6 +54,17 @@ fn work(rt: HostRuntime) -> Result<Status, OutOfMemory> {
     let _ = rack.flush_all();
     let _ = output.flush();
     Ok(status)
+}
+
+/// A descriptor of the folder `/`, where a call of no bytes on a standard stream was answered that its descriptor is not open.
+///
+/// It takes the lowest number that is free, which is that of the stream, so that no file that is created later does: the folder can't be
+/// read as a file, and not written. Where it can't be opened, the stream stays closed.
+fn held<R: Files>(files: &R, answer: io::Result<usize>) -> Option<R::File> {
+    match answer {
+        Err(e) if e.raw_os_error() == Some(NOT_OPEN) => File::open(files, "/").ok(),
+        _ => None,
+    }
 }
 
 /// The words after the program's name; none where one is no text, so that they form no command.
