@@ -11,6 +11,7 @@ mod parts;
 mod report;
 mod service_part;
 
+pub use address_text::text_of_rule;
 pub use counts::StreamCounts;
 pub use report::Report;
 pub use service_counts::ServiceCounts;

@@ -6,8 +6,8 @@
 
 mod batch;
 mod int_packets;
-mod int_section;
 mod part_units;
+mod plan_int;
 mod records;
 mod sending;
 mod service_packets;
@@ -18,4 +18,5 @@ mod stamps;
 mod unit_bytes;
 mod units;
 
+pub use plan_int::int_section;
 pub use sending::{MuxFault, Sent, count_datagrams, stream_packets};

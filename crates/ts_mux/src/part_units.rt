@@ -8,7 +8,7 @@ ghost use Rattle.plan_spec.specs.Changes.{plan_in};
 ghost use Rattle.plan_spec.specs.Signalling.{table_of};
 ghost use Rattle.plan.specs.PlanView.{plan_fields};
 
-use crate::int_section::section_of;
+use crate::plan_int::int_section;
 use crate::service_units::{ServiceUnits, units_of_service};
 use datagram_routing::Lists;
 use plan::Plan;
@@ -39,7 +39,7 @@ fn section_in(alloc: Global, plan: &Plan, version: u8) -> Result<Vec<u8>, OutOfM
     ensures most { IfOk result (λ section. length section.items ≤ 4096) }
 {
     match &plan.table {
-        Some(int) => section_of(alloc, plan, version, int),
+        Some(int) => int_section(alloc, plan, version, int),
         None => Ok(Vec::new(alloc)),
     }
 }

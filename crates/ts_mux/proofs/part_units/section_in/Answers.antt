@@ -15,10 +15,10 @@ same_int a b e = cc
 
 pub returns-in-Some-clause-written : goal.returns-in-Some-clause-written
 returns-in-Some-clause-written c =
-    IfOk-weaker c.section_of.result
+    IfOk-weaker c.int_section.result
     (λ section. section.items ≡ table_bytes (table_of (plan_in (plan_fields c.args.plan.now) c.args.version) (int_seen c.in-Some.int)))
     (λ section. (int : IntFields) → (plan_fields c.args.plan.now).table ≡ Some int → section.items ≡ table_bytes (table_of (plan_in (plan_fields c.args.plan.now) c.args.version) int))
     (λ section is int there.
     let same : int_seen c.in-Some.int ≡ int = same_int (int_seen c.in-Some.int) int (sym (ap (λ (o : Option IntPlan). option_map int_seen o) c.in-Some.is) ∙ there) in
     is ∙ ap (λ (i : IntFields). table_bytes (table_of (plan_in (plan_fields c.args.plan.now) c.args.version) i)) same)
-    c.section_of.ensures.written
+    c.int_section.ensures.written

@@ -22,7 +22,7 @@ use Rattle.int_table.specs.Views.{entry_in}
 use Rattle.ts_mux.proofs.Items.{take_next}
 use Rattle.ts_mux.proofs.Moved.{Stays, stays_in, found_in, version_within, frames_at}
 use Rattle.ts_mux.proofs.Signalled.{platform_below, rules_valid, slashes_right, entry_is, with_entry, table_fits}
-use Rattle.ts_mux.proofs.int_section.table_of.Goals as goal
+use Rattle.ts_mux.proofs.plan_int.table_of.Goals as goal
 
 pub new-table-requires-clause-platform_id_below : goal.new-table-requires-clause-platform_id_below
 new-table-requires-clause-platform_id_below c = (platform_below (plan_fields c.args.plan.now) (int_seen c.args.int.now) c.args.plan.now.valid c.requires.int).0

@@ -3,7 +3,7 @@ use Rattle.addr_rules.specs.declared.rules.Rule.{Rule}
 use Rattle.int_spec.specs.Table.{IsRule}
 use Rattle.plan_spec.specs.Valid.{is_valid_rule}
 use Rattle.ts_mux.proofs.Items.{list_all_at, take_next, all_next}
-use Rattle.ts_mux.proofs.int_section.same_rules.Goals as goal
+use Rattle.ts_mux.proofs.plan_int.same_rules.Goals as goal
 
 pub same_rule-requires : goal.same_rule-requires
 same_rule-requires c = list_all_at is_valid_rule c.args.rules.now c.loop-place.place c.at.result.now c.at.ensures.read c.requires

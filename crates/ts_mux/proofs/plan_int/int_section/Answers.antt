@@ -5,7 +5,7 @@ use Rattle.plan_spec.specs.Changes.{plan_in}
 use Rattle.plan_spec.specs.Signalling.{table_of}
 use Rattle.plan.specs.Parts.{int_seen}
 use Rattle.plan.specs.PlanView.{plan_fields}
-use Rattle.ts_mux.proofs.int_section.section_of.Goals as goal
+use Rattle.ts_mux.proofs.plan_int.int_section.Goals as goal
 
 pub returns-clause-written : goal.returns-clause-written
 returns-clause-written c =

@@ -133,8 +133,8 @@ fn table_of(alloc: Global, plan: &Plan, version: u8, int: &IntPlan) -> Result<In
     Ok(table)
 }
 
-/// The section of the INT of a version of a plan.
-pub(crate) fn section_of(
+/// The section of the INT of a version of a plan, 0 for the plan before any change (EN 301 192 clause 8.4); at most 4,096 bytes.
+pub fn int_section(
     alloc: Global,
     plan: &Plan,
     version: u8,

@@ -3,7 +3,7 @@ use Rattle.plan_spec.specs.Plan.{sliced_of}
 use Rattle.plan.specs.Parts.{kind_seen}
 use Rattle.plan.specs.declared.service.Kind.{Kind}
 use Rattle.plan.specs.declared.service.Kind.TheVariants.{Fec}
-use Rattle.ts_mux.proofs.int_section.slices_of.Goals as goal
+use Rattle.ts_mux.proofs.plan_int.slices_of.Goals as goal
 
 pub duration_of-duration-requires-clause-short : goal.duration_of-duration-requires-clause-short
 duration_of-duration-requires-clause-short c =

@@ -7,7 +7,7 @@ use Rattle.plan_spec.specs.Changes.{plan_in, services_in}
 use Rattle.plan_spec.specs.Signalling.{table_of, entry_of}
 use Rattle.plan.specs.Parts.{int_seen}
 use Rattle.plan.specs.PlanView.{plan_fields}
-use Rattle.ts_mux.proofs.int_section.table_of.Given as goal
+use Rattle.ts_mux.proofs.plan_int.table_of.Given as goal
 
 abbrev pub invariant-loop-place : goal.invariant-loop-place
 invariant-loop-place l = record {

@@ -2,7 +2,7 @@
 use Rattle.std.proofs.Common.{◌≡◌, take}
 use Rattle.std.specs.Prelude.{All}
 use Rattle.int_spec.specs.Table.{IsRule}
-use Rattle.ts_mux.proofs.int_section.same_rules.Given as goal
+use Rattle.ts_mux.proofs.plan_int.same_rules.Given as goal
 
 abbrev pub invariant-loop-place : goal.invariant-loop-place
 invariant-loop-place l = record {
