@@ -1,6 +1,6 @@
 //! The draws of a sample, and its datagrams, each in the list of the service that takes it.
 //!
-//! Sample: [sample_draws] -> mux_core -> sample_command.
+//! Sample: [sample_draws] -> ts_mux -> sample_command.
 //! Begin with `Draws::new` and `offer_sample`.
 #![tactic(auto)]
 

@@ -1,6 +1,6 @@
 -- The units that a sender makes of a service's datagrams, and the packets that carry them: SNDUs (RFC 4326), datagram_sections
 -- (EN 301 192 clause 7), and the sections of MPE-FEC frames (clause 9), with and without time slicing.
-use Rattle.std.specs.Prelude.{ℕ, ◌+◌, ◌-◌, ◌*◌, ◌%◌, Bool, true, not, ◌&&◌, List, [], ◌∷◌, ◌++◌, length, take, map, flat_map, ◌==◌, nat_le, if◌then◌else◌, Some, None}
+use Rattle.std.specs.Prelude.{ℕ, ◌+◌, ◌-◌, ◌%◌, Bool, true, not, ◌&&◌, List, [], ◌∷◌, ◌++◌, length, take, map, flat_map, ◌==◌, nat_le, if◌then◌else◌, Some, None}
 use Rattle.wire_spec.specs.Datagram.{ether_type_of}
 use Rattle.ip_datagram.specs.Destination.{destination_of}
 use Rattle.addr_rules.specs.Macs.{mac_of_address}
