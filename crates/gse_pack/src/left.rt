@@ -1,12 +1,11 @@
-//! What is left to be packed of a service's datagrams: the rest of the one that has begun, and those that have not.
+//! What is left to be packed of a list: the rest of the item that has begun, and those that have not.
 ghost use Rattle.std.specs.Prelude.{◌≡◌, ◌≤◌, ◌∷◌, [], length, drop, map, Some, None, IfSome, IfNone};
-ghost use Rattle.gse_spec.specs.Sending.{pdu_for};
-ghost use Rattle.gse_pack.specs.Offered.{AreShortDatagrams};
+ghost use Rattle.gse_pack.specs.Forms.{pdu_by, FormFits};
 ghost use Rattle.gse_pack.specs.Steps.{IsShort, none_left, rest_of};
 ghost use Rattle.gse_pack.specs.Views.{pdu_in, rest_or_none};
 
-use crate::pdu::{Pdu, pdu_of};
-use byte_slices::array_bytes;
+use crate::pdu::{Form, Pdu, pdu_of};
+use addr_rules::Label;
 use ip_datagram::DatagramList;
 use std::marker::Model;
 
@@ -22,9 +21,9 @@ pub(crate) struct Rest<'a> {
 #[derive(Drop)]
 pub(crate) struct Left<'a> {
     list: &'a DatagramList,
-    address: bool,
-    unicast: [u8; 6],
-    /// How many datagrams have begun.
+    /// How its items become PDUs.
+    form: Form,
+    /// How many of them have begun.
     begun: usize,
     /// What is left of the last of these.
     rest: Option<Rest<'a>>,
@@ -35,16 +34,15 @@ pub(crate) struct Left<'a> {
 impl<'a> Model for Left<'a> {
     ghost use Rattle.std.specs.Prelude.{◌≡◌, length, map, drop};
     ghost use Rattle.gse_spec.specs.Packing.{InOrder};
-    ghost use Rattle.gse_spec.specs.Sending.{pdu_for};
-    ghost use Rattle.gse_pack.specs.Offered.{AreShortDatagrams};
+    ghost use Rattle.gse_pack.specs.Forms.{pdu_by, FormFits};
     ghost use Rattle.gse_pack.specs.Steps.{IsShortRest};
     ghost use Rattle.gse_pack.specs.Views.{rest_or_none};
 
     ghost Value = { InOrder };
 
-    ghost view = { λ l. record { id = l.id; rest = rest_or_none l.rest; pdus = map (pdu_for l.address l.unicast) (drop l.begun l.list.now) } };
+    ghost view = { λ l. record { id = l.id; rest = rest_or_none l.rest; pdus = map (pdu_by l.form) (drop l.begun l.list.now) } };
 
-    ghost invariant = { λ l. (length l.unicast ≡ 6) × AreShortDatagrams l.list.now × IsShortRest (rest_or_none l.rest) };
+    ghost invariant = { λ l. FormFits l.form l.list.now × IsShortRest (rest_or_none l.rest) };
 }
 
 impl<'a> Left<'a> {
@@ -52,18 +50,15 @@ impl<'a> Left<'a> {
     ghost use Rattle.gse_spec.specs.Packing.{InOrder};
     ghost use Rattle.gse_pack.specs.Steps.{IsShort, IsShortRest, none_left, rest_of};
 
-    /// All datagrams of the list, which have at most 65,527 bytes each.
-    pub(crate) fn over(list: &'a DatagramList, address: bool, unicast: [u8; 6]) -> Left<'a>
-        requires datagrams { AreShortDatagrams list.now }
-        ensures begins { result ≡ record { id = 0; rest = None; pdus = map (pdu_for address unicast) list.now } }
+    /// All items of the list, which have at most 65,527 bytes each.
+    pub(crate) fn over(list: &'a DatagramList, form: Form) -> Left<'a>
+        requires items { FormFits form list.now }
+        ensures begins { result ≡ record { id = 0; rest = None; pdus = map (pdu_by form) list.now } }
         ensures short { IsShort result }
     {
-        // An address has six bytes.
-        array_bytes(&unicast);
         Left {
             list,
-            address,
-            unicast,
+            form,
             begun: 0,
             rest: None,
             id: 0,
@@ -94,7 +89,15 @@ impl<'a> Left<'a> {
         if self.begun >= list.len() {
             return None;
         }
-        Some(pdu_of(list.at(self.begun), self.address, self.unicast))
+        let bytes = list.at(self.begun);
+        match self.form {
+            Form::Datagrams { address, unicast } => Some(pdu_of(bytes, address, unicast)),
+            Form::OfType(protocol) => Some(Pdu {
+                protocol,
+                label: Label::Broadcast,
+                bytes,
+            }),
+        }
     }
 
     /// The next PDU was written whole, where there is one.

@@ -3,7 +3,9 @@ ghost use Rattle.std.specs.Prelude.{◌≡◌, ◌≤◌};
 
 use crate::left::Left;
 use crate::packing::fill;
+use crate::pdu::Form;
 use bb_frame::seal;
+use byte_slices::array_bytes;
 use ip_datagram::DatagramList;
 use std::marker::Model;
 
@@ -35,7 +37,7 @@ impl<'a> Model for Packer<'a> {
 impl<'a> Packer<'a> {
     ghost use Rattle.std.specs.Prelude.{◌≡◌, ◌≤◌, ◌<◌, ◌∷◌, true, length, map, nat_lt};
     ghost use Rattle.gse_spec.specs.Sending.{pdu_for, frames_for};
-    ghost use Rattle.gse_pack.specs.Offered.{AreShortDatagrams};
+    ghost use Rattle.gse_pack.specs.Offered.{AreShortDatagrams, AreShortItems, pdu_as};
     ghost use Rattle.gse_pack.specs.Steps.{PackerState};
 
     /// Begins with the datagrams of one service, on an ISI, in frames of `frame_bytes`, 300 to 7,274.
@@ -55,8 +57,25 @@ impl<'a> Packer<'a> {
         ensures size { result.size ≡ frame_bytes }
         ensures frames { result.frames ≡ frames_for isi frame_bytes (map (pdu_for address unicast) list.now) }
     {
+        // An address has six bytes.
+        array_bytes(&unicast);
         Packer {
-            left: Left::over(list, address, unicast),
+            left: Left::over(list, Form::Datagrams { address, unicast }),
+            isi,
+            size: usize::from(frame_bytes),
+        }
+    }
+
+    /// Begins with the items of a list, each a PDU of this Protocol Type for all receivers. An item has at most 65,527 bytes.
+    pub fn over_as(list: &'a DatagramList, protocol: u16, isi: u8, frame_bytes: u16) -> Packer<'a>
+        requires least { 300 ≤ frame_bytes }
+        requires most { frame_bytes ≤ 7274 }
+        requires items { AreShortItems list.now }
+        ensures size { result.size ≡ frame_bytes }
+        ensures frames { result.frames ≡ frames_for isi frame_bytes (map (pdu_as protocol) list.now) }
+    {
+        Packer {
+            left: Left::over(list, Form::OfType(protocol)),
             isi,
             size: usize::from(frame_bytes),
         }

@@ -1,7 +1,7 @@
-//! All frames of a service.
-ghost use Rattle.std.specs.Prelude.{◌≡◌, ◌≤◌, map, IfOk};
+//! All frames of a service, or of a list of one Protocol Type.
+ghost use Rattle.std.specs.Prelude.{◌≡◌, ◌≤◌, ◌++◌, [], map, IfOk};
 ghost use Rattle.gse_spec.specs.Sending.{pdu_for, frames_for};
-ghost use Rattle.gse_pack.specs.Offered.{AreShortDatagrams};
+ghost use Rattle.gse_pack.specs.Offered.{AreShortDatagrams, AreShortItems, pdu_as};
 
 use crate::frames::Frames;
 use crate::packer::Packer;
@@ -26,10 +26,39 @@ pub fn pack(
     requires datagrams { AreShortDatagrams list.now }
     ensures written { IfOk result (λ frames. frames ≡ frames_for isi frame_bytes (map (pdu_for address unicast) list.now)) }
 {
-    let mut packer = Packer::over(list, address, unicast, isi, frame_bytes);
+    all_frames(
+        alloc,
+        Packer::over(list, address, unicast, isi, frame_bytes),
+    )
+}
+
+/// Packs the items of a list as `pack` does, each as a PDU of one Protocol Type without an address, and holds all frames.
+pub fn pack_as(
+    alloc: Global,
+    list: &DatagramList,
+    protocol: u16,
+    isi: u8,
+    frame_bytes: u16,
+) -> Result<Frames, OutOfMemory>
+    requires least { 300 ≤ frame_bytes }
+    requires most { frame_bytes ≤ 7274 }
+    requires items { AreShortItems list.now }
+    ensures written { IfOk result (λ frames. frames ≡ frames_for isi frame_bytes (map (pdu_as protocol) list.now)) }
+{
+    all_frames(alloc, Packer::over_as(list, protocol, isi, frame_bytes))
+}
+
+/// All frames that a packer has left.
+fn all_frames(alloc: Global, left: Packer<'_>) -> Result<Frames, OutOfMemory>
+    requires least { 300 ≤ left.size }
+    requires most { left.size ≤ 7274 }
+    ensures all { IfOk result (λ frames. frames ≡ left.entry.frames) }
+{
+    let mut packer = left;
     let mut frames = DatagramList::new(alloc);
     let mut place = [0; FRAME];
-    let frame = &mut place[..usize::from(frame_bytes)];
+    let size = packer.frame_bytes();
+    let frame = &mut place[..size];
     while packer.has_frame() {
         packer.write_frame(frame);
         frames.push(frame)?;
