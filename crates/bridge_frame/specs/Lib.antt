@@ -1,0 +1,6 @@
+pub mod Handing
+pub mod Sndus
+pub mod Pdus
+pub mod Bridge
+pub mod Taking
+pub mod Untaken
