@@ -1,0 +1,13 @@
+pub mod ReadBack
+pub mod Laid
+pub mod PmtBack
+pub mod Rising
+pub mod Unused
+pub mod Programs
+pub mod Found
+pub mod AfterPat
+pub mod ReadOn
+pub mod EachFound
+pub mod InVersions
+pub mod HasPid
+pub mod Printed

@@ -1,0 +1,4 @@
+pub mod OnPid
+pub mod Order
+pub mod Programs
+pub mod Printed

@@ -1,0 +1,8 @@
+pub mod Views
+pub mod Pieces
+pub mod Refusals
+pub mod First
+pub mod Watching
+pub mod Text
+pub mod Taking
+pub mod Untaken
