@@ -3,4 +3,5 @@ pub mod Given
 pub mod Intakes
 pub mod Taking
 pub mod Counts
+pub mod Written
 pub mod Standing

@@ -1,5 +1,5 @@
 -- What was read of a capture, record by record, and what that shows.
-use Rattle.std.proofs.Common.{◌≡◌, ℕ, ◌+◌, ◌≤◌, List, [], ◌∷◌, ◌++◌, length, Option, Some, None, Result, Ok, Err, IfSome, refl, ap, sym, ◌∙◌, subst, append_assoc, is_some, if◌then◌else◌}
+use Rattle.std.proofs.Common.{inr, ◌≡◌, ℕ, ◌+◌, ◌≤◌, List, [], ◌∷◌, ◌++◌, length, Option, Some, None, Result, Ok, Err, IfSome, refl, ap, sym, ◌∙◌, subst, append_assoc, is_some, if◌then◌else◌}
 use Rattle.std.specs.Borrow.{Bor}
 use Rattle.ipe_io.specs.Told.{InputTold}
 use Rattle.pcap_file.specs.Reading.{head_fault}
@@ -10,6 +10,7 @@ use Rattle.pcap_file.specs.Captured.{captured_datagram}
 use Rattle.pcap_file.specs.declared.faults.CaptureFault.{CaptureFault}
 use Rattle.pcap_file.specs.declared.faults.NextFault.TheVariants as next_fault
 use Rattle.pcap_file.proofs.Captures.{HasRead-more}
+use Rattle.pcap_file.proofs.FileHeads.{head_fault-append, head_is_whole}
 use Rattle.pcap_file.proofs.Longest.{Tells-nothing}
 use Rattle.pcap_file.proofs.ReadAhead.{rest_given}
 use Rattle.pcap_file.proofs.Shown.{no_fault_behind, read_ahead, shown_behind}
@@ -121,9 +122,10 @@ reads_all r n held front captured a b c before stop shows = record {
   shows = shows (front ++ (held ++ stop.more)) stop.shows (held ++ stop.more) refl;
 }
 
-pub stops_in_error : (captured : List (List ℕ)) (fault : ReadFault) (bytes : List ℕ) → ShowsStop captured (Err fault) bytes → ShowsGathered (Err fault) bytes
-stops_in_error captured read_fault.Source bytes shows = shows
-stops_in_error captured read_fault.OutOfMemory bytes shows = tt
+pub stops_in_error : (front bytes behind : List ℕ) (captured : List (List ℕ)) (fault : ReadFault) → head_fault front ≡ None → bytes ≡ front ++ behind
+    → ShowsStop captured (Err fault) bytes → ShowsGathered (Err fault) bytes
+stops_in_error front bytes behind captured read_fault.Source right e shows = shows
+stops_in_error front bytes behind captured read_fault.OutOfMemory right e shows = inr (ap head_fault e ∙ (head_fault-append front behind (head_is_whole front right) ∙ right))
 
 pub stops_at_fault : (front bytes behind : List ℕ) (captured : List (List ℕ)) (fault : CaptureFault) (place : ℕ) → head_fault front ≡ None → bytes ≡ front ++ behind
     → Tells bytes captured (Some fault) → place ≡ length captured + 1 → ShowsFault bytes fault place

@@ -1,8 +1,9 @@
 -- What was read of a capture and offered.
-use Rattle.std.specs.Prelude.{◌≡◌, ℕ, ◌≤◌, true, List, [], ◌∷◌, ◌++◌, option_map, Some, Result, Ok, Err, IfSome, IsErrOf, ⊤}
+use Rattle.std.specs.Prelude.{◌≡◌, ℕ, ◌≤◌, true, List, [], ◌∷◌, ◌++◌, option_map, None, Some, Result, Ok, Err, IfSome, IsErrOf, ⊤, ◌⊎◌}
 use Rattle.std.specs.Io.KnownBytes.{Consumes}
 use Rattle.wire_spec.specs.Causes.{Rose}
 use Rattle.ipe_io.specs.Told.{InputTold}
+use Rattle.pcap_file.specs.Reading.{head_fault}
 use Rattle.pcap_file.specs.Told.{Tells, place_of_fault}
 use Rattle.pcap_file.specs.Known.{ReaderState}
 use Rattle.pcap_file.specs.Reader.{HasReadRecords, IsReadAhead, ShowsNoFault, Takes, rest_of}
@@ -61,11 +62,11 @@ pub record ReadsNext (held front : List ℕ) (captured : List (List ℕ)) (resul
   pub ahead : IsReadAhead (front ++ (held ++ more))
   pub shows : ShowsStop captured result (front ++ (held ++ more))
 
--- what the bytes that were read show, by what was gathered of them
+-- what the bytes that were read show, by what was gathered of them; memory runs out before the first, or behind a head without fault
 abbrev pub ShowsGathered : Result Gathered ReadFault → List ℕ → Type 0
 ShowsGathered (Ok gathered) bytes = IfSome gathered.fault (λ found. ShowsFault bytes found.fault found.place)
 ShowsGathered (Err read.Source) bytes = ShowsNoFault bytes
-ShowsGathered (Err read.OutOfMemory) bytes = ⊤
+ShowsGathered (Err read.OutOfMemory) bytes = (bytes ≡ []) ⊎ (head_fault bytes ≡ None)
 
 pub record ReadsAll (result : Result Gathered ReadFault) (old new : InputTold) : Type 0 where
   pub bytes : List ℕ

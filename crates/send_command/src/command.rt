@@ -9,10 +9,11 @@ ghost use Rattle.ts_mux.specs.Sending.{IsUnderPlan};
 ghost use Rattle.send_command.specs.Gathering.{IsGathered};
 ghost use Rattle.send_command.specs.Sending.{Sends, Reads, OnCapture, is_done, is_whole, is_begun};
 
-use crate::ends::{SendEnd, Tally};
+use crate::ends::SendEnd;
 use crate::gather::{Gathered, ReadFault, gather};
+use crate::offered::send_offered;
 use ipe_io::{Sink, Source};
-use mux_core::{MuxFault, stream};
+use mux_core::MuxFault;
 use plan::Plan;
 use std::alloc::Global;
 
@@ -65,24 +66,16 @@ fn write_stream<O: Sink>(alloc: Global, plan: &Plan, gathered: &Gathered, output
     ensures sink { result ≡ SendEnd.SinkFault → Rose (O.told output.old).faults (O.told output.new).faults }
     ensures output_kept { result ≢ SendEnd.SinkFault → (O.told output.new).faults ≡ (O.told output.old).faults }
 {
-    let sent = match stream(alloc, plan, &gathered.offered, output) {
-        Ok(sent) => sent,
+    let tally = match send_offered(alloc, plan, &gathered.offered, output) {
+        Ok(tally) => tally,
         Err(MuxFault::Sink) => return SendEnd::SinkFault,
         Err(MuxFault::OutOfMemory) => return SendEnd::OutOfMemory,
     };
-    if output.flush().is_err() {
-        return SendEnd::SinkFault;
-    }
     match gathered.fault {
         Some(found) => SendEnd::Capture {
             fault: found.fault,
             place: found.place,
         },
-        None => SendEnd::Done(Tally {
-            offered: sent.datagrams,
-            not_ip: gathered.offered.not_ip,
-            unrouted: gathered.offered.unrouted,
-            too_long: gathered.offered.too_long,
-        }),
+        None => SendEnd::Done(tally),
     }
 }

@@ -1,7 +1,7 @@
 //! The command that sends: a capture in, the stream of what a plan's services take of it out.
 //!
 //! Sending: Source -> pcap_file -> datagram_routing -> mux_core -> Sink, all of it in [send_command].
-//! Begin with `send`; `tell_tally` and `tell_fault` write the line that is told of its end.
+//! Begin with `send`; `tell_tally` and `tell_fault` write the line that is told of its end. `send_offered` is the part behind the capture.
 #![tactic(auto)]
 
 mod command;
@@ -9,8 +9,10 @@ mod ends;
 mod gather;
 mod laws;
 mod lines;
+mod offered;
 
 pub use command::send;
 pub use ends::{SendEnd, Tally};
 pub use laws::a_capture_is_sent_in_one_way;
 pub use lines::{tell_fault, tell_tally};
+pub use offered::send_offered;

@@ -1,16 +1,18 @@
-use Rattle.std.proofs.Common.{refl}
 use Rattle.plan.specs.PlanView.{plan_fields}
-use Rattle.send_command.proofs.Standing.{sends_all, sends_unflushed}
+use Rattle.send_command.proofs.Standing.{sends_all, sends_to_fault, sends_front}
 use Rattle.send_command.proofs.command.write_stream.Goals as goal
 
-pub returns-then-is_err-clause-sent : goal.returns-then-is_err-clause-sent
-returns-then-is_err-clause-sent g c = λ bytes gathered.
-    sends_unflushed (plan_fields c.args.plan.now) bytes c.args.gathered.now c.in-Ok.sent (g.O.Sink.told c.args.output.now).held (g.O.Sink.told c.stream.new.sink).held (g.O.Sink.told c.flush.new.self).held
-    gathered (λ gives stands. c.in-Ok.ensures.written gives stands) c.flush.ensures.kept
+pub returns-in-Err-Sink-clause-sent : goal.returns-in-Err-Sink-clause-sent
+returns-in-Err-Sink-clause-sent g c = λ bytes gathered.
+    sends_front (plan_fields c.args.plan.now) bytes c.args.gathered.now (g.O.Sink.told c.args.output.now).held (g.O.Sink.told c.send_offered.new.output).held
+    gathered (λ gives stands. c.in-Err-Sink.ensures.written gives stands)
+
+pub returns-in-Some-clause-sent : goal.returns-in-Some-clause-sent
+returns-in-Some-clause-sent g c = λ bytes gathered.
+    sends_to_fault (plan_fields c.args.plan.now) bytes c.args.gathered.now c.in-Ok.tally c.in-Some.found (g.O.Sink.told c.args.output.now).held (g.O.Sink.told c.send_offered.new.output).held
+    gathered c.in-Some.is (λ gives stands. c.in-Ok.ensures.written gives stands)
 
 pub returns-in-None-clause-sent : goal.returns-in-None-clause-sent
 returns-in-None-clause-sent g c = λ bytes gathered.
-    sends_all (plan_fields c.args.plan.now) bytes c.args.gathered.now c.in-Ok.sent
-    (record { offered = c.in-Ok.sent.datagrams; not_ip = c.args.gathered.now.offered.not_ip; unrouted = c.args.gathered.now.offered.unrouted; too_long = c.args.gathered.now.offered.too_long })
-    (g.O.Sink.told c.args.output.now).held (g.O.Sink.told c.stream.new.sink).held (g.O.Sink.told c.flush.new.self).held
-    gathered c.in-None.is (λ gives stands. c.in-Ok.ensures.written gives stands) c.flush.ensures.kept c.in-Ok.ensures.datagrams refl refl refl
+    sends_all (plan_fields c.args.plan.now) bytes c.args.gathered.now c.in-Ok.tally (g.O.Sink.told c.args.output.now).held (g.O.Sink.told c.send_offered.new.output).held
+    gathered c.in-None.is (λ gives stands. c.in-Ok.ensures.written gives stands)

@@ -1,4 +1,4 @@
-use Rattle.std.proofs.Common.{inl, List, ℕ, Result, Err, append-nil, ◌+◌, [], ◌∷◌, ◌++◌, Some, None, Ok, ap, sym, ◌∙◌, subst}
+use Rattle.std.proofs.Common.{inl, inr, List, ℕ, Result, Err, append-nil, ◌+◌, [], ◌∷◌, ◌++◌, Some, None, Ok, ap, sym, ◌∙◌, subst}
 use Rattle.std.proofs.lemmas.Result.{err_from_is_err_and}
 use Rattle.std.proofs.KnownBytes.{Consumes-trans}
 use Rattle.pcap_file.specs.Reader.{Takes, rest_of}
@@ -100,7 +100,8 @@ returns-in-Err-Failed-clause-reads g c =
 pub returns-in-Err-OutOfMemory-clause-reads : goal.returns-in-Err-OutOfMemory-clause-reads
 returns-in-Err-OutOfMemory-clause-reads g c =
     let read = c.in-Err-OutOfMemory.ensures.read in
-    record { bytes = read.head; takes = read.takes; ahead = inl read.few; shows = tt }
+    let shows = rw c.in-Err-OutOfMemory.field-0-is at read.shows in
+    record { bytes = read.head; takes = read.takes; ahead = inl read.few; shows = inr shows }
 
 pub returns-in-End-clause-reads : goal.returns-in-End-clause-reads
 returns-in-End-clause-reads g c =
@@ -129,4 +130,4 @@ returns-in_err-offer_next-clause-reads g c =
     let failed = err_from_is_err_and c.from_residual.result c.from_residual.ensures.1 in
     rw (failed.1 ∙ ap (λ e. Err e) failed.2)
     (reads_all r n c.records.reader.held c.records.invariant.0 c.records.invariant.1 (g.I.Source.told c.args.input.now) (g.I.Source.told c.records.input) (g.I.Source.told c.offer_next.new.input) c.records.invariant.2.taken
-    (c.in_err-offer_next.ensures.reads c.records.invariant.0 c.records.invariant.1 c.records.invariant.2.intake) (λ bytes shows behind e. stops_in_error c.records.invariant.1 fault bytes shows))
+    (c.in_err-offer_next.ensures.reads c.records.invariant.0 c.records.invariant.1 c.records.invariant.2.intake) (λ bytes shows behind e. stops_in_error c.records.invariant.0 bytes behind c.records.invariant.1 fault c.records.invariant.2.intake.has_read.capture.head e shows))
