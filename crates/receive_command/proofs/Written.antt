@@ -203,14 +203,14 @@ size_is plan form size fits = size_on plan.frame_bytes plan form size fits
 
 module _ (plan : PlanFields) (form : RecordingForm) (size : ℕ) (fits : IsFormOf plan form size) (result : Result ℕ ReadFault) (input now : InputTold)
     (Took Stopped : List Record → Type 0) (reads : Reads result form size input now Took Stopped) where
-  read_on : HasRead (piece_size plan) input.left now.left reads.pieces reads.behind
+  pub read_on : HasRead (piece_size plan) input.left now.left reads.pieces reads.behind
   read_on = record {
     each = subst (λ (n : ℕ). All (λ piece. length piece ≡ n) reads.pieces) (size_is plan form size fits) reads.each;
     short = subst (λ (n : ℕ). length reads.behind < n) (size_is plan form size fits) reads.short;
     consumed = reads.consumed;
   }
 
-  taken_of : now.taken ≡ raised input.taken (piece_size plan * length reads.pieces + length reads.behind)
+  pub taken_of : now.taken ≡ raised input.taken (piece_size plan * length reads.pieces + length reads.behind)
   taken_of = subst (λ (n : ℕ). now.taken ≡ raised input.taken (n * length reads.pieces + length reads.behind)) (size_is plan form size fits) reads.taken
 
 module _ (plan : PlanFields) (first : ℕ) (input now : InputTold) (rack had now_rack : RackTold) (began : RackSeen) (now_first : ℕ) (progress : Progress)

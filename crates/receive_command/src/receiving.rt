@@ -42,7 +42,7 @@ pub fn receive_recording<I: Source, O: Sink, R: Rack>(
 }
 
 /// The pieces of a recording under a plan. None was read.
-pub(crate) fn open_pieces<'a>(
+pub fn open_pieces<'a>(
     arena: &'a Bump,
     plan: &Plan,
 ) -> Result<RecordingPieces<&'a Bump>, OutOfMemory>
