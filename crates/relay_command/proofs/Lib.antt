@@ -1,0 +1,4 @@
+pub mod AsRecords
+pub mod Limits
+pub mod Receiving
+pub mod Answered

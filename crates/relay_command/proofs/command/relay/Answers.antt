@@ -1,0 +1,74 @@
+use Rattle.std.proofs.Common.{◌≡◌, List, ℕ, refl, ap, sym, ◌∙◌, subst, Err}
+use Rattle.std.specs.Prelude.{All}
+use Rattle.wire_spec.specs.Datagram.{IsDatagram}
+use Rattle.plan_spec.specs.Plan.{PlanFields}
+use Rattle.plan.specs.PlanView.{plan_fields}
+use Rattle.datagram_routing.specs.Offering.{IsOffered}
+use Rattle.recording_spec.specs.Relayed.{as_records}
+use Rattle.relay_command.proofs.Answered.{ends_in_source, ends_too_long, lacks_memory, ends_done, ends_in_sink}
+use Rattle.relay_command.proofs.command.relay.Goals as goal
+
+pub returns-in-Err-Source : goal.returns-in-Err-Source
+returns-in-Err-Source g c = record {
+  relays = ends_in_source (plan_fields c.args.inner.now) (plan_fields c.args.outer.now) (g.I.Source.told c.args.input.now) (g.I.Source.told c.gather_recording.new.input)
+      (g.O.Sink.told c.args.output.now) (c.args.output.now ≡ c.args.output.now) (c.in-Err-Source.ensures.source (ap (λ e. Err e) c.in-Err-Source.field-0-is)) refl;
+}
+
+pub returns-in-Err-TooLong : goal.returns-in-Err-TooLong
+returns-in-Err-TooLong g c = record {
+  relays =
+      let is = c.in-Err-TooLong.field-0-is in
+      ends_too_long (plan_fields c.args.inner.now) (plan_fields c.args.outer.now) (g.I.Source.told c.args.input.now) (g.I.Source.told c.gather_recording.new.input)
+      (g.O.Sink.told c.args.output.now) (c.args.output.now ≡ c.args.output.now) (c.in-Err-TooLong.ensures.too_long (ap (λ e. Err e) is))
+      (c.in-Err-TooLong.ensures.kept (λ other. absurd (cc))) refl;
+}
+
+pub returns-in-Err-OutOfMemory : goal.returns-in-Err-OutOfMemory
+returns-in-Err-OutOfMemory g c = record {
+  relays =
+      let is = c.in-Err-OutOfMemory.field-0-is in
+      lacks_memory (plan_fields c.args.inner.now) (plan_fields c.args.outer.now) (g.I.Source.told c.args.input.now) (g.I.Source.told c.gather_recording.new.input)
+      (g.O.Sink.told c.args.output.now) (c.args.output.now ≡ c.args.output.now) (g.O.Sink.told c.args.output.now)
+      (c.in-Err-OutOfMemory.ensures.kept (λ other. absurd (cc))) refl refl;
+}
+
+pub returns-in-Err : goal.returns-in-Err
+returns-in-Err g c = record {
+  relays = lacks_memory (plan_fields c.args.inner.now) (plan_fields c.args.outer.now) (g.I.Source.told c.args.input.now) (g.I.Source.told c.gather_recording.new.input)
+      (g.O.Sink.told c.args.output.now) (c.args.output.now ≡ c.args.output.now) (g.O.Sink.told c.args.output.now)
+      (c.in-Ok.ensures.kept (λ other. absurd (cc))) refl refl;
+}
+
+pub returns-in-Ok-send_offered : goal.returns-in-Ok-send_offered
+returns-in-Ok-send_offered g c = record {
+  relays =
+      let outer : PlanFields = plan_fields c.args.outer.now in
+      let datagrams : List (List ℕ) = c.in-Ok.gathered.list in
+      let stands : IsOffered outer (as_records datagrams) c.in-Ok-offer_all.offered =
+      subst (λ (list : List (List ℕ)). IsOffered outer (as_records list) c.in-Ok-offer_all.offered) c.list.ensures.read c.in-Ok-offer_all.ensures.offered in
+      ends_done (plan_fields c.args.inner.now) outer (g.I.Source.told c.args.input.now) (g.I.Source.told c.gather_recording.new.input)
+      (g.O.Sink.told c.args.output.now) (c.send_offered.new.output ≡ c.args.output.now) (g.O.Sink.told c.send_offered.new.output)
+      (c.in-Ok.ensures.kept (λ other. absurd (cc))) datagrams c.in-Ok-send_offered.tally
+      (record { gathers = c.in-Ok.ensures.gathers; fits = c.list.ensures.fits; of_bytes = c.list.ensures.bytes })
+      (c.in-Ok-send_offered.ensures.written (as_records datagrams) stands) c.in-Ok-send_offered.ensures.flushed (c.in-Ok-send_offered.ensures.output_kept (λ other. absurd (cc)));
+}
+
+pub returns-in-Err-Sink : goal.returns-in-Err-Sink
+returns-in-Err-Sink g c = record {
+  relays =
+      let outer : PlanFields = plan_fields c.args.outer.now in
+      let datagrams : List (List ℕ) = c.in-Ok.gathered.list in
+      let stands : IsOffered outer (as_records datagrams) c.in-Ok-offer_all.offered =
+      subst (λ (list : List (List ℕ)). IsOffered outer (as_records list) c.in-Ok-offer_all.offered) c.list.ensures.read c.in-Ok-offer_all.ensures.offered in
+      let failed = ap (λ e. Err e) c.in-Err-Sink.field-0-is in
+      ends_in_sink (plan_fields c.args.inner.now) outer (g.I.Source.told c.args.input.now) (g.I.Source.told c.gather_recording.new.input)
+      (g.O.Sink.told c.args.output.now) (c.send_offered.new.output ≡ c.args.output.now) (g.O.Sink.told c.send_offered.new.output)
+      (c.in-Ok.ensures.kept (λ other. absurd (cc))) datagrams
+      (record { gathers = c.in-Ok.ensures.gathers; fits = c.list.ensures.fits; of_bytes = c.list.ensures.bytes })
+      (c.in-Err-Sink.ensures.written (as_records datagrams) stands) (c.in-Err-Sink.ensures.unflushed failed) (c.in-Err-Sink.ensures.sink failed);
+}
+
+pub offer_all-requires-clause-datagrams : goal.offer_all-requires-clause-datagrams
+offer_all-requires-clause-datagrams g c =
+    subst (λ (list : List (List ℕ)). All IsDatagram list) (sym (c.list.ensures.read ∙ c.in-Ok.ensures.gathers.datagrams_are))
+    (c.delivered_datagrams_are_datagrams.ensures.are (plan_fields c.args.inner.now) c.in-Ok.ensures.gathers.pieces)

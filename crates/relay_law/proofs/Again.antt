@@ -1,0 +1,230 @@
+-- A relay's stream is that of a capture, and what arrives of it.
+use Rattle.std.proofs.Common.{◌≡◌, inl, inr, ℕ, ◌<◌, ◌≤◌, Bool, true, false, List, length, flat_map, refl, ap, sym, ◌∙◌, subst, arith, Option, Some, None}
+use Rattle.std.specs.Prelude.{All, filter}
+use Rattle.std.proofs.lemmas.Bool.{cases_Bool}
+use Rattle.wire_spec.specs.Bytes.{AreBytes}
+use Rattle.wire_spec.specs.Lists.{IsSubsequence}
+use Rattle.wire_spec.specs.Datagram.{IsDatagram}
+use Rattle.pcap_file.specs.Capture.{capture_text}
+use Rattle.pcap_file.specs.Reading.{most_records, most_bytes}
+use Rattle.pcap_file.specs.Told.{Tells, bytes_in}
+use Rattle.ts_spec.specs.Recording.{Record}
+use Rattle.plan_spec.specs.Plan.{PlanFields, is_baseband, pid_of, isi_of}
+use Rattle.plan_spec.specs.Changes.{pids_in, versions, has_wrong_change}
+use Rattle.plan_spec.specs.Wholes.{is_whole_plan}
+use Rattle.plan_spec.specs.Offered.{Records, offered_in, offered_in_all}
+use Rattle.stream_spec.specs.Stream.{IsStream}
+use Rattle.stream_spec.specs.Services.{kind_at, datagrams_on, Carries}
+use Rattle.bb_stream_spec.specs.Stream.{IsBasebandStream}
+use Rattle.bb_stream_spec.specs.Carried.{CarriesInBaseband}
+use Rattle.stream_law.specs.Captures.{given_by}
+use Rattle.loss_law.specs.Loss.{carries_for}
+use Rattle.loss_law.specs.Spans.{IsRecordedFor}
+use Rattle.loss_law.proofs.Subsequences.{subsequence_through}
+use Rattle.bb_loss_law.specs.Plans.{IsIsiOf, CarriesInFramesFor, IsRecordedInFramesFor}
+use Rattle.reception_spec.specs.Delivered.{delivered_of as delivered_of_records}
+use Rattle.bb_reception_spec.specs.Delivered.{service_at, delivered_of as delivered_of_frames, delivered_on as delivered_on_isi}
+use Rattle.end_to_end_law.specs.Sent.{IsSent, offered_by, offered_on, sent_records, SendsOneUnitEach}
+use Rattle.end_to_end_law.specs.Units.{wants_datagram}
+use Rattle.end_to_end_law.specs.Spans.{DeliversOfSpans}
+use Rattle.end_to_end_law.proofs.OverSpans.{own_pid}
+use Rattle.bb_end_to_end_law.specs.Sent.{IsSentInFrames, offered_to, wants_in_frames}
+use Rattle.bb_end_to_end_law.specs.Delivered.{DeliversNumbered}
+use Rattle.recording_spec.specs.Pieces.{records_in, delivered_of}
+use Rattle.recording_spec.specs.Relayed.{relayed, as_records}
+use Rattle.recording_law.specs.Hop.{CarriesInPieces, in_packets, in_frames, IsRecordedInPieces, wanted_in, DeliversWanted}
+use Rattle.recording_law.proofs.Twice.{packets_from, frames_from}
+use Rattle.relay_law.specs.Relay.{IsRelay, reoffered, wants_on, wanted_again, ArrivesAgain}
+
+-- The capture of what is relayed.
+
+module _
+    (are : (plan : PlanFields) (pieces : List (List ℕ)) → All IsDatagram (relayed plan pieces))
+    (bytes : (datagrams : List (List ℕ)) → All AreBytes datagrams → AreBytes (capture_text datagrams))
+    (tells : (datagrams : List (List ℕ)) → All AreBytes datagrams → All IsDatagram datagrams → length datagrams ≤ most_records → bytes_in datagrams ≤ most_bytes
+    → Tells (capture_text datagrams) datagrams None)
+    (gives : (datagrams : List (List ℕ)) → All IsDatagram datagrams → given_by (capture_text datagrams) datagrams ≡ as_records datagrams)
+    (inner : PlanFields) (pieces : List (List ℕ)) where
+  pub gives_relayed : given_by (capture_text (relayed inner pieces)) (relayed inner pieces) ≡ as_records (relayed inner pieces)
+  gives_relayed = gives (relayed inner pieces) (are inner pieces)
+
+  pub sent_in_packets : (outer : PlanFields) (stream : List (List ℕ)) → IsRelay inner outer pieces stream → is_baseband outer ≡ false
+      → IsSent outer (capture_text (relayed inner pieces)) (relayed inner pieces) stream
+  sent_in_packets outer stream relay is = record {
+    accepted = relay.accepted;
+    of_bytes = relay.of_bytes;
+    capture_bytes = bytes (relayed inner pieces) relay.bytes;
+    fault = None;
+    tells = tells (relayed inner pieces) relay.bytes (are inner pieces) relay.fits.count relay.fits.size;
+    stream = subst (λ (records : Records). IsStream outer (offered_in outer records) stream) (sym gives_relayed) (relay.stream_is.in_records is);
+  }
+
+  pub sent_in_frames : (outer : PlanFields) (stream : List (List ℕ)) → IsRelay inner outer pieces stream → is_baseband outer ≡ true
+      → IsSentInFrames outer (capture_text (relayed inner pieces)) (relayed inner pieces) stream
+  sent_in_frames outer stream relay is = record {
+    accepted = relay.accepted;
+    of_bytes = relay.of_bytes;
+    capture_bytes = bytes (relayed inner pieces) relay.bytes;
+    fault = None;
+    tells = tells (relayed inner pieces) relay.bytes (are inner pieces) relay.fits.count relay.fits.size;
+    stream = subst (λ (records : Records). IsBasebandStream outer (offered_in outer records) stream) (sym gives_relayed) (relay.stream_is.in_frames is);
+  }
+
+-- What the stream carries, and what arrives of it.
+
+abbrev Own : (inner outer : PlanFields) (pieces : List (List ℕ)) (wants : Bool) → ℕ → List (List ℕ)
+Own inner outer pieces wants j = filter (wants_on wants (service_at outer j)) (reoffered inner outer pieces j)
+
+-- a service wants the same by the carrier that the plan has
+module _ (inner outer : PlanFields) (pieces : List (List ℕ)) (b : Bool) (is : is_baseband outer ≡ b) (j : ℕ) where
+  whole_by : (delivered : List (List ℕ)) → delivered ≡ Own inner outer pieces b j → delivered ≡ wanted_again inner outer pieces j
+  whole_by delivered are = are ∙ ap (λ (wants : Bool). Own inner outer pieces wants j) (sym is)
+
+  wanted_by : (delivered : List (List ℕ)) → IsSubsequence delivered (Own inner outer pieces b j) → IsSubsequence delivered (wanted_again inner outer pieces j)
+  wanted_by delivered within = subst (λ (wants : Bool). IsSubsequence delivered (Own inner outer pieces wants j)) (sym is) within
+
+module _
+    (gives : (plan : PlanFields) (pieces : List (List ℕ)) → given_by (capture_text (relayed plan pieces)) (relayed plan pieces) ≡ as_records (relayed plan pieces))
+    (within : (plan : PlanFields) (k : ℕ) → k < length plan.services → (sent carried : List (List ℕ)) (carries : CarriesInPieces plan k sent carried)
+    (recorded : List (List ℕ)) → IsRecordedInPieces plan k sent carried carries recorded
+    → (all : List (List ℕ)) → IsSubsequence carried all → IsSubsequence (delivered_of plan k recorded) all)
+    (offered : (plan : PlanFields) (datagrams : List (List ℕ)) (k : ℕ) → IsSubsequence (offered_in_all plan (as_records datagrams) k) datagrams)
+  where
+    -- what is offered of the capture is what the relay offers
+    reoffered_is : (inner outer : PlanFields) (pieces : List (List ℕ)) (k : ℕ)
+        → offered_in_all outer (given_by (capture_text (relayed inner pieces)) (relayed inner pieces)) k ≡ reoffered inner outer pieces k
+    reoffered_is inner outer pieces k = ap (λ (records : Records). offered_in_all outer records k) (gives inner pieces)
+
+    some_of_relayed : (inner outer : PlanFields) (pieces stream again : List (List ℕ)) (j : ℕ) → j < length outer.services
+        → (onward : CarriesInPieces outer j stream (reoffered inner outer pieces j))
+        → IsRecordedInPieces outer j stream (reoffered inner outer pieces j) onward again → IsSubsequence (delivered_of outer j again) (relayed inner pieces)
+    some_of_relayed inner outer pieces stream again j known onward is_recorded =
+        within outer j known stream (reoffered inner outer pieces j) onward again is_recorded (relayed inner pieces) (offered outer (relayed inner pieces) j)
+
+    -- in packets
+    module _
+        (sent_as : (inner outer : PlanFields) (pieces stream : List (List ℕ)) → IsRelay inner outer pieces stream → is_baseband outer ≡ false
+        → IsSent outer (capture_text (relayed inner pieces)) (relayed inner pieces) stream)
+        (arrives : (plan : PlanFields) (capture : List ℕ) (told records : List (List ℕ)) → IsSent plan capture told records
+        → (carries : Carries plan (sent_records plan records) (offered_on plan capture told))
+        × SendsOneUnitEach plan (sent_records plan records) (offered_on plan capture told) carries
+        × ((k : ℕ) → k < length plan.services → (recorded : List Record)
+        (is_recorded : IsRecordedFor plan k (sent_records plan records) (offered_on plan capture told k) (carries_for carries k) recorded)
+        → DeliversOfSpans plan k (sent_records plan records) (offered_on plan capture told k) (carries_for carries k) recorded is_recorded
+        (offered_in_all plan (given_by capture told) k) (delivered_of_records plan k recorded)))
+        (all : (plan : PlanFields) (datagrams : ℕ → ℕ → List (List ℕ)) (k pid : ℕ) → is_whole_plan plan ≡ true → k < length plan.services
+        → pid_of (kind_at plan k) ≡ Some pid
+        → flat_map (datagrams_on plan datagrams k) (pids_in plan k) ≡ flat_map (λ version. datagrams version k) (versions plan))
+        (recorded_is : (plan : PlanFields) (capture : List ℕ) (told records : List (List ℕ)) → IsSent plan capture told records
+        → (carries : Carries plan (sent_records plan records) (offered_on plan capture told)) (k : ℕ)
+        → IsRecordedFor plan k (sent_records plan records) (offered_on plan capture told k) (carries_for carries k) (sent_records plan records))
+        (whole : (plan : PlanFields) (capture : List ℕ) (told records : List (List ℕ)) → IsSent plan capture told records
+        → (k : ℕ) → k < length plan.services → delivered_of_records plan k (sent_records plan records)
+        ≡ filter (wants_datagram (service_at plan k)) (offered_in_all plan (given_by capture told) k))
+      where
+        pub arrives_in_packets : (inner outer : PlanFields) (pieces stream : List (List ℕ)) → IsRelay inner outer pieces stream → (j : ℕ) → j < length outer.services
+            → is_baseband outer ≡ false → ArrivesAgain inner outer pieces stream j
+        arrives_in_packets inner outer pieces stream relay j known is =
+            let told : List (List ℕ) = relayed inner pieces in
+            let capture : List ℕ = capture_text told in
+            let sent : IsSent outer capture told stream = sent_as inner outer pieces stream relay is in
+            let found = arrives outer capture told stream sent in
+            let its_pid = own_pid (kind_at outer j) (found.0.on_pids j known) in
+            let same : reoffered inner outer pieces j ≡ flat_map (offered_on outer capture told j) (pids_in outer j)
+            = sym (reoffered_is inner outer pieces j) ∙ sym (all outer (offered_by outer capture told) j its_pid.0 relay.accepted known its_pid.1) in
+            let onward : CarriesInPieces outer j stream (reoffered inner outer pieces j) = in_packets is (offered_on outer capture told j) (carries_for found.0 j) same in
+            record {
+              carries = onward;
+              itself = recorded_is outer capture told stream sent found.0 j;
+              whole =
+                  whole_by inner outer pieces false is j (delivered_of outer j stream)
+                  (packets_from outer j stream is ∙ whole outer capture told stream sent j known
+                  ∙ ap (λ (xs : List (List ℕ)). filter (wants_datagram (service_at outer j)) xs) (reoffered_is inner outer pieces j));
+              wanted = λ again is_recorded.
+                  wanted_by inner outer pieces false is j (delivered_of outer j again)
+                  (subst (λ (xs : List (List ℕ)). IsSubsequence xs (Own inner outer pieces false j)) (sym (packets_from outer j again is))
+                  (subst (λ (xs : List (List ℕ)). IsSubsequence (delivered_of_records outer j (records_in outer again)) (filter (wants_datagram (service_at outer j)) xs))
+                  (reoffered_is inner outer pieces j) (found.2 j known (records_in outer again) is_recorded).were_wanted));
+              some = λ again is_recorded. some_of_relayed inner outer pieces stream again j known onward is_recorded;
+            }
+
+    -- in frames
+    module _
+        (sent_as : (inner outer : PlanFields) (pieces stream : List (List ℕ)) → IsRelay inner outer pieces stream → is_baseband outer ≡ true
+        → IsSentInFrames outer (capture_text (relayed inner pieces)) (relayed inner pieces) stream)
+        (sends : (plan : PlanFields) (capture : List ℕ) (told frames : List (List ℕ)) → IsSentInFrames plan capture told frames
+        → CarriesInBaseband plan frames (offered_to plan capture told))
+        (for_each : (plan : PlanFields) (sent : List (List ℕ)) (datagrams : ℕ → List (List ℕ)) → CarriesInBaseband plan sent datagrams
+        → (k : ℕ) → CarriesInFramesFor plan k sent (datagrams k))
+        (arrives : (plan : PlanFields) (capture : List ℕ) (told frames : List (List ℕ)) → IsSentInFrames plan capture told frames
+        → (k isi : ℕ) → IsIsiOf plan k isi → (recorded : List (List ℕ)) (is_recorded : IsRecordedInFramesFor plan k frames recorded)
+        → DeliversNumbered is_recorded.channel isi (service_at plan k) (offered_in_all plan (given_by capture told) k) (delivered_of_frames plan k recorded))
+        (all : (plan : PlanFields) (capture : List ℕ) (told frames : List (List ℕ)) → IsSentInFrames plan capture told frames
+        → (k : ℕ) → offered_to plan capture told k ≡ offered_in_all plan (given_by capture told) k)
+        (recorded_is : (plan : PlanFields) (k : ℕ) (sent : List (List ℕ)) → IsRecordedInFramesFor plan k sent sent)
+        (whole : (plan : PlanFields) (capture : List ℕ) (told frames : List (List ℕ)) → IsSentInFrames plan capture told frames
+        → (k : ℕ) → k < length plan.services → delivered_of_frames plan k frames
+        ≡ filter (wants_in_frames (service_at plan k)) (offered_in_all plan (given_by capture told) k))
+      where
+        on_isi : (inner outer : PlanFields) (pieces stream again : List (List ℕ)) → IsSentInFrames outer (capture_text (relayed inner pieces)) (relayed inner pieces) stream
+            → (j : ℕ) → j < length outer.services → IsRecordedInFramesFor outer j stream again → (o : Option ℕ) → isi_of (service_at outer j).kind ≡ o
+            → IsSubsequence (delivered_on_isi o (service_at outer j).filter again) (Own inner outer pieces true j)
+        on_isi inner outer pieces stream again sent j known is_recorded None own = tt
+        on_isi inner outer pieces stream again sent j known is_recorded (Some isi) own =
+            let told : List (List ℕ) = relayed inner pieces in
+            let delivers = arrives outer (capture_text told) told stream sent j isi (record { service = known; own = own }) again is_recorded in
+            subst (λ (o : Option ℕ). IsSubsequence (delivered_on_isi o (service_at outer j).filter again) (Own inner outer pieces true j)) own
+            (subst (λ (xs : List (List ℕ)). IsSubsequence (delivered_of_frames outer j again) (filter (wants_in_frames (service_at outer j)) xs))
+            (reoffered_is inner outer pieces j) delivers.were_wanted)
+
+        pub arrives_in_frames : (inner outer : PlanFields) (pieces stream : List (List ℕ)) → IsRelay inner outer pieces stream → (j : ℕ) → j < length outer.services
+            → is_baseband outer ≡ true → ArrivesAgain inner outer pieces stream j
+        arrives_in_frames inner outer pieces stream relay j known is =
+            let told : List (List ℕ) = relayed inner pieces in
+            let capture : List ℕ = capture_text told in
+            let sent : IsSentInFrames outer capture told stream = sent_as inner outer pieces stream relay is in
+            let same : offered_to outer capture told j ≡ reoffered inner outer pieces j
+            = all outer capture told stream sent j ∙ reoffered_is inner outer pieces j in
+            let onward : CarriesInPieces outer j stream (reoffered inner outer pieces j)
+            = in_frames is (subst (λ (xs : List (List ℕ)). CarriesInFramesFor outer j stream xs) same (for_each outer stream (offered_to outer capture told) (sends outer capture told stream sent) j)) in
+            record {
+              carries = onward;
+              itself = recorded_is outer j stream;
+              whole =
+                  whole_by inner outer pieces true is j (delivered_of outer j stream)
+                  (frames_from outer j stream is ∙ whole outer capture told stream sent j known
+                  ∙ ap (λ (xs : List (List ℕ)). filter (wants_in_frames (service_at outer j)) xs) (reoffered_is inner outer pieces j));
+              wanted = λ again is_recorded.
+                  wanted_by inner outer pieces true is j (delivered_of outer j again)
+                  (subst (λ (xs : List (List ℕ)). IsSubsequence xs (Own inner outer pieces true j)) (sym (frames_from outer j again is))
+                  (on_isi inner outer pieces stream again sent j known is_recorded (isi_of (service_at outer j).kind) refl));
+              some = λ again is_recorded. some_of_relayed inner outer pieces stream again j known onward is_recorded;
+            }
+
+    -- one service alone
+    module _
+        (delivers : (plan : PlanFields) (k : ℕ) → k < length plan.services → (sent carried : List (List ℕ)) (carries : CarriesInPieces plan k sent carried)
+        (recorded : List (List ℕ)) → IsRecordedInPieces plan k sent carried carries recorded
+        → DeliversWanted carried (wanted_in plan k sent carried carries) (delivered_of plan k recorded))
+        (one : (plan : PlanFields) (pieces : List (List ℕ)) → has_wrong_change plan ≡ false → length plan.services ≡ 1 → delivered_of plan 0 pieces ≡ relayed plan pieces)
+      where
+        pub arrives_alone : (inner outer : PlanFields) (sent carried : List (List ℕ)) (carries : CarriesInPieces inner 0 sent carried) (pieces stream again : List (List ℕ))
+            → has_wrong_change inner ≡ false → length inner.services ≡ 1 → IsRecordedInPieces inner 0 sent carried carries pieces
+            → (j : ℕ) → j < length outer.services → (onward : CarriesInPieces outer j stream (reoffered inner outer pieces j))
+            → IsRecordedInPieces outer j stream (reoffered inner outer pieces j) onward again
+            → IsSubsequence (delivered_of outer j again) (wanted_in inner 0 sent carried carries) × IsSubsequence (delivered_of outer j again) carried
+        arrives_alone inner outer sent carried carries pieces stream again right single first j known onward second =
+            let hop = delivers inner 0 (omega (arith, single)) sent carried carries pieces first in
+            let wanted : IsSubsequence (delivered_of outer j again) (wanted_in inner 0 sent carried carries) =
+            subsequence_through (delivered_of outer j again) (relayed inner pieces) (wanted_in inner 0 sent carried carries)
+            (some_of_relayed inner outer pieces stream again j known onward second)
+            (subst (λ (xs : List (List ℕ)). IsSubsequence xs (wanted_in inner 0 sent carried carries)) (one inner pieces right single) hop.were_wanted) in
+            (wanted, subsequence_through (delivered_of outer j again) (wanted_in inner 0 sent carried carries) carried wanted hop.were_sent)
+
+-- on either carrier
+pub on_either : (inner outer : PlanFields) (pieces stream : List (List ℕ)) (j : ℕ) → (is_baseband outer ≡ false → ArrivesAgain inner outer pieces stream j)
+    → (is_baseband outer ≡ true → ArrivesAgain inner outer pieces stream j) → ArrivesAgain inner outer pieces stream j
+on_either inner outer pieces stream j packets frames = elim (cases_Bool (is_baseband outer)) [
+  | inl is ↦ frames is
+  | inr is ↦ packets is
+]

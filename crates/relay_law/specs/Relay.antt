@@ -1,0 +1,56 @@
+-- A relay's stream, and what arrives of it.
+use Rattle.std.specs.Prelude.{◌≡◌, ℕ, ◌<◌, Bool, true, false, List, length, filter, All}
+use Rattle.wire_spec.specs.Bytes.{AreBytes}
+use Rattle.wire_spec.specs.Lists.{IsSubsequence}
+use Rattle.plan_spec.specs.Plan.{ServiceFields, PlanFields, is_baseband}
+use Rattle.plan_spec.specs.Bytes.{AreOfBytes}
+use Rattle.plan_spec.specs.Wholes.{is_whole_plan}
+use Rattle.plan_spec.specs.Offered.{offered_in_all}
+use Rattle.bb_reception_spec.specs.Delivered.{service_at}
+use Rattle.end_to_end_law.specs.Units.{wants_datagram}
+use Rattle.bb_end_to_end_law.specs.Sent.{wants_in_frames}
+use Rattle.recording_spec.specs.Interleaving.{IsInterleaving}
+use Rattle.recording_spec.specs.Pieces.{delivered_of}
+use Rattle.recording_spec.specs.Relayed.{relayed, as_records, IsRelayed}
+use Rattle.relay_core.specs.Gathering.{FitsCapture}
+use Rattle.recording_law.specs.Hop.{CarriesInPieces, IsRecordedInPieces, wanted_in, DeliversWanted}
+
+-- this stream is what a relay sends of the pieces, where it sends anything: the outer settings are accepted, and what the pieces deliver under
+-- the inner ones are bytes, no more than a capture has
+pub record IsRelay (inner outer : PlanFields) (pieces stream : List (List ℕ)) : Type 0 where
+  pub accepted : is_whole_plan outer ≡ true
+  pub of_bytes : AreOfBytes outer
+  pub bytes : All AreBytes (relayed inner pieces)
+  pub fits : FitsCapture (relayed inner pieces)
+  pub stream_is : IsRelayed inner outer pieces stream
+
+-- what a relay offers to a service of its outer plan, in all versions
+abbrev pub reoffered : (inner outer : PlanFields) → List (List ℕ) → ℕ → List (List ℕ)
+reoffered inner outer pieces j = offered_in_all outer (as_records (relayed inner pieces)) j
+
+-- the filter of the service wants the datagram, in baseband frames or in packets
+abbrev pub wants_on : (in_baseband : Bool) → ServiceFields → List ℕ → Bool
+wants_on true service datagram = wants_in_frames service datagram
+wants_on false service datagram = wants_datagram service datagram
+
+-- what a service of the outer plan wants of what a relay offers to it
+abbrev pub wanted_again : (inner outer : PlanFields) → List (List ℕ) → ℕ → List (List ℕ)
+wanted_again inner outer pieces j = filter (wants_on (is_baseband outer) (service_at outer j)) (reoffered inner outer pieces j)
+
+-- For service j of the outer plan: the stream carries what was offered to it of the relayed datagrams; it is a recording of itself, and of it
+-- the service delivers all that it wants of that; and of each recording of it the service delivers some of what it wants, so some of all
+-- relayed datagrams, unchanged and in order
+pub record ArrivesAgain (inner outer : PlanFields) (pieces stream : List (List ℕ)) (j : ℕ) : Type 0 where
+  pub carries : CarriesInPieces outer j stream (reoffered inner outer pieces j)
+  pub itself : IsRecordedInPieces outer j stream (reoffered inner outer pieces j) carries stream
+  pub whole : delivered_of outer j stream ≡ wanted_again inner outer pieces j
+  pub wanted : (again : List (List ℕ)) → IsRecordedInPieces outer j stream (reoffered inner outer pieces j) carries again
+      → IsSubsequence (delivered_of outer j again) (wanted_again inner outer pieces j)
+  pub some : (again : List (List ℕ)) → IsRecordedInPieces outer j stream (reoffered inner outer pieces j) carries again
+      → IsSubsequence (delivered_of outer j again) (relayed inner pieces)
+
+-- what was relayed is merged of what each service of the inner plan delivers, and this is some of what the service wants of what was sent to it
+pub record ArrivesMerged (inner : PlanFields) (sent pieces : List (List ℕ)) : Type 0 where
+  pub merged : IsInterleaving (length inner.services) (λ k. delivered_of inner k pieces) (relayed inner pieces)
+  pub wanted : (k : ℕ) → k < length inner.services → (carried : List (List ℕ)) (carries : CarriesInPieces inner k sent carried)
+      → IsRecordedInPieces inner k sent carried carries pieces → DeliversWanted carried (wanted_in inner k sent carried carries) (delivered_of inner k pieces)

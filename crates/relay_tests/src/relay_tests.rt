@@ -1,0 +1,111 @@
+//! Relays of small recordings: from SNDUs to datagram_sections, from MPE-FEC frames, of two services into one.
+use crate::relay_cases::{CASES, SECTIONS, SNDUS};
+use ipe_io::{MemSink, MemSource};
+use relay_command::{RelayEnd, relay};
+use send_command::{SendEnd, send};
+use service_plan::{Plan, read_plan};
+use std::alloc::Global;
+use std::test::Fail;
+use test_recordings::settings::{FRAMES, ONE_AND_TWO};
+use test_recordings::units::{SECTION, SNDU};
+use test_recordings::{joined, on_pid, small_capture, start};
+
+/// The plan of these settings.
+fn plan_of(alloc: Global, settings: &str) -> Result<Plan, Fail> {
+    match read_plan(alloc, settings.as_bytes()) {
+        Ok(plan) => Ok(plan),
+        Err(_) => Err(Fail::new("settings")),
+    }
+}
+
+/// How a relay of a recording ends, and what it wrote. A read gives 100 bytes at most.
+fn relayed(
+    alloc: Global,
+    inner: &str,
+    outer: &str,
+    recording: &[u8],
+    input_fails: &[u32],
+    output_fails: &[u32],
+) -> Result<(RelayEnd, MemSink), Fail> {
+    let inner = plan_of(alloc, inner)?;
+    let outer = plan_of(alloc, outer)?;
+    let mut input = MemSource::new(alloc, recording, 100, input_fails)?;
+    let mut output = MemSink::new(alloc, 10_000, output_fails)?;
+    let end = relay(alloc, &inner, &outer, &mut input, &mut output);
+    Ok((end, output))
+}
+
+/// The stream that is sent of so many datagrams, from their capture.
+fn stream_of(alloc: Global, outer: &str, count: usize) -> Result<MemSink, Fail> {
+    let plan = plan_of(alloc, outer)?;
+    let capture = small_capture(alloc, count)?;
+    let mut input = MemSource::new(alloc, &capture, 100, &[])?;
+    let mut output = MemSink::new(alloc, 10_000, &[])?;
+    match send(alloc, &plan, &mut input, &mut output) {
+        SendEnd::Done(_) => Ok(output),
+        _ => Err(Fail::new("a capture")),
+    }
+}
+
+/// The packet with the datagram_section of the datagram, pointer_field 0 and bytes FF after it.
+#[test]
+fn a_datagram_comes_again_in_a_section(rt: HostRuntime) -> Result<(), Fail> {
+    let packet = on_pid(start(0, 0, &SECTION), 300);
+    for case in &CASES {
+        let mut recording = Vec::new(rt.alloc());
+        for counter in case.counters {
+            recording.extend_from_slice(&start(*counter, 0, &SNDU))?;
+        }
+        for _ in 0..case.tail {
+            recording.push(0x47)?;
+        }
+        let (end, output) = relayed(
+            rt.alloc(),
+            SNDUS,
+            SECTIONS,
+            &recording,
+            case.input_fails,
+            case.output_fails,
+        )?;
+        assert_eq!(rt; end, case.end, "{}", case.name);
+        assert!(rt;
+            Some(output.bytes()) == packet.get(..case.written),
+            "{}",
+            case.name
+        );
+        assert_eq!(rt; output.flushed(), case.flushed, "{}", case.name);
+    }
+    Ok(())
+}
+
+/// Two services in, one out: what is relayed of three packets is what is sent of a capture of three datagrams.
+#[test]
+fn two_services_are_merged(rt: HostRuntime) -> Result<(), Fail> {
+    let first = start(0, 0, &SNDU);
+    let second = on_pid(start(0, 0, &SNDU), 257);
+    let third = start(1, 0, &SNDU);
+    let recording = joined(rt.alloc(), &[&first, &second, &third])?;
+    let (end, output) = relayed(rt.alloc(), ONE_AND_TWO, SECTIONS, &recording, &[], &[])?;
+    let want = stream_of(rt.alloc(), SECTIONS, 3)?;
+    assert!(rt; matches!(end, RelayEnd::Done(_)));
+    assert!(rt; output.bytes() == want.bytes());
+    Ok(())
+}
+
+/// A datagram_section of an MPE-FEC frame (EN 301 192 clause 9.3): address 0, without table_boundary and frame_boundary.
+const OF_FRAME: [u8; 36] = [
+    0x3E, 0xB0, 0x21, 0x03, 0x02, 0xC1, 0x00, 0x00, 0x00, 0x00, 0x00, 0x00, 0x45, 0x00, 0x00, 0x14,
+    0x00, 0x00, 0x00, 0x00, 0x40, 0x11, 0x00, 0x00, 0x0A, 0x00, 0x00, 0x01, 0xEF, 0x01, 0x02, 0x03,
+    0x1E, 0x4C, 0x39, 0x1A,
+];
+
+/// A frame that is under way at the end: its datagram comes with the end.
+#[test]
+fn a_frame_gives_its_datagram_at_the_end(rt: HostRuntime) -> Result<(), Fail> {
+    let recording = on_pid(start(0, 0, &OF_FRAME), 512);
+    let (end, output) = relayed(rt.alloc(), FRAMES, SECTIONS, &recording, &[], &[])?;
+    assert!(rt; matches!(end, RelayEnd::Done(_)));
+    let packet = on_pid(start(0, 0, &SECTION), 300);
+    assert!(rt; output.bytes() == packet.as_slice());
+    Ok(())
+}
