@@ -5,11 +5,11 @@ use Rattle.std.specs.Str.Parse.{IsNumeral}
 use Rattle.std.proofs.lemmas.Bool.Decides.{nat_tests}
 use Rattle.clap.specs.Words.{takes}
 use Rattle.command_words.specs.Line.{command_line}
-use Rattle.command_words.specs.Words.{IsValue, AsksWith, AsksNumbered, IsNoCommand, IsCommand, asks_for_send, asks_for_receive, asks_for_ule, asks_for_check, asks_for_sample}
+use Rattle.command_words.specs.Words.{IsValue, AsksWith, AsksNumbered, AsksForRelay, IsNoCommand, IsCommand, asks_for_send, asks_for_receive, asks_for_ule, asks_for_check, asks_for_sample, asks_for_tables, asks_for_find, asks_for_relay}
 use Rattle.command_words.specs.Asked.{AsksFor}
 use Rattle.command_words.specs.declared.parse.Command.{Command}
 use Rattle.command_words.specs.declared.parse.Command.TheVariants as command
-use Rattle.command_words.proofs.Taken.{send_taken, receive_taken, ule_taken, check_taken, sample_taken}
+use Rattle.command_words.proofs.Taken.{send_taken, receive_taken, ule_taken, check_taken, sample_taken, tables_taken, find_taken, relay_taken}
 
 differ : (b : Bool) → b ≡ true → b ≡ false → ⊥
 differ true t f = cc
@@ -40,6 +40,15 @@ not_numbered : (command : List ℕ) (digits largest : ℕ) (words : List (List �
 not_numbered command digits largest words number all refused asks =
     differ (takes command_line words) (ap (takes command_line) asks.words_are ∙ value_taken command asks.text all (numeral_value asks.text asks.written.numeral)) refused
 
+values_taken : (inner outer : List ℕ) → IsValue inner → IsValue outer → takes command_line (codes "relay" ∷ inner ∷ outer ∷ []) ≡ true
+values_taken [] outer one two = absurd one
+values_taken (x ∷ xs) [] one two = absurd two
+values_taken (x ∷ xs) (y ∷ ys) one two = relay_taken x xs y ys (no_hyphen x one) (no_hyphen y two)
+
+not_relayed : (words : List (List ℕ)) (inner outer : List ℕ) → takes command_line words ≡ false → AsksForRelay words inner outer → ⊥
+not_relayed words inner outer refused asks =
+    differ (takes command_line words) (ap (takes command_line) asks.words_are ∙ values_taken inner outer asks.inner_value asks.outer_value) refused
+
 -- words that are not taken form no command
 pub untaken : (words : List (List ℕ)) → takes command_line words ≡ false → IsNoCommand words
 untaken words refused = record {
@@ -48,16 +57,23 @@ untaken words refused = record {
   no_ule = λ pid asks. not_numbered (codes "ule") 4 8190 words pid ule_taken refused asks;
   no_check = λ name asks. not_with (codes "check") words name check_taken refused asks;
   no_sample = λ number asks. not_numbered (codes "sample") 10 4294967295 words number sample_taken refused asks;
+  no_tables = λ name asks. not_with (codes "tables") words name tables_taken refused asks;
+  no_find = λ pid asks. not_numbered (codes "find") 4 8190 words pid find_taken refused asks.asks;
+  no_relay = λ inner outer asks. not_relayed words inner outer refused asks;
 }
 
--- words that are no two values form no command
-pub unpaired : (words : List (List ℕ)) → ((name value : List ℕ) → words ≡ name ∷ value ∷ [] → IsValue name → IsValue value → ⊥) → IsNoCommand words
-unpaired words none = record {
+-- words that are neither two values nor those of a relay form no command
+pub unpaired : (words : List (List ℕ)) → ((name value : List ℕ) → words ≡ name ∷ value ∷ [] → IsValue name → IsValue value → ⊥)
+    → ((inner outer : List ℕ) → AsksForRelay words inner outer → ⊥) → IsNoCommand words
+unpaired words none no_relay = record {
   no_send = λ name asks. none (codes "send") name asks.words_are (λ e. absurd (omega arith)) asks.value;
   no_receive = λ name asks. none (codes "receive") name asks.words_are (λ e. absurd (omega arith)) asks.value;
   no_ule = λ pid asks. none (codes "ule") asks.text asks.words_are (λ e. absurd (omega arith)) (numeral_value asks.text asks.written.numeral);
   no_check = λ name asks. none (codes "check") name asks.words_are (λ e. absurd (omega arith)) asks.value;
   no_sample = λ number asks. none (codes "sample") asks.text asks.words_are (λ e. absurd (omega arith)) (numeral_value asks.text asks.written.numeral);
+  no_tables = λ name asks. none (codes "tables") name asks.words_are (λ e. absurd (omega arith)) asks.value;
+  no_find = λ pid asks. none (codes "find") asks.asks.text asks.asks.words_are (λ e. absurd (omega arith)) (numeral_value asks.asks.text asks.asks.written.numeral);
+  no_relay = no_relay;
 }
 
 -- the words of a command form one
@@ -67,3 +83,6 @@ forms_command words (command.Receive name) asks = asks_for_receive name.now asks
 forms_command words (command.Ule pid) asks = asks_for_ule pid asks
 forms_command words (command.Check name) asks = asks_for_check name.now asks
 forms_command words (command.Sample number) asks = asks_for_sample number asks
+forms_command words (command.Tables name) asks = asks_for_tables name.now asks
+forms_command words (command.Find pid) asks = asks_for_find pid asks
+forms_command words (command.Relay inner outer) asks = asks_for_relay inner.now outer.now asks

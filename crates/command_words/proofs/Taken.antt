@@ -24,6 +24,19 @@ pub sample_taken : (x : ℕ) (xs : List ℕ) → (x == 45) ≡ false → takes c
 unfolding clap_on_literals
 sample_taken x xs h = rw h (rw h refl)
 
+pub tables_taken : (x : ℕ) (xs : List ℕ) → (x == 45) ≡ false → takes command_line (codes "tables" ∷ (x ∷ xs) ∷ []) ≡ true
+unfolding clap_on_literals
+tables_taken x xs h = rw h (rw h refl)
+
+pub find_taken : (x : ℕ) (xs : List ℕ) → (x == 45) ≡ false → takes command_line (codes "find" ∷ (x ∷ xs) ∷ []) ≡ true
+unfolding clap_on_literals
+find_taken x xs h = rw h (rw h refl)
+
+pub relay_taken : (x : ℕ) (xs : List ℕ) (y : ℕ) (ys : List ℕ) → (x == 45) ≡ false → (y == 45) ≡ false
+    → takes command_line (codes "relay" ∷ (x ∷ xs) ∷ (y ∷ ys) ∷ []) ≡ true
+unfolding clap_on_literals
+relay_taken x xs y ys h k = rw h (rw h (rw k (rw k refl)))
+
 pub either : (b : Bool) → (b ≡ true) ⊎ (b ≡ false)
 either true = inl refl
 either false = inr refl

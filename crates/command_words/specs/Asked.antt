@@ -1,6 +1,6 @@
 -- Commands as the words say them.
 use Rattle.std.specs.Prelude.{ℕ, List}
-use Rattle.command_words.specs.Words.{AsksForSend, AsksForReceive, AsksForUle, AsksForCheck, AsksForSample}
+use Rattle.command_words.specs.Words.{AsksForSend, AsksForReceive, AsksForUle, AsksForCheck, AsksForSample, AsksForTables, AsksForFind, AsksForRelay}
 use Rattle.command_words.specs.declared.parse.Command.{Command}
 use Rattle.command_words.specs.declared.parse.Command.TheVariants as command
 
@@ -11,3 +11,6 @@ AsksFor words (command.Receive name) = AsksForReceive words name.now
 AsksFor words (command.Ule pid) = AsksForUle words pid
 AsksFor words (command.Check name) = AsksForCheck words name.now
 AsksFor words (command.Sample number) = AsksForSample words number
+AsksFor words (command.Tables name) = AsksForTables words name.now
+AsksFor words (command.Find pid) = AsksForFind words pid
+AsksFor words (command.Relay inner outer) = AsksForRelay words inner.now outer.now

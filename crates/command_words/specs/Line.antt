@@ -11,6 +11,10 @@ value_rule id = record (new_rule id) { required = true; action = Some Set }
 abbrev pub valued : Text → Text → App
 valued name id = with_rule (record (new_app name) { top = record (new_app name).top { disable_help_flag = true } }) (value_rule id)
 
+-- a command with two required values, in this order
+abbrev pub valued_twice : Text → Text → Text → App
+valued_twice name first second = with_rule (valued name first) (value_rule second)
+
 abbrev pub bare_line : App
 bare_line = record (new_app (codes "ipencap")) {
   top = record (new_app (codes "ipencap")).top {
@@ -28,6 +32,8 @@ and_command line name id = with_subcommand line (valued name id).top
 
 abbrev pub command_line : App
 command_line =
-    and_command (and_command (and_command (and_command (and_command bare_line
+    with_subcommand (and_command (and_command (and_command (and_command (and_command (and_command (and_command bare_line
     (codes "send") (codes "SETTINGS")) (codes "receive") (codes "SETTINGS")) (codes "ule") (codes "PID"))
-    (codes "check") (codes "SETTINGS")) (codes "sample") (codes "NUMBER")
+    (codes "check") (codes "SETTINGS")) (codes "sample") (codes "NUMBER"))
+    (codes "tables") (codes "SETTINGS")) (codes "find") (codes "PID"))
+    (valued_twice (codes "relay") (codes "IN") (codes "OUT")).top

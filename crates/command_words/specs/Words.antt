@@ -43,6 +43,21 @@ AsksForUle words pid = AsksNumbered (codes "ule") 4 8190 words pid
 abbrev pub AsksForSample : List (List ℕ) → ℕ → Type 0
 AsksForSample words number = AsksNumbered (codes "sample") 10 4294967295 words number
 
+-- `tables SETTINGS`
+abbrev pub AsksForTables : List (List ℕ) → List ℕ → Type 0
+AsksForTables words name = AsksWith (codes "tables") words name
+
+-- `find PID`: the PID of an INT, 32 to 8190, of one to four decimal digits (EN 300 468 clause 5.1.3 keeps those before it for other tables)
+pub record AsksForFind (words : List (List ℕ)) (pid : ℕ) : Type 0 where
+  pub asks : AsksNumbered (codes "find") 4 8190 words pid
+  pub least : 32 ≤ pid
+
+-- `relay IN OUT`: the names of the settings files of the inner and of the outer service
+pub record AsksForRelay (words : List (List ℕ)) (inner outer : List ℕ) : Type 0 where
+  pub words_are : words ≡ codes "relay" ∷ inner ∷ outer ∷ []
+  pub inner_value : IsValue inner
+  pub outer_value : IsValue outer
+
 -- the words form no command
 pub record IsNoCommand (words : List (List ℕ)) : Type 0 where
   pub no_send : (name : List ℕ) → ¬ AsksForSend words name
@@ -50,6 +65,9 @@ pub record IsNoCommand (words : List (List ℕ)) : Type 0 where
   pub no_ule : (pid : ℕ) → ¬ AsksForUle words pid
   pub no_check : (name : List ℕ) → ¬ AsksForCheck words name
   pub no_sample : (number : ℕ) → ¬ AsksForSample words number
+  pub no_tables : (name : List ℕ) → ¬ AsksForTables words name
+  pub no_find : (pid : ℕ) → ¬ AsksForFind words pid
+  pub no_relay : (inner outer : List ℕ) → ¬ AsksForRelay words inner outer
 
 -- the words form one
 pub data IsCommand (words : List (List ℕ)) : Type 0 where
@@ -58,3 +76,6 @@ pub data IsCommand (words : List (List ℕ)) : Type 0 where
   asks_for_ule : (pid : ℕ) → AsksForUle words pid → IsCommand words
   asks_for_check : (name : List ℕ) → AsksForCheck words name → IsCommand words
   asks_for_sample : (number : ℕ) → AsksForSample words number → IsCommand words
+  asks_for_tables : (name : List ℕ) → AsksForTables words name → IsCommand words
+  asks_for_find : (pid : ℕ) → AsksForFind words pid → IsCommand words
+  asks_for_relay : (inner outer : List ℕ) → AsksForRelay words inner outer → IsCommand words

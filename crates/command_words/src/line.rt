@@ -1,8 +1,8 @@
-//! The command line as `clap` is told of it: five subcommands, each with one required value.
+//! The command line as `clap` is told of it: eight subcommands, each with one required value, `relay` with two.
 ghost use Rattle.std.specs.Prelude.{◌≡◌, false, IfOk, map, string_bytes, IfErr};
 ghost use Rattle.clap.specs.Words.{app_of, takes};
 ghost use Rattle.clap.specs.declared.Command.{out-Command as fields_of};
-ghost use Rattle.command_words.specs.Line.{command_line, valued};
+ghost use Rattle.command_words.specs.Line.{bare_line, command_line, valued, valued_twice};
 
 use crate::parse::WordsFault;
 use clap::error::ErrorKind;
@@ -18,7 +18,35 @@ fn with_value<'a>(alloc: Global, name: &'a str, value: &'a str) -> Result<Comman
     Command::new(alloc, name).disable_help_flag(true).arg(arg)
 }
 
-/// The whole command line: no help, no version, and words that are read as they stand.
+/// A subcommand with two required values.
+fn with_two_values<'a>(
+    alloc: Global,
+    name: &'a str,
+    first: &'a str,
+    second: &'a str,
+) -> Result<Command<'a>, OutOfMemory>
+    ensures app { IfOk result (λ c. app_of c ≡ valued_twice name.entry.now first.entry.now second.entry.now) }
+    ensures local { IfOk result (λ c. (fields_of c).has_globals ≡ false) }
+{
+    let arg = Arg::new(alloc, second)
+        .required(true)
+        .action(ArgAction::Set);
+    with_value(alloc, name, first)?.arg(arg)
+}
+
+/// The line with no subcommand yet: no help, no version, and words that are read as they stand.
+fn empty_line<'a>(alloc: Global) -> Command<'a>
+    ensures { app_of result ≡ bare_line }
+{
+    Command::new(alloc, "ipencap")
+        .no_binary_name(true)
+        .disable_help_flag(true)
+        .disable_help_subcommand(true)
+        .disable_version_flag(true)
+        .subcommand_required(true)
+}
+
+/// The whole command line.
 fn whole_line<'a>(alloc: Global) -> Result<Command<'a>, OutOfMemory>
     ensures { IfOk result (λ c. app_of c ≡ command_line) }
 {
@@ -27,17 +55,18 @@ fn whole_line<'a>(alloc: Global) -> Result<Command<'a>, OutOfMemory>
     let ule = with_value(alloc, "ule", "PID")?;
     let check = with_value(alloc, "check", "SETTINGS")?;
     let sample = with_value(alloc, "sample", "NUMBER")?;
-    Command::new(alloc, "ipencap")
-        .no_binary_name(true)
-        .disable_help_flag(true)
-        .disable_help_subcommand(true)
-        .disable_version_flag(true)
-        .subcommand_required(true)
+    let tables = with_value(alloc, "tables", "SETTINGS")?;
+    let find = with_value(alloc, "find", "PID")?;
+    let relay = with_two_values(alloc, "relay", "IN", "OUT")?;
+    empty_line(alloc)
         .subcommand(send)?
         .subcommand(receive)?
         .subcommand(ule)?
         .subcommand(check)?
-        .subcommand(sample)
+        .subcommand(sample)?
+        .subcommand(tables)?
+        .subcommand(find)?
+        .subcommand(relay)
 }
 
 /// Asks `clap`: Usage only where it does not take the words.

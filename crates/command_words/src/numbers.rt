@@ -5,6 +5,9 @@ ghost use Rattle.command_words.specs.Words.{IsNumber};
 /// The last PID that packets of a service may have; 8191 is that of null packets (ISO/IEC 13818-1 clause 2.4.3.3).
 const LAST_PID: u16 = 8190;
 
+/// The first PID that an INT may have; those before it are kept for other tables (EN 300 468 clause 5.1.3).
+const FIRST_TABLE_PID: u16 = 32;
+
 /// The most digits of a PID.
 const PID_DIGITS: usize = 4;
 
@@ -21,6 +24,17 @@ pub(crate) fn pid_in(text: &str) -> Option<u16>
     }
     match text.parse::<u16>() {
         Ok(pid) if pid <= LAST_PID => Some(pid),
+        _ => None,
+    }
+}
+
+/// The PID of an INT that one to four decimal digits write: 32 to 8190.
+pub(crate) fn table_pid_in(text: &str) -> Option<u16>
+    ensures read { IfSome result (λ pid. IsNumber 4 8190 text.now pid × (32 ≤ pid)) }
+    ensures refused { IfNone result ((pid : ℕ) → IsNumber 4 8190 text.now pid → 32 ≤ pid → ⊥) }
+{
+    match pid_in(text) {
+        Some(pid) if pid >= FIRST_TABLE_PID => Some(pid),
         _ => None,
     }
 }

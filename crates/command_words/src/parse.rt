@@ -1,10 +1,10 @@
 //! Words -> a command, or why there is none.
 ghost use Rattle.std.specs.Prelude.{◌≡◌, ℕ, List, [], ◌∷◌, map, string_bytes, IfOk, IfSome, IfNone, IsErrOf};
-ghost use Rattle.command_words.specs.Words.{IsValue, IsCommand, IsNoCommand};
+ghost use Rattle.command_words.specs.Words.{IsValue, AsksForRelay, IsCommand, IsNoCommand};
 ghost use Rattle.command_words.specs.Asked.{AsksFor};
 
 use crate::line::take_words;
-use crate::numbers::{number_in, pid_in};
+use crate::numbers::{number_in, pid_in, table_pid_in};
 use std::alloc::Global;
 
 /// A command. SETTINGS is the name of a settings file.
@@ -20,6 +20,12 @@ pub enum Command<'w> {
     Check(&'w str),
     /// `sample NUMBER`.
     Sample(u32),
+    /// `tables SETTINGS`.
+    Tables(&'w str),
+    /// `find PID`.
+    Find(u16),
+    /// `relay IN OUT`: the settings of the inner and of the outer service.
+    Relay(&'w str, &'w str),
 }
 
 /// Why words gave no command.
@@ -45,6 +51,21 @@ fn two_words(words: &[String]) -> Option<(&str, &str)>
     }
 }
 
+/// The names of the settings files of the inner and of the outer service, where the words are those of a relay.
+fn relay_words(words: &[String]) -> Option<(&str, &str)>
+    ensures read { IfSome result (λ pair. AsksForRelay (map (λ word. string_bytes word) words.now) pair.0.now pair.1.now) }
+    ensures refused { IfNone result ((inner outer : List ℕ) → AsksForRelay (map (λ word. string_bytes word) words.now) inner outer → ⊥) }
+{
+    let [name, inner, outer] = words else {
+        return None;
+    };
+    match (name.as_str(), inner.as_bytes(), outer.as_bytes()) {
+        (_, [] | [b'-', ..], _) | (_, _, [] | [b'-', ..]) => None,
+        ("relay", _, _) => Some((inner.as_str(), outer.as_str())),
+        _ => None,
+    }
+}
+
 /// The command of a name and a value.
 fn command_of<'w>(name: &str, value: &'w str) -> Option<Command<'w>>
     ensures read { IfSome result (λ command. IsValue value.entry.now → AsksFor (name.now ∷ value.entry.now ∷ []) command) }
@@ -62,24 +83,40 @@ fn command_of<'w>(name: &str, value: &'w str) -> Option<Command<'w>>
             Some(number) => Some(Command::Sample(number)),
             None => None,
         },
+        "tables" => Some(Command::Tables(value)),
+        "find" => match table_pid_in(value) {
+            Some(pid) => Some(Command::Find(pid)),
+            None => None,
+        },
         _ => None,
+    }
+}
+
+/// The command that the words form.
+fn command_in(words: &[String]) -> Option<Command<'_>>
+    ensures read { IfSome result (λ command. AsksFor (map (λ word. string_bytes word) words.now) command) }
+    ensures refused { IfNone result (IsNoCommand (map (λ word. string_bytes word) words.now)) }
+{
+    if let Some((name, value)) = two_words(words) {
+        return command_of(name, value);
+    }
+    match relay_words(words) {
+        Some((inner, outer)) => Some(Command::Relay(inner, outer)),
+        None => None,
     }
 }
 
 /// Reads the words after the program's name.
 ///
-/// There are two, the second is not empty, and none begins with `-`. PID is one to four decimal digits, 0 to 8190.
-/// NUMBER is one to ten, 0 to 4,294,967,295. Memory is taken last, so words that form no command are found so without.
+/// There are two, of `relay` three. None begins with `-`, and none after the first is empty. PID is one to four decimal digits, 0 to 8190,
+/// and for `find` 32 to 8190. NUMBER is one to ten, 0 to 4,294,967,295. Memory is taken last, so words that form no command are found so
+/// without.
 pub fn parse_words(alloc: Global, words: &[String]) -> Result<Command<'_>, WordsFault>
     ensures read { IfOk result (λ command. AsksFor (map (λ word. string_bytes word) words.now) command) }
     ensures usage { IsErrOf result WordsFault.Usage → IsNoCommand (map (λ word. string_bytes word) words.now) }
     ensures memory { IsErrOf result WordsFault.OutOfMemory → IsCommand (map (λ word. string_bytes word) words.now) }
 {
-    let (name, value) = match two_words(words) {
-        Some(pair) => pair,
-        None => return Err(WordsFault::Usage),
-    };
-    let command = match command_of(name, value) {
+    let command = match command_in(words) {
         Some(command) => command,
         None => return Err(WordsFault::Usage),
     };

@@ -3,7 +3,8 @@ use Rattle.std.specs.Prelude.{◌≡◌, ℕ, ◌≤◌, Bool, true, false, List
 use Rattle.wire_spec.specs.Causes.{Rose}
 use Rattle.ipe_io.specs.Told.{ShelfTold}
 use Rattle.ipencap_engine.specs.World.{World, Object, the_shelf, the_input, the_output, the_rack}
-use Rattle.ipencap_engine.specs.Jobs.{Job, row}
+use Rattle.ipencap_engine.specs.Jobs.{Job, row, TellsSettings}
+use Rattle.ipencap_engine.specs.Settings.{GivesPlan}
 use Rattle.ipencap_engine.specs.declared.status.Status.{Status}
 use Rattle.ipencap_engine.specs.declared.status.Status.TheVariants as status
 
@@ -20,11 +21,17 @@ abbrev pub IsCount : Bool → ℕ → ℕ → Type 0
 IsCount true before after = Rose before after
 IsCount false before after = after ≡ before
 
--- of a shelf that is blamed, that count which the job's settings have; no count of it falls, and its files stay
+-- the count rose which the job's settings have, or that of its second settings file, where the first one gives a plan
+pub data ShelfRose (job : Job) (before after : ShelfTold) : Type 0 where
+  of_settings : (name : List ℕ) → (row job).settings ≡ Some name → Rose (before.faults name) (after.faults name) → ShelfRose job before after
+  of_outer : (name : List ℕ) → (row job).outer ≡ Some name → ((bytes : List ℕ) → TellsSettings job before bytes → GivesPlan bytes)
+      → Rose (before.faults name) (after.faults name) → ShelfRose job before after
+
+-- of a shelf that is blamed, such a count rose; no count of it falls, and its files stay
 pub record KeepsShelf (job : Job) (is_blamed : Bool) (before after : ShelfTold) : Type 0 where
   pub files : (name : List ℕ) → after.file name ≡ before.file name
   pub later : (name : List ℕ) → before.faults name ≤ after.faults name
-  pub rose : (name : List ℕ) → (row job).settings ≡ Some name → is_blamed ≡ true → Rose (before.faults name) (after.faults name)
+  pub rose : is_blamed ≡ true → ShelfRose job before after
   pub kept : (name : List ℕ) → is_blamed ≡ false → after.faults name ≡ before.faults name
 
 -- each fault has its cause in the count of its object, and each count that rose its status

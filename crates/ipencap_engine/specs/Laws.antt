@@ -11,13 +11,13 @@ use Rattle.bb_loss_law.specs.Plans.{CarriesInFramesFor, IsRecordedInFramesFor, D
 use Rattle.recording_spec.specs.Pieces.{records_in}
 use Rattle.receive_command.specs.Files.{AddsCaptures, AddsParts}
 use Rattle.ipencap_engine.specs.World.{World}
-use Rattle.ipencap_engine.specs.Jobs.{Job, row, is_recording, IsPlanOf}
+use Rattle.ipencap_engine.specs.Jobs.{Job, row, IsPlanOf}
 use Rattle.ipencap_engine.specs.declared.status.Status.{Status}
 use Rattle.ipencap_engine.specs.declared.status.Status.TheVariants as status
 
--- the told input of a job that reads a recording: these records or frames of its plan, and after them fewer bytes than one has
+-- the told input of a job that adds files, each of what a recording delivers: these records or frames of its plan, and after them fewer bytes than one has
 pub record TellsRecording (job : Job) (before : World) (plan : PlanFields) (pieces : List (List ℕ)) : Type 0 where
-  pub reads : is_recording (row job).intake ≡ true
+  pub files : (row job).has_files ≡ true
   pub plan_is : IsPlanOf job before.shelf plan
   pub bytes : List ℕ
   pub told : before.input.left ≡ Some bytes

@@ -2,28 +2,30 @@
 use Rattle.std.specs.Prelude.{◌≡◌, ℕ, true, List, []}
 use Rattle.pcap_file.specs.Reader.{is_cut}
 use Rattle.pcap_file.specs.declared.faults.CaptureFault.{CaptureFault}
-use Rattle.settings_load.specs.Settings.{Refusal, IsRefusedFile}
+use Rattle.settings_load.specs.Settings.{Refusal}
 use Rattle.settings_load.specs.Lines.{refusal_line}
 use Rattle.send_command.specs.Sending.{ShowsFault}
 use Rattle.send_command.specs.Lines.{tally_line, fault_line}
 use Rattle.send_command.specs.declared.ends.Tally.{Tally}
 use Rattle.ipencap_engine.specs.Statuses.{status_line}
 use Rattle.ipencap_engine.specs.World.{World}
-use Rattle.ipencap_engine.specs.Jobs.{Job, Intake, no_input, a_capture, a_recording, row, TellsSettings}
+use Rattle.ipencap_engine.specs.Jobs.{Job, Intake, no_input, a_capture, a_recording, a_relayed, row, TellsSettings}
+use Rattle.ipencap_engine.specs.Settings.{IsRefusalOf}
 use Rattle.ipencap_engine.specs.Reads.{TakesCapture}
 use Rattle.ipencap_engine.specs.declared.status.Status.{Status}
 use Rattle.ipencap_engine.specs.declared.status.Status.TheVariants as status
 
--- that of a send that is done has numbers
+-- that of a send and of a relay that are done has numbers
 abbrev pub IsDoneLine : Intake → List ℕ → Type 0
 IsDoneLine no_input line = line ≡ []
 IsDoneLine a_capture line = (tally : Tally) × (line ≡ tally_line tally)
 IsDoneLine a_recording line = line ≡ []
+IsDoneLine a_relayed line = (tally : Tally) × (line ≡ tally_line tally)
 
--- that of refused settings says why
+-- that of refused settings says why the first file of them is refused that is
 pub record IsRefusalLine (job : Job) (before : World) (line : List ℕ) : Type 0 where
   pub refusal : Refusal
-  pub is : (bytes : List ℕ) → TellsSettings job before.shelf bytes → IsRefusedFile bytes refusal
+  pub is : (bytes : List ℕ) → TellsSettings job before.shelf bytes → IsRefusalOf job before.shelf bytes refusal
   pub line_is : line ≡ refusal_line refusal
 
 -- that of a capture its fault, which the bytes show that were read, and the record that has it; a capture that is cut was read to its end

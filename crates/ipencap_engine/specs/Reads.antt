@@ -9,7 +9,7 @@ use Rattle.carrier_spec.specs.Stream.{piece_size}
 use Rattle.ipe_io.specs.Told.{InputTold}
 use Rattle.receive_command.specs.Reading.{most_records}
 use Rattle.ipencap_engine.specs.World.{World}
-use Rattle.ipencap_engine.specs.Jobs.{Job, Intake, no_input, a_capture, a_recording, IsPlanOf}
+use Rattle.ipencap_engine.specs.Jobs.{Job, Intake, no_input, a_capture, a_recording, a_relayed, row, IsPlanOf}
 use Rattle.ipencap_engine.specs.declared.status.Status.{Status}
 use Rattle.ipencap_engine.specs.declared.status.Status.TheVariants as status
 
@@ -22,11 +22,11 @@ pub record TakesPieces (job : Job) (before after : World) (bound : ℕ → ℕ �
   pub is_bound : bound count (piece_size plan * most_records)
   pub taken : after.input.taken ≡ raised before.input.taken count
 
--- a recording was read to its end, and the rack has a file more for each service
+-- a recording was read to its end, and where the job adds files, the rack has one more for each service
 pub record ReadsAll (job : Job) (before after : World) : Type 0 where
   pub ended : after.input.ended ≡ true
   pub takes : TakesPieces job before after (λ count most. count < most)
-  pub files : after.rack.count ≡ before.rack.count + length takes.plan.services
+  pub files : (row job).has_files ≡ true → after.rack.count ≡ before.rack.count + length takes.plan.services
 
 -- an input that had not ended has not ended where it failed
 abbrev pub GoesOn : InputTold → InputTold → Type 0
@@ -39,6 +39,11 @@ ReadsRecording job status.SourceFault before after = GoesOn before.input after.i
 ReadsRecording job status.RackFault before after = TakesPieces job before after (λ count most. count ≤ most)
 ReadsRecording job status.TooLong before after = TakesPieces job before after (λ count most. count ≡ most)
 ReadsRecording job end before after = ⊤
+
+-- of a relay: too many records, or too many datagrams or bytes of them
+abbrev pub ReadsRelayed : Job → Status → World → World → Type 0
+ReadsRelayed job status.TooLong before after = TakesPieces job before after (λ count most. count ≤ most)
+ReadsRelayed job end before after = ReadsRecording job end before after
 
 -- these bytes of a capture were taken, no more after its last record than a reader reads ahead, and so much holds of them
 pub record TakesCapture (before after : InputTold) (holds : List ℕ → Type 0) : Type 0 where
@@ -63,3 +68,4 @@ abbrev pub Reads : Intake → Job → Status → World → World → Type 0
 Reads no_input job end before after = ⊤
 Reads a_capture job end before after = ReadsCapture end before after
 Reads a_recording job end before after = ReadsRecording job end before after
+Reads a_relayed job end before after = ReadsRelayed job end before after

@@ -1,33 +1,54 @@
 -- What a run makes of told settings, whatever else it does.
-use Rattle.std.specs.Prelude.{◌≡◌, ◌≢◌, ◌⊎◌, ℕ, List, ⊤}
+use Rattle.std.specs.Prelude.{◌≡◌, ◌≢◌, ◌⊎◌, true, List, ℕ, is_some, ⊤}
 use Rattle.plan_spec.specs.Plan.{PlanFields}
+use Rattle.ipe_io.specs.Told.{ShelfTold}
 use Rattle.settings_load.specs.Settings.{Refusal, IsAcceptedFile, IsRefusedFile}
 use Rattle.ipencap_engine.specs.World.{World, Object, the_input, the_output, the_rack}
-use Rattle.ipencap_engine.specs.Jobs.{Job, TellsSettings, IsPlanOf}
+use Rattle.ipencap_engine.specs.Jobs.{Job, row, TellsSettings, IsGiven, TellsOuter, HasOuter, IsPlanOf}
 use Rattle.ipencap_engine.specs.declared.status.Status.{Status}
 use Rattle.ipencap_engine.specs.declared.status.Status.TheVariants as status
 
+-- told bytes give a plan
+abbrev pub GivesPlan : List ℕ → Type 0
+GivesPlan bytes = (plan : PlanFields) × IsAcceptedFile bytes plan
+
+-- the second settings file, where it is told, gives one; a job has a second file, and where it is told, it is refused so
+abbrev pub GivesOuter : Job → ShelfTold → Type 0
+GivesOuter job shelf = (bytes : List ℕ) → TellsOuter job shelf bytes → GivesPlan bytes
+
+pub record OuterIsRefused (job : Job) (shelf : ShelfTold) (refusal : Refusal) : Type 0 where
+  pub has : is_some (row job).outer ≡ true
+  pub is : (bytes : List ℕ) → TellsOuter job shelf bytes → IsRefusedFile bytes refusal
+
+-- of settings, where they are told, this is why the first file of them is refused that is
+abbrev pub IsRefusalOf : Job → ShelfTold → List ℕ → Refusal → Type 0
+IsRefusalOf job shelf bytes refusal = IsRefusedFile bytes refusal ⊎ (GivesPlan bytes × OuterIsRefused job shelf refusal)
+
 -- told settings either give a plan, or are refused with Settings; the shelf may fail and memory run out before
-abbrev pub IsAnswer : List ℕ → Status → Type 0
-IsAnswer bytes status.ShelfFault = ⊤
-IsAnswer bytes status.OutOfMemory = ⊤
-IsAnswer bytes status.Settings = (refusal : Refusal) × IsRefusedFile bytes refusal
-IsAnswer bytes status.Usage = ⊥
-IsAnswer bytes status.Done = (plan : PlanFields) × IsAcceptedFile bytes plan
-IsAnswer bytes status.Capture = (plan : PlanFields) × IsAcceptedFile bytes plan
-IsAnswer bytes status.SourceFault = (plan : PlanFields) × IsAcceptedFile bytes plan
-IsAnswer bytes status.SinkFault = (plan : PlanFields) × IsAcceptedFile bytes plan
-IsAnswer bytes status.RackFault = (plan : PlanFields) × IsAcceptedFile bytes plan
-IsAnswer bytes status.TooLong = (plan : PlanFields) × IsAcceptedFile bytes plan
+abbrev pub IsAnswer : Job → ShelfTold → List ℕ → Status → Type 0
+IsAnswer job shelf bytes status.ShelfFault = ⊤
+IsAnswer job shelf bytes status.OutOfMemory = ⊤
+IsAnswer job shelf bytes status.Settings = (refusal : Refusal) × IsRefusalOf job shelf bytes refusal
+IsAnswer job shelf bytes status.Usage = ⊥
+IsAnswer job shelf bytes status.Done = GivesPlan bytes × GivesOuter job shelf
+IsAnswer job shelf bytes status.Capture = GivesPlan bytes × GivesOuter job shelf
+IsAnswer job shelf bytes status.SourceFault = GivesPlan bytes × GivesOuter job shelf
+IsAnswer job shelf bytes status.SinkFault = GivesPlan bytes × GivesOuter job shelf
+IsAnswer job shelf bytes status.RackFault = GivesPlan bytes × GivesOuter job shelf
+IsAnswer job shelf bytes status.TooLong = GivesPlan bytes × GivesOuter job shelf
+
+-- told settings are refused: the first file, or the second where the first gives a plan
+pub data IsRefusedBy (job : Job) (shelf : ShelfTold) (refusal : Refusal) : Type 0 where
+  in_first : (bytes : List ℕ) → TellsSettings job shelf bytes → IsRefusedFile bytes refusal → IsRefusedBy job shelf refusal
+  in_outer : (plan : PlanFields) → IsGiven job shelf plan → (bytes : List ℕ) → TellsOuter job shelf bytes → IsRefusedFile bytes refusal → IsRefusedBy job shelf refusal
 
 -- the answers to settings that are refused
 abbrev pub IsRefusing : Status → Type 0
 IsRefusing end = (end ≡ status.Settings) ⊎ ((end ≡ status.ShelfFault) ⊎ (end ≡ status.OutOfMemory))
 
 pub record JudgesSettings (job : Job) (end : Status) (before : World) (same : Object → Type 0) : Type 0 where
-  pub answer : (bytes : List ℕ) → TellsSettings job before.shelf bytes → IsAnswer bytes end
-  pub accepted : (plan : PlanFields) → IsPlanOf job before.shelf plan → end ≢ status.Settings
-  pub refused : (bytes : List ℕ) (refusal : Refusal) → TellsSettings job before.shelf bytes → IsRefusedFile bytes refusal → IsRefusing end
+  pub answer : (bytes : List ℕ) → TellsSettings job before.shelf bytes → IsAnswer job before.shelf bytes end
+  pub accepted : (plan : PlanFields) → IsPlanOf job before.shelf plan → HasOuter job before.shelf → end ≢ status.Settings
+  pub refused : (refusal : Refusal) → IsRefusedBy job before.shelf refusal → IsRefusing end
   -- refused settings are the end of it, whatever the status is
-  pub unused : (bytes : List ℕ) (refusal : Refusal) → TellsSettings job before.shelf bytes → IsRefusedFile bytes refusal
-      → same the_input × (same the_output × same the_rack)
+  pub unused : (refusal : Refusal) → IsRefusedBy job before.shelf refusal → same the_input × (same the_output × same the_rack)

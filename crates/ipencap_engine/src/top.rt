@@ -7,10 +7,13 @@ ghost use Rattle.ipencap_engine.specs.Statuses.{Complains, status_of, outcome_li
 ghost use Rattle.ipencap_engine.specs.Runs.{Runs};
 
 use crate::check::check;
+use crate::find::find_services;
 use crate::receive::receive_services;
+use crate::relay::relay_recording;
 use crate::send::send_capture;
 use crate::status::{Outcome, Status, complain};
 use crate::summary::summarize;
+use crate::tables::write_plan_tables;
 use crate::ule::receive_pid;
 use command_words::{Command, WordsFault, parse_words};
 use ipe_io::{Rack, Shelf, Sink, Source};
@@ -25,7 +28,11 @@ use std::alloc::Global;
 /// packets or in baseband frames. `receive SETTINGS` loads the settings, reads a recording of either from `input`, writes the
 /// datagrams of each service of the plan to a file of `rack` under the service's name, and the report to `output`.
 /// `sample NUMBER` sends datagrams that draws from the number make, drops packets of their stream by draws, receives the
-/// others, all of it in memory, and writes to `output` how many were offered, sent, dropped and delivered.
+/// others, all of it in memory, and writes to `output` how many were offered, sent, dropped and delivered. `tables SETTINGS` loads the
+/// settings, and writes to `output` a plain recording of the PAT, the PMTs and the INT of the plan. `find PID` reads a plain recording
+/// from `input`, and writes to `output` for each rule of the INT on that PID on which PID its stream is, as the PAT and the PMTs say.
+/// `relay IN OUT` loads both settings, receives a recording from `input` under the first, and writes to `output` the stream of all that it
+/// delivers under the second.
 ///
 /// Whatever job the words ask for, one line is reported, whole or, where `complaints` failed, a prefix of it; and what
 /// happened is a run of that job: specs/Runs.antt says in twelve sentences what that is.
@@ -97,5 +104,8 @@ fn obey<S: Shelf, I: Source, O: Sink, R: Rack>(
         Command::Ule(pid) => receive_pid(alloc, pid, input, rack),
         Command::Check(name) => check(alloc, name, shelf, output),
         Command::Sample(number) => summarize(alloc, number, output),
+        Command::Tables(name) => write_plan_tables(alloc, name, shelf, output),
+        Command::Find(pid) => find_services(alloc, pid, input, output),
+        Command::Relay(inner, outer) => relay_recording(alloc, inner, outer, shelf, input, output),
     }
 }

@@ -18,6 +18,9 @@ fn read_of(alloc: Global, text: &str) -> Result<String, Fail> {
         Ok(Command::Check(name)) => format!(in alloc; "check {name}")?,
         Ok(Command::Ule(pid)) => format!(in alloc; "ule {pid}")?,
         Ok(Command::Sample(number)) => format!(in alloc; "sample {number}")?,
+        Ok(Command::Tables(name)) => format!(in alloc; "tables {name}")?,
+        Ok(Command::Find(pid)) => format!(in alloc; "find {pid}")?,
+        Ok(Command::Relay(inner, outer)) => format!(in alloc; "relay {inner} {outer}")?,
         Err(WordsFault::Usage) => "usage".to_string(alloc)?,
         Err(WordsFault::OutOfMemory) => "out of memory".to_string(alloc)?,
     };
@@ -34,6 +37,12 @@ ule/0256|ule 256
 ule/8190|ule 8190
 sample/0000000001|sample 1
 sample/4294967295|sample 4294967295
+tables/a.toml|tables a.toml
+find/32|find 32
+find/0600|find 600
+find/8190|find 8190
+relay/a.toml/b.toml|relay a.toml b.toml
+relay/a/a|relay a a
 |usage
 send|usage
 send/a/b|usage
@@ -58,7 +67,20 @@ ule/+256|usage
 ule/-1|usage
 sample/4294967296|usage
 sample/00000000001|usage
-sample/1 |usage";
+sample/1 |usage
+tables|usage
+tables/a/b|usage
+find/31|usage
+find/8191|usage
+find/00600|usage
+find/x|usage
+relay|usage
+relay/a|usage
+relay/a/b/c|usage
+relay//b|usage
+relay/a/|usage
+relay/-a/b|usage
+relay/a/-b|usage";
 
 #[test]
 fn words_are_read_so(rt: HostRuntime) -> Result<(), Fail> {
