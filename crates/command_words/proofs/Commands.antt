@@ -1,15 +1,17 @@
 -- Words that form no command.
-use Rattle.std.proofs.Common.{◌≡◌, ◌≢◌, ◌<◌, ◌==◌, ℕ, List, [], ◌∷◌, Bool, true, false, subst, ap, ◌∙◌, arith, codes}
+use Rattle.std.proofs.Common.{◌≡◌, ◌≢◌, ◌<◌, ◌==◌, ℕ, List, [], ◌∷◌, Bool, true, false, subst, sym, ap, ◌∙◌, arith, codes}
 use Rattle.std.specs.Char.{digit_value}
 use Rattle.std.specs.Str.Parse.{IsNumeral}
 use Rattle.std.proofs.lemmas.Bool.Decides.{nat_tests}
 use Rattle.clap.specs.Words.{takes}
 use Rattle.command_words.specs.Line.{command_line}
-use Rattle.command_words.specs.Words.{IsValue, AsksWith, AsksNumbered, AsksForRelay, IsNoCommand, IsCommand, asks_for_send, asks_for_receive, asks_for_ule, asks_for_check, asks_for_sample, asks_for_tables, asks_for_find, asks_for_relay}
+use Rattle.command_words.specs.Words.{IsValue, AsksWith, AsksNumbered, IsCarrierText, AsksWithCarrier, AsksForRelay, IsNoCommand, IsCommand, asks_for_send, asks_for_receive, asks_for_ule, asks_for_check, asks_for_sample, asks_for_tables, asks_for_find, asks_for_bridge, asks_for_unbridge, asks_for_relay}
 use Rattle.command_words.specs.Asked.{AsksFor}
+use Rattle.command_words.specs.declared.carrier.Carrier.{Carrier}
+use Rattle.command_words.specs.declared.carrier.Carrier.TheVariants as carrier
 use Rattle.command_words.specs.declared.parse.Command.{Command}
 use Rattle.command_words.specs.declared.parse.Command.TheVariants as command
-use Rattle.command_words.proofs.Taken.{send_taken, receive_taken, ule_taken, check_taken, sample_taken, tables_taken, find_taken, relay_taken}
+use Rattle.command_words.proofs.Taken.{send_taken, receive_taken, ule_taken, check_taken, sample_taken, tables_taken, find_taken, bridge_taken, unbridge_taken, relay_taken}
 
 differ : (b : Bool) → b ≡ true → b ≡ false → ⊥
 differ true t f = cc
@@ -22,6 +24,11 @@ no_hyphen x other = grind (arith, nat_tests)
 numeral_value : (text : List ℕ) → IsNumeral 10 text → IsValue text
 numeral_value [] numeral = absurd (omega arith)
 numeral_value (x ∷ xs) numeral = λ e. let small : digit_value 45 < 10 = subst (λ (b : ℕ). digit_value b < 10) e numeral.1.0 in absurd (omega arith)
+
+-- a prefix's letter is no hyphen
+carrier_value : (text : List ℕ) (carrier : Carrier) → IsCarrierText text carrier → IsValue text
+carrier_value text (carrier.Ule pid) written = subst IsValue (sym written.text_is) (λ e. absurd (omega arith))
+carrier_value text (carrier.Gse isi) written = subst IsValue (sym written.text_is) (λ e. absurd (omega arith))
 
 -- every command's words with a value are taken
 abbrev TakesAll : List ℕ → Type 0
@@ -39,6 +46,11 @@ not_numbered : (command : List ℕ) (digits largest : ℕ) (words : List (List �
     → AsksNumbered command digits largest words number → ⊥
 not_numbered command digits largest words number all refused asks =
     differ (takes command_line words) (ap (takes command_line) asks.words_are ∙ value_taken command asks.text all (numeral_value asks.text asks.written.numeral)) refused
+
+not_carried : (command : List ℕ) (words : List (List ℕ)) (carrier : Carrier) → TakesAll command → takes command_line words ≡ false
+    → AsksWithCarrier command words carrier → ⊥
+not_carried command words carrier all refused asks =
+    differ (takes command_line words) (ap (takes command_line) asks.words_are ∙ value_taken command asks.text all (carrier_value asks.text carrier asks.written)) refused
 
 values_taken : (inner outer : List ℕ) → IsValue inner → IsValue outer → takes command_line (codes "relay" ∷ inner ∷ outer ∷ []) ≡ true
 values_taken [] outer one two = absurd one
@@ -59,6 +71,8 @@ untaken words refused = record {
   no_sample = λ number asks. not_numbered (codes "sample") 10 4294967295 words number sample_taken refused asks;
   no_tables = λ name asks. not_with (codes "tables") words name tables_taken refused asks;
   no_find = λ pid asks. not_numbered (codes "find") 4 8190 words pid find_taken refused asks.asks;
+  no_bridge = λ carrier asks. not_carried (codes "bridge") words carrier bridge_taken refused asks;
+  no_unbridge = λ carrier asks. not_carried (codes "unbridge") words carrier unbridge_taken refused asks;
   no_relay = λ inner outer asks. not_relayed words inner outer refused asks;
 }
 
@@ -73,6 +87,8 @@ unpaired words none no_relay = record {
   no_sample = λ number asks. none (codes "sample") asks.text asks.words_are (λ e. absurd (omega arith)) (numeral_value asks.text asks.written.numeral);
   no_tables = λ name asks. none (codes "tables") name asks.words_are (λ e. absurd (omega arith)) asks.value;
   no_find = λ pid asks. none (codes "find") asks.asks.text asks.asks.words_are (λ e. absurd (omega arith)) (numeral_value asks.asks.text asks.asks.written.numeral);
+  no_bridge = λ carrier asks. none (codes "bridge") asks.text asks.words_are (λ e. absurd (omega arith)) (carrier_value asks.text carrier asks.written);
+  no_unbridge = λ carrier asks. none (codes "unbridge") asks.text asks.words_are (λ e. absurd (omega arith)) (carrier_value asks.text carrier asks.written);
   no_relay = no_relay;
 }
 
@@ -85,4 +101,6 @@ forms_command words (command.Check name) asks = asks_for_check name.now asks
 forms_command words (command.Sample number) asks = asks_for_sample number asks
 forms_command words (command.Tables name) asks = asks_for_tables name.now asks
 forms_command words (command.Find pid) asks = asks_for_find pid asks
+forms_command words (command.Bridge carrier) asks = asks_for_bridge carrier asks
+forms_command words (command.Unbridge carrier) asks = asks_for_unbridge carrier asks
 forms_command words (command.Relay inner outer) asks = asks_for_relay inner.now outer.now asks

@@ -32,6 +32,14 @@ pub find_taken : (x : ℕ) (xs : List ℕ) → (x == 45) ≡ false → takes com
 unfolding clap_on_literals
 find_taken x xs h = rw h (rw h refl)
 
+pub bridge_taken : (x : ℕ) (xs : List ℕ) → (x == 45) ≡ false → takes command_line (codes "bridge" ∷ (x ∷ xs) ∷ []) ≡ true
+unfolding clap_on_literals
+bridge_taken x xs h = rw h (rw h refl)
+
+pub unbridge_taken : (x : ℕ) (xs : List ℕ) → (x == 45) ≡ false → takes command_line (codes "unbridge" ∷ (x ∷ xs) ∷ []) ≡ true
+unfolding clap_on_literals
+unbridge_taken x xs h = rw h (rw h refl)
+
 pub relay_taken : (x : ℕ) (xs : List ℕ) (y : ℕ) (ys : List ℕ) → (x == 45) ≡ false → (y == 45) ≡ false
     → takes command_line (codes "relay" ∷ (x ∷ xs) ∷ (y ∷ ys) ∷ []) ≡ true
 unfolding clap_on_literals

@@ -32,8 +32,9 @@ and_command line name id = with_subcommand line (valued name id).top
 
 abbrev pub command_line : App
 command_line =
-    with_subcommand (and_command (and_command (and_command (and_command (and_command (and_command (and_command bare_line
+    with_subcommand (and_command (and_command (and_command (and_command (and_command (and_command (and_command (and_command (and_command bare_line
     (codes "send") (codes "SETTINGS")) (codes "receive") (codes "SETTINGS")) (codes "ule") (codes "PID"))
     (codes "check") (codes "SETTINGS")) (codes "sample") (codes "NUMBER"))
     (codes "tables") (codes "SETTINGS")) (codes "find") (codes "PID"))
+    (codes "bridge") (codes "CARRIER")) (codes "unbridge") (codes "CARRIER"))
     (valued_twice (codes "relay") (codes "IN") (codes "OUT")).top

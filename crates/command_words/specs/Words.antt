@@ -1,6 +1,8 @@
 -- The words after the program's name, and which of them form a command. Profile: all of it.
-use Rattle.std.specs.Prelude.{◌≡◌, ◌≢◌, ℕ, ◌≤◌, List, [], ◌∷◌, length, codes}
+use Rattle.std.specs.Prelude.{◌≡◌, ◌≢◌, ℕ, ◌≤◌, List, [], ◌∷◌, ◌++◌, length, codes}
 use Rattle.std.specs.Str.Parse.{IsNumeral, digits_value}
+use Rattle.command_words.specs.declared.carrier.Carrier.{Carrier}
+use Rattle.command_words.specs.declared.carrier.Carrier.TheVariants as carrier
 
 -- a text that is no option: not empty, and its first byte no `-`
 abbrev pub IsValue : List ℕ → Type 0
@@ -52,6 +54,30 @@ pub record AsksForFind (words : List (List ℕ)) (pid : ℕ) : Type 0 where
   pub asks : AsksNumbered (codes "find") 4 8190 words pid
   pub least : 32 ≤ pid
 
+-- the text is a prefix and a number of so many decimal digits at most, no larger than the largest
+pub record IsPrefixedNumber (prefix : List ℕ) (digits largest : ℕ) (text : List ℕ) (number : ℕ) : Type 0 where
+  pub rest : List ℕ
+  pub text_is : text ≡ prefix ++ rest
+  pub written : IsNumber digits largest rest number
+
+-- CARRIER: `ule:` and a PID of one to four decimal digits, 0 to 8190, or `gse:` and an ISI of one to three, 0 to 255
+abbrev pub IsCarrierText : List ℕ → Carrier → Type 0
+IsCarrierText text (carrier.Ule pid) = IsPrefixedNumber (codes "ule:") 4 8190 text pid
+IsCarrierText text (carrier.Gse isi) = IsPrefixedNumber (codes "gse:") 3 255 text isi
+
+-- the words are a command's name and a carrier
+pub record AsksWithCarrier (command : List ℕ) (words : List (List ℕ)) (carrier : Carrier) : Type 0 where
+  pub text : List ℕ
+  pub words_are : words ≡ command ∷ text ∷ []
+  pub written : IsCarrierText text carrier
+
+-- `bridge CARRIER`, `unbridge CARRIER`
+abbrev pub AsksForBridge : List (List ℕ) → Carrier → Type 0
+AsksForBridge words carrier = AsksWithCarrier (codes "bridge") words carrier
+
+abbrev pub AsksForUnbridge : List (List ℕ) → Carrier → Type 0
+AsksForUnbridge words carrier = AsksWithCarrier (codes "unbridge") words carrier
+
 -- `relay IN OUT`: the names of the settings files of the inner and of the outer service
 pub record AsksForRelay (words : List (List ℕ)) (inner outer : List ℕ) : Type 0 where
   pub words_are : words ≡ codes "relay" ∷ inner ∷ outer ∷ []
@@ -67,6 +93,8 @@ pub record IsNoCommand (words : List (List ℕ)) : Type 0 where
   pub no_sample : (number : ℕ) → ¬ AsksForSample words number
   pub no_tables : (name : List ℕ) → ¬ AsksForTables words name
   pub no_find : (pid : ℕ) → ¬ AsksForFind words pid
+  pub no_bridge : (carrier : Carrier) → ¬ AsksForBridge words carrier
+  pub no_unbridge : (carrier : Carrier) → ¬ AsksForUnbridge words carrier
   pub no_relay : (inner outer : List ℕ) → ¬ AsksForRelay words inner outer
 
 -- the words form one
@@ -78,4 +106,6 @@ pub data IsCommand (words : List (List ℕ)) : Type 0 where
   asks_for_sample : (number : ℕ) → AsksForSample words number → IsCommand words
   asks_for_tables : (name : List ℕ) → AsksForTables words name → IsCommand words
   asks_for_find : (pid : ℕ) → AsksForFind words pid → IsCommand words
+  asks_for_bridge : (carrier : Carrier) → AsksForBridge words carrier → IsCommand words
+  asks_for_unbridge : (carrier : Carrier) → AsksForUnbridge words carrier → IsCommand words
   asks_for_relay : (inner outer : List ℕ) → AsksForRelay words inner outer → IsCommand words

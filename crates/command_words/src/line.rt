@@ -1,8 +1,8 @@
-//! The command line as `clap` is told of it: eight subcommands, each with one required value, `relay` with two.
+//! The command line as `clap` is told of it: ten subcommands, each with one required value, `relay` with two.
 ghost use Rattle.std.specs.Prelude.{◌≡◌, false, IfOk, map, string_bytes, IfErr};
 ghost use Rattle.clap.specs.Words.{app_of, takes};
 ghost use Rattle.clap.specs.declared.Command.{out-Command as fields_of};
-ghost use Rattle.command_words.specs.Line.{bare_line, command_line, valued, valued_twice};
+ghost use Rattle.command_words.specs.Line.{and_command, bare_line, command_line, valued, valued_twice};
 
 use crate::parse::WordsFault;
 use clap::error::ErrorKind;
@@ -46,27 +46,34 @@ fn empty_line<'a>(alloc: Global) -> Command<'a>
         .subcommand_required(true)
 }
 
+/// The line with one more subcommand, of one required value.
+fn and_command<'a>(
+    alloc: Global,
+    line: Command<'a>,
+    name: &'a str,
+    value: &'a str,
+) -> Result<Command<'a>, OutOfMemory>
+    ensures { IfOk result (λ c. app_of c ≡ and_command (app_of line.entry) name.entry.now value.entry.now) }
+{
+    let command = with_value(alloc, name, value)?;
+    line.subcommand(command)
+}
+
 /// The whole command line.
 fn whole_line<'a>(alloc: Global) -> Result<Command<'a>, OutOfMemory>
     ensures { IfOk result (λ c. app_of c ≡ command_line) }
 {
-    let send = with_value(alloc, "send", "SETTINGS")?;
-    let receive = with_value(alloc, "receive", "SETTINGS")?;
-    let ule = with_value(alloc, "ule", "PID")?;
-    let check = with_value(alloc, "check", "SETTINGS")?;
-    let sample = with_value(alloc, "sample", "NUMBER")?;
-    let tables = with_value(alloc, "tables", "SETTINGS")?;
-    let find = with_value(alloc, "find", "PID")?;
+    let send = and_command(alloc, empty_line(alloc), "send", "SETTINGS")?;
+    let receive = and_command(alloc, send, "receive", "SETTINGS")?;
+    let ule = and_command(alloc, receive, "ule", "PID")?;
+    let check = and_command(alloc, ule, "check", "SETTINGS")?;
+    let sample = and_command(alloc, check, "sample", "NUMBER")?;
+    let tables = and_command(alloc, sample, "tables", "SETTINGS")?;
+    let find = and_command(alloc, tables, "find", "PID")?;
+    let bridge = and_command(alloc, find, "bridge", "CARRIER")?;
+    let unbridge = and_command(alloc, bridge, "unbridge", "CARRIER")?;
     let relay = with_two_values(alloc, "relay", "IN", "OUT")?;
-    empty_line(alloc)
-        .subcommand(send)?
-        .subcommand(receive)?
-        .subcommand(ule)?
-        .subcommand(check)?
-        .subcommand(sample)?
-        .subcommand(tables)?
-        .subcommand(find)?
-        .subcommand(relay)
+    unbridge.subcommand(relay)
 }
 
 /// Asks `clap`: Usage only where it does not take the words.

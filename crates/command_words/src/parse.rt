@@ -3,6 +3,7 @@ ghost use Rattle.std.specs.Prelude.{◌≡◌, ℕ, List, [], ◌∷◌, map, st
 ghost use Rattle.command_words.specs.Words.{IsValue, AsksForRelay, IsCommand, IsNoCommand};
 ghost use Rattle.command_words.specs.Asked.{AsksFor};
 
+use crate::carrier::{Carrier, carrier_in};
 use crate::line::take_words;
 use crate::numbers::{number_in, pid_in, table_pid_in};
 use std::alloc::Global;
@@ -24,6 +25,10 @@ pub enum Command<'w> {
     Tables(&'w str),
     /// `find PID`.
     Find(u16),
+    /// `bridge CARRIER`.
+    Bridge(Carrier),
+    /// `unbridge CARRIER`.
+    Unbridge(Carrier),
     /// `relay IN OUT`: the settings of the inner and of the outer service.
     Relay(&'w str, &'w str),
 }
@@ -88,6 +93,14 @@ fn command_of<'w>(name: &str, value: &'w str) -> Option<Command<'w>>
             Some(pid) => Some(Command::Find(pid)),
             None => None,
         },
+        "bridge" => match carrier_in(value) {
+            Some(carrier) => Some(Command::Bridge(carrier)),
+            None => None,
+        },
+        "unbridge" => match carrier_in(value) {
+            Some(carrier) => Some(Command::Unbridge(carrier)),
+            None => None,
+        },
         _ => None,
     }
 }
@@ -109,8 +122,8 @@ fn command_in(words: &[String]) -> Option<Command<'_>>
 /// Reads the words after the program's name.
 ///
 /// There are two, of `relay` three. None begins with `-`, and none after the first is empty. PID is one to four decimal digits, 0 to 8190,
-/// and for `find` 32 to 8190. NUMBER is one to ten, 0 to 4,294,967,295. Memory is taken last, so words that form no command are found so
-/// without.
+/// and for `find` 32 to 8190. NUMBER is one to ten, 0 to 4,294,967,295. CARRIER is `ule:` and a PID, or `gse:` and an ISI, which is one to
+/// three decimal digits, 0 to 255. Memory is taken last, so words that form no command are found so without.
 pub fn parse_words(alloc: Global, words: &[String]) -> Result<Command<'_>, WordsFault>
     ensures read { IfOk result (λ command. AsksFor (map (λ word. string_bytes word) words.now) command) }
     ensures usage { IsErrOf result WordsFault.Usage → IsNoCommand (map (λ word. string_bytes word) words.now) }

@@ -1,6 +1,6 @@
 //! What no clause says: that with ample memory words are read so.
 
-use command_words::{Command, WordsFault, parse_words};
+use command_words::{Carrier, Command, WordsFault, parse_words};
 use std::alloc::Global;
 use std::test::Fail;
 
@@ -20,6 +20,10 @@ fn read_of(alloc: Global, text: &str) -> Result<String, Fail> {
         Ok(Command::Sample(number)) => format!(in alloc; "sample {number}")?,
         Ok(Command::Tables(name)) => format!(in alloc; "tables {name}")?,
         Ok(Command::Find(pid)) => format!(in alloc; "find {pid}")?,
+        Ok(Command::Bridge(Carrier::Ule(pid))) => format!(in alloc; "bridge PID {pid}")?,
+        Ok(Command::Bridge(Carrier::Gse(isi))) => format!(in alloc; "bridge ISI {isi}")?,
+        Ok(Command::Unbridge(Carrier::Ule(pid))) => format!(in alloc; "unbridge PID {pid}")?,
+        Ok(Command::Unbridge(Carrier::Gse(isi))) => format!(in alloc; "unbridge ISI {isi}")?,
         Ok(Command::Relay(inner, outer)) => format!(in alloc; "relay {inner} {outer}")?,
         Err(WordsFault::Usage) => "usage".to_string(alloc)?,
         Err(WordsFault::OutOfMemory) => "out of memory".to_string(alloc)?,
@@ -41,6 +45,13 @@ tables/a.toml|tables a.toml
 find/32|find 32
 find/0600|find 600
 find/8190|find 8190
+bridge/ule:0|bridge PID 0
+bridge/ule:0256|bridge PID 256
+bridge/ule:8190|bridge PID 8190
+bridge/gse:007|bridge ISI 7
+bridge/gse:255|bridge ISI 255
+unbridge/ule:8190|unbridge PID 8190
+unbridge/gse:0|unbridge ISI 0
 relay/a.toml/b.toml|relay a.toml b.toml
 relay/a/a|relay a a
 |usage
@@ -74,6 +85,23 @@ find/31|usage
 find/8191|usage
 find/00600|usage
 find/x|usage
+bridge|usage
+bridge/ule:1/a|usage
+bridge/ule:8191|usage
+bridge/ule:00256|usage
+bridge/ule:+1|usage
+bridge/ule: 1|usage
+bridge/ule:|usage
+bridge/ule|usage
+bridge/1|usage
+bridge/ULE:1|usage
+bridge/gse:256|usage
+bridge/gse:0007|usage
+bridge/gse:-1|usage
+unbridge|usage
+unbridge/gse:1/gse:2|usage
+unbridge/gse:256|usage
+unbridge/ule:8191|usage
 relay|usage
 relay/a|usage
 relay/a/b/c|usage
