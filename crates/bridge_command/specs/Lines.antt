@@ -1,0 +1,11 @@
+-- The line that is told of a bridge that is done. Profile: its text.
+use Rattle.std.specs.Prelude.{ℕ, List, [], ◌∷◌, ◌++◌, codes, decimal}
+use Rattle.bridge_command.specs.declared.ends.BridgeTally.{BridgeTally}
+
+-- what became of the captured frames
+unfoldable pub bridge_line : BridgeTally → List ℕ
+bridge_line tally =
+    codes "ipencap: offered " ++ decimal tally.offered
+    ++ codes ", too short " ++ decimal tally.too_short
+    ++ codes ", too long " ++ decimal tally.too_long
+    ++ 10 ∷ []

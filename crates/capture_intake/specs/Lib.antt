@@ -1,0 +1,4 @@
+pub mod Wanted
+pub mod Taken
+pub mod Ends
+pub mod Steps

@@ -1,0 +1,15 @@
+//! The one reading of a capture: record by record, to what takes them; and how a command ends that does so.
+//!
+//! Sending: Source -> pcap_file -> [capture_intake] -> a taker, as the lists of a plan's services, or the frames of a bridge.
+//! Begin with `read_capture`.
+#![tactic(auto)]
+
+mod ends;
+mod faults;
+mod reading;
+mod taker;
+
+pub use ends::{CaptureEnd, end_of};
+pub use faults::{CaptureReadFault, PlacedFault};
+pub use reading::read_capture;
+pub use taker::CaptureTaker;
