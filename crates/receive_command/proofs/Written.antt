@@ -33,7 +33,7 @@ use Rattle.receive_command.proofs.Outlets.{seen, BeginsWith, WritesAll, writes_a
 
 -- Lists by their last element.
 
-init_same : {A : Type 0} (xs ys : List A) (x y : A) → xs ++ x ∷ [] ≡ ys ++ y ∷ [] → xs ≡ ys
+pub init_same : {A : Type 0} (xs ys : List A) (x y : A) → xs ++ x ∷ [] ≡ ys ++ y ∷ [] → xs ≡ ys
 init_same [] [] x y e = refl
 init_same [] (b ∷ ys) x y e = absurd (omega (arith, ap length e, length_push ys y))
 init_same (a ∷ xs) [] x y e = absurd (omega (arith, ap length e, length_push xs x))
@@ -42,7 +42,7 @@ init_same (a ∷ xs) (b ∷ ys) x y e =
     let tails : xs ++ x ∷ [] ≡ ys ++ y ∷ [] = cc in
     ap₂ (λ h t. h ∷ t) heads (init_same xs ys x y tails)
 
-by_last : {A : Type 0} (xs : List A) → (xs ≡ []) ⊎ ((ys : List A) × (y : A) × (xs ≡ ys ++ y ∷ []))
+pub by_last : {A : Type 0} (xs : List A) → (xs ≡ []) ⊎ ((ys : List A) × (y : A) × (xs ≡ ys ++ y ∷ []))
 by_last [] = inl refl
 by_last (x ∷ xs) = elim (by_last xs) [
   | inl none ↦ inr ([], x, ap (λ l. x ∷ l) none)

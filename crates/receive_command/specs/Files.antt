@@ -69,9 +69,13 @@ pub record AddsHeads (services : List ServiceFields) (old new : Option (List Fil
   pub fewer : count < length services
   pub files : AddsCaptures false head_of (take count services) old new
 
--- no file was added, or one of that name with less than its head
+-- no file was added, or one of that name with less than a head
+abbrev pub AddsPartOf : List ℕ → List ℕ → Option (List File) → Option (List File) → Type 0
+AddsPartOf head name old new = Stays old new ⊎ ((n : ℕ) × (n < length head) × AddsFile old new (file_with false name (take n head)))
+
+-- with less than that of a capture of datagrams
 abbrev pub AddsPart : List ℕ → Option (List File) → Option (List File) → Type 0
-AddsPart name old new = Stays old new ⊎ ((n : ℕ) × (n < length capture_head) × AddsFile old new (file_with false name (take n capture_head)))
+AddsPart name old new = AddsPartOf capture_head name old new
 
 -- of so many, with their heads, and after them no file or that of the next service with less than its head
 pub record AddsHeadsPart (services : List ServiceFields) (count : ℕ) (old new : Option (List File)) : Type 0 where

@@ -14,25 +14,35 @@ use Rattle.receive_command.specs.Reading.{most_records}
 use Rattle.receive_command.specs.Ends.{WritesWhole, EndsWhole, EndsFront, EndsAtLimit, EndsInFiles, EndsReported, EndsInReport, Reports, ReportsPart}
 use Rattle.receive_command.specs.Writing.{IsGiven}
 
--- an input was read to its end, and gave fewer bytes than the most pieces have
-pub record TakesAll (plan : PlanFields) (input now : InputTold) : Type 0 where
+-- an input of pieces of so many bytes was read to its end, and gave fewer bytes than the most pieces have
+pub record TakesAllOf (size : ℕ) (input now : InputTold) : Type 0 where
   pub ended : now.ended ≡ true
   pub count : ℕ
-  pub fewer : count < piece_size plan * most_records
+  pub fewer : count < size * most_records
   pub taken : now.taken ≡ raised input.taken count
 
 -- it could not be read on, and gave fewer
-pub record TakesFront (plan : PlanFields) (input now : InputTold) : Type 0 where
+pub record TakesFrontOf (size : ℕ) (input now : InputTold) : Type 0 where
   pub going : input.ended ≡ false → now.ended ≡ false
   pub count : ℕ
-  pub fewer : count < piece_size plan * most_records
+  pub fewer : count < size * most_records
   pub taken : now.taken ≡ raised input.taken count
 
 -- it gave at most as many
-pub record TakesMost (plan : PlanFields) (input now : InputTold) : Type 0 where
+pub record TakesMostOf (size : ℕ) (input now : InputTold) : Type 0 where
   pub count : ℕ
-  pub most : count ≤ piece_size plan * most_records
+  pub most : count ≤ size * most_records
   pub taken : now.taken ≡ raised input.taken count
+
+-- the same of the pieces of a plan
+abbrev pub TakesAll : PlanFields → InputTold → InputTold → Type 0
+TakesAll plan input now = TakesAllOf (piece_size plan) input now
+
+abbrev pub TakesFront : PlanFields → InputTold → InputTold → Type 0
+TakesFront plan input now = TakesFrontOf (piece_size plan) input now
+
+abbrev pub TakesMost : PlanFields → InputTold → InputTold → Type 0
+TakesMost plan input now = TakesMostOf (piece_size plan) input now
 
 -- the rack has a file more for each service
 abbrev pub HasAllFiles : PlanFields → RackTold → RackTold → Type 0

@@ -1,0 +1,5 @@
+pub mod Frames
+pub mod Grown
+pub mod Written
+pub mod Ended
+pub mod Prefixes
