@@ -1,7 +1,8 @@
 //! What a bridge's own pieces carry.
-ghost use Rattle.std.specs.Prelude.{◌≡◌, ℕ, ◌≤◌, List, map, flat_map};
+ghost use Rattle.std.specs.Prelude.{◌≡◌, ℕ, ◌≤◌, List, [], map, flat_map};
+ghost use Rattle.wire_spec.specs.Lists.{joined, IsCut};
 ghost use Rattle.ts_spec.specs.Recording.{plain, records_of};
-ghost use Rattle.bridge_spec.specs.Frames.{BridgeCarrier, on_pid, on_isi, frame_of_sndu, frame_of_pdu, received_ethernet_frames};
+ghost use Rattle.bridge_spec.specs.Frames.{BridgeCarrier, on_pid, on_isi, frame_of_sndu, frame_of_pdu, size_of_piece, received_ethernet_frames};
 ghost use Rattle.bridge_spec.specs.Sending.{frames_to_carry, sndu_with_frame, pdu_with_frame, bridged_pieces};
 ghost use Rattle.bridge_spec.specs.Carried.{CarriesOnPid, CarriesOnIsi};
 ghost use Rattle.bridge_law.specs.Rooms.{HaveRoom};
@@ -47,3 +48,10 @@ pub fn bridged_frames_are_carried_in_pdus()
     packed_frames_give_the_pdus();
     the_pdus_say_what_is_delivered();
 }
+
+/// The bytes that a bridge writes are cut into its pieces again, packets of 188 bytes or baseband frames of 2,000, and nothing is left: so who
+/// receives all of them has the pieces that carry its frames.
+pub fn a_bridged_stream_is_cut_into_its_pieces()
+    ensures cut { (carrier : BridgeCarrier) (frames : List (List ℕ)) → HaveRoom carrier frames
+        → IsCut (size_of_piece carrier) (joined (bridged_pieces carrier frames)) (bridged_pieces carrier frames) [] }
+{}
