@@ -9,7 +9,7 @@ use Rattle.send_command.specs.Writing.{WritesAll, WritesFront}
 use Rattle.send_command.specs.declared.ends.Tally.{Tally}
 use Rattle.recording_spec.specs.Relayed.{as_records}
 use Rattle.relay_command.specs.Gathered.{FailsToRead, HasTooMany}
-use Rattle.relay_command.specs.Relaying.{Receives, Relays}
+use Rattle.relay_command.specs.Relaying.{Receives, LacksMemory, Relays}
 use Rattle.relay_command.specs.declared.ends.RelayEnd.TheVariants as ends
 
 module _ (inner outer : PlanFields) (input now : InputTold) (output : OutputTold) (Silent : Type 0) where
@@ -36,9 +36,9 @@ module _ (inner outer : PlanFields) (input now : InputTold) (output : OutputTold
   }
 
   module _ (written : OutputTold) (kept : now.faults ≡ input.faults) where
-    pub lacks_memory : written.faults ≡ output.faults → Silent → Relays ends.OutOfMemory inner outer input now output written Silent
-    lacks_memory same silent = record {
-      stands = tt;
+    pub lacks_memory : LacksMemory inner input now → written.faults ≡ output.faults → Silent → Relays ends.OutOfMemory inner outer input now output written Silent
+    lacks_memory lacks same silent = record {
+      stands = lacks;
       flushed = λ is. absurd (cc);
       unflushed = λ is. absurd (cc);
       unchanged = inr silent;

@@ -9,11 +9,11 @@ use Rattle.plan_spec.specs.Plan.{PlanFields}
 use Rattle.carrier_spec.specs.Stream.{piece_size}
 use Rattle.recording_reader.specs.declared.fault.ReadFault.{ReadFault}
 use Rattle.recording_reader.specs.declared.fault.ReadFault.TheVariants as read
-use Rattle.recording_spec.specs.Pieces.{told_pairs}
+use Rattle.recording_spec.specs.Pieces.{told_pairs, delivered_pairs}
 use Rattle.recording_spec.specs.Relayed.{datagrams_in, relayed}
 use Rattle.receive_command.specs.Reading.{HasRead, most_records}
 use Rattle.receive_command.specs.Receives.{TakesAll, TakesFront, TakesMost}
-use Rattle.relay_core.specs.Gathering.{GatherState, FitsCapture}
+use Rattle.relay_core.specs.Gathering.{GatherState, FitsCapture, HasGathered}
 use Rattle.relay_core.specs.declared.gather.GatherFault.TheVariants as gather_fault
 
 -- more datagrams than a capture has, or more bytes
@@ -79,13 +79,50 @@ pub data HasTooMany (plan : PlanFields) (input now : InputTold) : Type 0 where
   within : StopsWithin plan input now → HasTooMany plan input now
   after : StopsAfter plan input now → HasTooMany plan input now
 
--- by the answer of a reading into what gathers. Where a datagram was refused, there were too many, or memory ran out
-abbrev pub GatherEnds : Result ⊤ ReadFault → PlanFields → InputTold → InputTold → GatherState → Type 0
-GatherEnds (Ok done) plan input now gather = Gathers plan input now gather.list
-GatherEnds (Err read.Source) plan input now gather = FailsToRead plan input now
-GatherEnds (Err read.TooLong) plan input now gather = HasTooMany plan input now
-GatherEnds (Err read.Taker) plan input now gather = (gather.cause ≢ gather_fault.None) × (gather.cause ≡ gather_fault.Full → HasTooMany plan input now)
+-- nothing was read after a piece that gives a datagram with which, and with all before it, the limits are not passed: memory may have lacked for it
+pub record LacksWithin (plan : PlanFields) (input now : InputTold) : Type 0 where
+  pub before : List (List ℕ)
+  pub piece : List ℕ
+  pub given : List (ℕ × List ℕ)
+  pub service : ℕ
+  pub datagram : List ℕ
+  pub behind : List (ℕ × List ℕ)
+  pub read : HasRead (piece_size plan) input.left now.left (before ++ piece ∷ []) []
+  pub most : length (before ++ piece ∷ []) ≤ most_records
+  pub gives : told_pairs plan (before ++ piece ∷ []) ≡ told_pairs plan before ++ given ++ (service, datagram) ∷ behind
+  pub fits : FitsCapture (datagrams_in (told_pairs plan before ++ given ++ (service, datagram) ∷ []))
+  pub takes : TakesMost plan input now
 
-pub record GathersPieces (result : Result ⊤ ReadFault) (plan : PlanFields) (input now : InputTold) (gather : GatherState) : Type 0 where
-  pub ends : GatherEnds result plan input now gather
+-- all was read, and the end gives such a datagram
+pub record LacksAfter (plan : PlanFields) (input now : InputTold) : Type 0 where
+  pub pieces : List (List ℕ)
+  pub given : List (ℕ × List ℕ)
+  pub service : ℕ
+  pub datagram : List ℕ
+  pub behind : List (ℕ × List ℕ)
+  pub read : IsReadToEnd plan input now pieces
+  pub gives : delivered_pairs plan pieces ≡ told_pairs plan pieces ++ given ++ (service, datagram) ∷ behind
+  pub fits : FitsCapture (datagrams_in (told_pairs plan pieces ++ given ++ (service, datagram) ∷ []))
+
+-- memory may have lacked for a datagram of the last piece that was read, or of the end, with which the limits are not passed
+pub data LacksForDatagram (plan : PlanFields) (input now : InputTold) : Type 0 where
+  in_piece : LacksWithin plan input now → LacksForDatagram plan input now
+  at_end : LacksAfter plan input now → LacksForDatagram plan input now
+
+-- these datagrams were gathered under the outer plan: all that the recording delivers, its end included
+pub record GathersAll (plan outer : PlanFields) (input now : InputTold) (gather : GatherState) : Type 0 where
+  pub datagrams : List (List ℕ)
+  pub gathers : Gathers plan input now datagrams
+  pub gathered : HasGathered outer gather datagrams
+
+-- by the answer of a reading into what gathers. Where a datagram was refused, there were too many, or memory ran out
+abbrev pub GatherEnds : Result ⊤ ReadFault → (plan outer : PlanFields) → InputTold → InputTold → GatherState → Type 0
+GatherEnds (Ok done) plan outer input now gather = GathersAll plan outer input now gather
+GatherEnds (Err read.Source) plan outer input now gather = FailsToRead plan input now
+GatherEnds (Err read.TooLong) plan outer input now gather = HasTooMany plan input now
+GatherEnds (Err read.Taker) plan outer input now gather =
+    (gather.cause ≢ gather_fault.None) × (gather.cause ≡ gather_fault.Full → HasTooMany plan input now) × (gather.cause ≡ gather_fault.OutOfMemory → LacksForDatagram plan input now)
+
+pub record GathersPieces (result : Result ⊤ ReadFault) (plan outer : PlanFields) (input now : InputTold) (gather : GatherState) : Type 0 where
+  pub ends : GatherEnds result plan outer input now gather
   pub kept : result ≢ Err read.Source → now.faults ≡ input.faults

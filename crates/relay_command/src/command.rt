@@ -5,19 +5,17 @@ ghost use Rattle.relay_command.specs.Relaying.{Relays};
 
 use crate::ends::{GatherEnd, RelayEnd};
 use crate::gathering::gather_recording;
-use crate::offering::offer_all;
 use ipe_io::{Sink, Source};
 use mux_core::MuxFault;
 use plan::Plan;
-use recording_law::delivered_datagrams_are_datagrams;
 use send_command::send_offered;
 use std::alloc::Global;
 
 /// Receives the recording that is read from `input` under the inner plan, writes the stream of all that it delivers under the outer plan, and
 /// flushes it.
 ///
-/// The datagrams are offered in the order of the records or frames that give them, then by service. All is received before anything is
-/// written. The receiver's memory is given back before the datagrams are offered, and theirs before the stream is made.
+/// The datagrams are offered in the order of the records or frames that give them, then by service, each as it is delivered. All is received
+/// before anything is written, and the receiver's memory is given back before the stream is made.
 pub fn relay<I: Source, O: Sink>(
     alloc: Global,
     inner: &Plan,
@@ -28,18 +26,12 @@ pub fn relay<I: Source, O: Sink>(
     ensures relays { Relays result (plan_fields inner.now) (plan_fields outer.now) (I.told input.old) (I.told input.new) (O.told output.old) (O.told output.new)
         (output.new ≡ output.old) }
 {
-    delivered_datagrams_are_datagrams();
-    let gathered = match gather_recording(alloc, inner, input) {
-        Ok(gathered) => gathered,
+    let offered = match gather_recording(alloc, inner, outer, input) {
+        Ok(offered) => offered,
         Err(GatherEnd::Source) => return RelayEnd::SourceFault,
         Err(GatherEnd::TooLong) => return RelayEnd::TooLong,
         Err(GatherEnd::OutOfMemory) => return RelayEnd::OutOfMemory,
     };
-    let offered = match offer_all(alloc, outer, gathered.list()) {
-        Ok(offered) => offered,
-        Err(_) => return RelayEnd::OutOfMemory,
-    };
-    drop(gathered);
     match send_offered(alloc, outer, &offered, output) {
         Ok(tally) => RelayEnd::Done(tally),
         Err(MuxFault::Sink) => RelayEnd::SinkFault,

@@ -7,7 +7,6 @@
 mod command;
 mod ends;
 mod gathering;
-mod offering;
 
 pub use command::relay;
 pub use ends::RelayEnd;

@@ -1,20 +1,37 @@
-//! An outlet that keeps what is delivered: datagrams of all services in, one list of them out.
-ghost use Rattle.std.specs.Prelude.{◌≡◌, ℕ, List, [], ◌∷◌, ◌++◌, All, OnOk, OnErr};
-ghost use Rattle.wire_spec.specs.Bytes.{AreBytes};
+//! An outlet that offers what is delivered under a plan: datagrams of all services in, the lists of the plan's services out.
+ghost use Rattle.std.specs.Prelude.{◌≡◌, ℕ, List, [], ◌∷◌, ◌++◌, IfOk, IfSome, OnOk, OnErr};
+ghost use Rattle.std.specs.Option.{option_copied};
 ghost use Rattle.wire_spec.specs.Causes.{HasCause, raised};
-ghost use Rattle.relay_core.specs.Gathering.{IsGathered, FitsCapture, IsPast, IsCauseOf};
+ghost use Rattle.wire_spec.specs.Datagram.{IsDatagram};
+ghost use Rattle.plan.specs.PlanView.{plan_fields};
+ghost use Rattle.plan_spec.specs.Plan.{PlanFields};
+ghost use Rattle.relay_core.specs.Gathering.{HasGathered, IsGathered, IsPast, IsCauseOf, record_of};
 
 use byte_slices::as_bytes;
-use ip_datagram::DatagramList;
-use ipe_io::{Failed, Outlet};
+use datagram_routing::Offered;
+use ip_datagram::front;
+use ipe_io::{Failed, OutOfMemory, Outlet};
+use plan::Plan;
 use std::alloc::Global;
-use std::marker::Model;
+use std::marker::{Brand, Model, PhantomData};
 
 /// Profile: the most datagrams that are gathered, as many as a capture may have records.
 const MOST_DATAGRAMS: usize = 4_194_304;
 
 /// Profile: the most bytes of all gathered datagrams, as many as those of a capture's records.
 const MOST_BYTES: usize = 268_435_456;
+
+/// The plan under which datagrams are offered, for contracts alone.
+pub trait OuterPlan {
+    /// Its settings.
+    ghost outer: { PlanFields };
+}
+
+impl OuterPlan for Brand {
+    ghost use Rattle.relay_core.specs.Gathering.{no_services};
+
+    ghost outer = { no_services };
+}
 
 /// Why the last datagram that was refused was refused.
 #[derive(Clone, Copy, Debug, PartialEq, Eq)]
@@ -27,50 +44,56 @@ pub enum GatherFault {
     Full,
 }
 
-/// The datagrams that were delivered of up to 64 services, in the order of their delivery.
+/// The datagrams that were delivered of up to 64 services, offered under a plan in the order of their delivery.
 #[derive(Drop)]
-pub struct Gather {
-    list: DatagramList,
+pub struct Gather<'p, P: OuterPlan> {
+    plan: &'p Plan,
+    offered: Offered,
+    /// How many datagrams were delivered.
+    count: usize,
     /// The bytes of all of them.
     size: usize,
     cause: GatherFault,
     faults: u64,
+    outer: PhantomData<P>,
 }
 
-impl Model for Gather {
+impl<'p, P: OuterPlan> Model for Gather<'p, P> {
     ghost use Rattle.std.specs.Prelude.{◌≡◌};
-    ghost use Rattle.std.specs.Prelude.{All};
-    ghost use Rattle.wire_spec.specs.Bytes.{AreBytes};
-    ghost use Rattle.pcap_file.specs.Told.{bytes_in};
-    ghost use Rattle.relay_core.specs.Gathering.{GatherState, FitsCapture};
+    ghost use Rattle.plan.specs.PlanView.{plan_fields};
+    ghost use Rattle.relay_core.specs.Gathering.{GatherState, IsFromSome};
 
     ghost Value = { GatherState };
 
-    ghost view = { λ g. record { list = g.list; cause = g.cause; faults = g.faults } };
+    ghost view = { λ g. record { offered = g.offered; count = g.count; size = g.size; cause = g.cause; faults = g.faults } };
 
-    ghost invariant = { λ g. (g.size ≡ bytes_in g.list) × (FitsCapture g.list × All AreBytes g.list) };
+    ghost invariant = { λ g. (plan_fields g.plan.now ≡ P.outer) × IsFromSome P.outer g.offered g.count g.size };
 }
 
-impl Gather {
+impl<'p, P: OuterPlan> Gather<'p, P> {
     /// Nothing was gathered yet.
-    pub fn new(alloc: Global) -> Gather
-        ensures { result ≡ record { list = []; cause = GatherFault.None; faults = 0 } }
+    pub fn new(alloc: Global, plan: &'p Plan) -> Result<Gather<'p, P>, OutOfMemory>
+        requires outer { plan_fields plan.now ≡ P.outer }
+        ensures gathered { IfOk result (λ gather. HasGathered P.outer gather []) }
+        ensures fresh { IfOk result (λ gather. (gather.cause ≡ GatherFault.None) × (gather.faults ≡ 0)) }
     {
-        Gather {
-            list: DatagramList::new(alloc),
+        let offered = Offered::new(alloc, plan)?;
+        Ok(Gather {
+            plan,
+            offered,
+            count: 0,
             size: 0,
             cause: GatherFault::None,
             faults: 0,
-        }
+            outer: PhantomData,
+        })
     }
 
-    /// Lends the datagrams, in order: no more of them, and no more bytes, than a capture may have.
-    pub fn list(&self) -> &DatagramList
-        ensures read { result.now ≡ self.now.list }
-        ensures fits { FitsCapture self.now.list }
-        ensures bytes { All AreBytes self.now.list }
+    /// Gives what was offered.
+    pub fn into_offered(self) -> Offered
+        ensures read { result ≡ self.entry.offered }
     {
-        &self.list
+        self.offered
     }
 
     /// Why the last refused datagram was refused: `None` before the first.
@@ -82,7 +105,7 @@ impl Gather {
 
     /// Counts a refusal.
     fn refuse(&mut self, cause: GatherFault) -> Result<(), Failed>
-        ensures refused { OnErr result (self.new ≡ record { list = self.old.list; cause = cause; faults = raised self.old.faults 1 }) }
+        ensures refused { OnErr result (self.new ≡ record self.old { cause = cause; faults = raised self.old.faults 1 }) }
         ensures never { OnOk result ⊥ }
     {
         self.cause = cause;
@@ -91,33 +114,53 @@ impl Gather {
     }
 }
 
-impl Outlet for Gather {
+/// Lends the bytes where they are one datagram, and nothing after it.
+fn one_datagram(bytes: &[u8]) -> Option<&[u8]>
+    ensures read { option_copied result ≡ record_of bytes.now }
+    ensures datagram { IfSome result (λ datagram. IsDatagram datagram.now) }
+{
+    match front(bytes) {
+        Ok(size) => {
+            if size == bytes.len() {
+                Some(bytes)
+            } else {
+                None
+            }
+        }
+        Err(_) => None,
+    }
+}
+
+impl<'p, P: OuterPlan> Outlet for Gather<'p, P> {
     ghost use Rattle.relay_core.specs.Gathering.{IsGathered, IsCauseOf};
 
     ghost services = { λ _. 64 };
 
     ghost faults = { λ g. g.faults };
 
-    ghost StandsFor = { λ g pairs. IsGathered g pairs };
+    ghost StandsFor = { λ g pairs. IsGathered P.outer g pairs };
 
-    ghost Refused = { λ g service datagram. IsCauseOf g.list datagram g.cause };
+    ghost Refused = { λ g service datagram. IsCauseOf g datagram g.cause };
 
-    /// Keeps a datagram after the others. Whether there is room for it is tested before memory is asked for.
+    /// Offers a datagram after the others. Whether it is within the limits is tested before memory is asked for.
     fn deliver(&mut self, service: u32, datagram: &[u8]) -> Result<(), Failed>
-        ensures written { OnOk result ((pairs : List (ℕ × List ℕ)) → IsGathered self.old pairs → IsGathered self.new (pairs ++ (service, datagram.now) ∷ [])) }
-        ensures refused { OnErr result (IsCauseOf self.new.list datagram.now self.new.cause) }
-        ensures unchanged { OnErr result ((pairs : List (ℕ × List ℕ)) → IsGathered self.old pairs → IsGathered self.new pairs) }
-        ensures kept { OnOk result (self.new.list ≡ self.old.list ++ datagram.now ∷ []) }
-        ensures same { OnErr result (self.new.list ≡ self.old.list) }
-        ensures full { IsPast self.old.list datagram.now → OnOk result ⊥ }
+        ensures written { OnOk result ((pairs : List (ℕ × List ℕ)) → IsGathered P.outer self.old pairs → IsGathered P.outer self.new (pairs ++ (service, datagram.now) ∷ [])) }
+        ensures refused { OnErr result (IsCauseOf self.new datagram.now self.new.cause) }
+        ensures unchanged { OnErr result ((pairs : List (ℕ × List ℕ)) → IsGathered P.outer self.old pairs → IsGathered P.outer self.new pairs) }
+        ensures same { OnErr result (self.new ≡ record self.old { cause = self.new.cause; faults = self.new.faults }) }
+        ensures full { IsPast self.old datagram.now → OnOk result ⊥ }
         ensures same_cause { OnOk result (self.new.cause ≡ self.old.cause) }
         ensures cause { HasCause self.old.faults self.new.faults result }
     {
-        if self.list.len() >= MOST_DATAGRAMS || datagram.len() > MOST_BYTES - self.size {
+        if self.count >= MOST_DATAGRAMS || datagram.len() > MOST_BYTES - self.size {
             return self.refuse(GatherFault::Full);
         }
-        match self.list.push(as_bytes(datagram)) {
+        match self
+            .offered
+            .offer(self.plan, one_datagram(as_bytes(datagram)))
+        {
             Ok(()) => {
+                self.count += 1;
                 self.size += datagram.len();
                 Ok(())
             }

@@ -11,7 +11,7 @@ use test_recordings::units::{SECTION, SNDU};
 use test_recordings::{joined, on_pid, small_capture, start};
 
 /// The plan of these settings.
-fn plan_of(alloc: Global, settings: &str) -> Result<Plan, Fail> {
+pub fn plan_of(alloc: Global, settings: &str) -> Result<Plan, Fail> {
     match read_plan(alloc, settings.as_bytes()) {
         Ok(plan) => Ok(plan),
         Err(_) => Err(Fail::new("settings")),

@@ -5,6 +5,7 @@ use Rattle.plan_spec.specs.Plan.{PlanFields}
 use Rattle.plan.specs.PlanView.{plan_fields}
 use Rattle.datagram_routing.specs.Offering.{IsOffered}
 use Rattle.recording_spec.specs.Relayed.{as_records}
+use Rattle.relay_command.specs.Relaying.{gathered}
 use Rattle.relay_command.proofs.Answered.{ends_in_source, ends_too_long, lacks_memory, ends_done, ends_in_sink}
 use Rattle.relay_command.proofs.command.relay.Goals as goal
 
@@ -29,46 +30,37 @@ returns-in-Err-OutOfMemory g c = record {
       let is = c.in-Err-OutOfMemory.field-0-is in
       lacks_memory (plan_fields c.args.inner.now) (plan_fields c.args.outer.now) (g.I.Source.told c.args.input.now) (g.I.Source.told c.gather_recording.new.input)
       (g.O.Sink.told c.args.output.now) (c.args.output.now ≡ c.args.output.now) (g.O.Sink.told c.args.output.now)
-      (c.in-Err-OutOfMemory.ensures.kept (λ other. absurd (cc))) refl refl;
-}
-
-pub returns-in-Err : goal.returns-in-Err
-returns-in-Err g c = record {
-  relays = lacks_memory (plan_fields c.args.inner.now) (plan_fields c.args.outer.now) (g.I.Source.told c.args.input.now) (g.I.Source.told c.gather_recording.new.input)
-      (g.O.Sink.told c.args.output.now) (c.args.output.now ≡ c.args.output.now) (g.O.Sink.told c.args.output.now)
-      (c.in-Ok.ensures.kept (λ other. absurd (cc))) refl refl;
+      (c.in-Err-OutOfMemory.ensures.kept (λ other. absurd (cc))) (c.in-Err-OutOfMemory.ensures.memory (ap (λ e. Err e) is)) refl refl;
 }
 
 pub returns-in-Ok-send_offered : goal.returns-in-Ok-send_offered
 returns-in-Ok-send_offered g c = record {
   relays =
-      let outer : PlanFields = plan_fields c.args.outer.now in
-      let datagrams : List (List ℕ) = c.in-Ok.gathered.list in
-      let stands : IsOffered outer (as_records datagrams) c.in-Ok-offer_all.offered =
-      subst (λ (list : List (List ℕ)). IsOffered outer (as_records list) c.in-Ok-offer_all.offered) c.list.ensures.read c.in-Ok-offer_all.ensures.offered in
-      ends_done (plan_fields c.args.inner.now) outer (g.I.Source.told c.args.input.now) (g.I.Source.told c.gather_recording.new.input)
+      let into = c.in-Ok.ensures.gathers in
+      ends_done (plan_fields c.args.inner.now) (plan_fields c.args.outer.now) (g.I.Source.told c.args.input.now) (g.I.Source.told c.gather_recording.new.input)
       (g.O.Sink.told c.args.output.now) (c.send_offered.new.output ≡ c.args.output.now) (g.O.Sink.told c.send_offered.new.output)
-      (c.in-Ok.ensures.kept (λ other. absurd (cc))) datagrams c.in-Ok-send_offered.tally
-      (record { gathers = c.in-Ok.ensures.gathers; fits = c.list.ensures.fits; of_bytes = c.list.ensures.bytes })
-      (c.in-Ok-send_offered.ensures.written (as_records datagrams) stands) c.in-Ok-send_offered.ensures.flushed (c.in-Ok-send_offered.ensures.output_kept (λ other. absurd (cc)));
+      (c.in-Ok.ensures.kept (λ other. absurd (cc))) into.datagrams c.in-Ok-send_offered.tally into.receives
+      (c.in-Ok-send_offered.ensures.written (as_records into.datagrams) into.offers) c.in-Ok-send_offered.ensures.flushed (c.in-Ok-send_offered.ensures.output_kept (λ other. absurd (cc)));
 }
 
 pub returns-in-Err-Sink : goal.returns-in-Err-Sink
 returns-in-Err-Sink g c = record {
   relays =
-      let outer : PlanFields = plan_fields c.args.outer.now in
-      let datagrams : List (List ℕ) = c.in-Ok.gathered.list in
-      let stands : IsOffered outer (as_records datagrams) c.in-Ok-offer_all.offered =
-      subst (λ (list : List (List ℕ)). IsOffered outer (as_records list) c.in-Ok-offer_all.offered) c.list.ensures.read c.in-Ok-offer_all.ensures.offered in
+      let into = c.in-Ok.ensures.gathers in
       let failed = ap (λ e. Err e) c.in-Err-Sink.field-0-is in
-      ends_in_sink (plan_fields c.args.inner.now) outer (g.I.Source.told c.args.input.now) (g.I.Source.told c.gather_recording.new.input)
+      ends_in_sink (plan_fields c.args.inner.now) (plan_fields c.args.outer.now) (g.I.Source.told c.args.input.now) (g.I.Source.told c.gather_recording.new.input)
       (g.O.Sink.told c.args.output.now) (c.send_offered.new.output ≡ c.args.output.now) (g.O.Sink.told c.send_offered.new.output)
-      (c.in-Ok.ensures.kept (λ other. absurd (cc))) datagrams
-      (record { gathers = c.in-Ok.ensures.gathers; fits = c.list.ensures.fits; of_bytes = c.list.ensures.bytes })
-      (c.in-Err-Sink.ensures.written (as_records datagrams) stands) (c.in-Err-Sink.ensures.unflushed failed) (c.in-Err-Sink.ensures.sink failed);
+      (c.in-Ok.ensures.kept (λ other. absurd (cc))) into.datagrams into.receives
+      (c.in-Err-Sink.ensures.written (as_records into.datagrams) into.offers) (c.in-Err-Sink.ensures.unflushed failed) (c.in-Err-Sink.ensures.sink failed);
 }
 
-pub offer_all-requires-clause-datagrams : goal.offer_all-requires-clause-datagrams
-offer_all-requires-clause-datagrams g c =
-    subst (λ (list : List (List ℕ)). All IsDatagram list) (sym (c.list.ensures.read ∙ c.in-Ok.ensures.gathers.datagrams_are))
-    (c.delivered_datagrams_are_datagrams.ensures.are (plan_fields c.args.inner.now) c.in-Ok.ensures.gathers.pieces)
+pub returns : goal.returns
+returns g c = record {
+  relays =
+      let into = c.in-Ok.ensures.gathers in
+      let is = c.in-Err-OutOfMemory-send_offered.field-0-is in
+      lacks_memory (plan_fields c.args.inner.now) (plan_fields c.args.outer.now) (g.I.Source.told c.args.input.now) (g.I.Source.told c.gather_recording.new.input)
+      (g.O.Sink.told c.args.output.now) (c.send_offered.new.output ≡ c.args.output.now) (g.O.Sink.told c.send_offered.new.output)
+      (c.in-Ok.ensures.kept (λ other. absurd (cc))) (gathered into.datagrams into.receives)
+      (c.in-Err-OutOfMemory-send_offered.ensures.output_kept (λ other. absurd (cc))) (c.in-Err-OutOfMemory-send_offered.ensures.unchanged (ap (λ e. Err e) is));
+}
