@@ -22,7 +22,7 @@ use Rattle.receive_command.specs.Receives.{TakesAll, TakesFront, TakesMost}
 use Rattle.receive_command.proofs.Adding.{adds_none}
 use Rattle.relay_core.specs.Gathering.{FitsCapture}
 use Rattle.relay_command.specs.Gathered.{IsReadToEnd, FailsToRead, HasTooMany, at_most, within, after as after_end}
-use Rattle.relay_command.specs.Relaying.{Receives, Relays, RelaysAll, RelaysFront}
+use Rattle.relay_command.specs.Relaying.{LacksMemory, Receives, Relays, RelaysAll, RelaysFront}
 use Rattle.relay_command.specs.declared.ends.RelayEnd.TheVariants as ends
 use Rattle.ipencap_engine.specs.Statuses.{status_line}
 use Rattle.ipencap_engine.specs.World.{World, world, Object, the_shelf, the_input, the_output, the_rack}
@@ -200,4 +200,5 @@ module _ (first second : List ℕ) (inner outer : PlanFields) (whole : is_whole_
       (used OutOfMemory refl refl (inl (of_output (silent all.unchanged))))
       (record { shelf = shelf; input = all.input_kept (λ e. absurd (cc)); output = all.output_kept (λ e. absurd (cc)); rack = refl })
       tt
-      (λ plan bytes is told. tt) (λ plan is e. in_memory (λ files. absurd (cc)) refl (stays-refl rack.files)) refl
+      (λ plan bytes is told. subst (λ (q : PlanFields). LacksMemory q input taken) (one_inner plan is) all.stands)
+      (λ plan is e. in_memory (λ files. absurd (cc)) refl (stays-refl rack.files)) refl

@@ -9,7 +9,7 @@ use Rattle.plan_spec.specs.Plan.{PlanFields}
 use Rattle.receive_command.proofs.Adding.{adds_none}
 use Rattle.ipencap_engine.specs.Statuses.{status_line}
 use Rattle.ipencap_engine.specs.World.{World, world, Object, the_shelf, the_input, the_output, the_rack}
-use Rattle.ipencap_engine.specs.Jobs.{Job, Intake, no_input, a_capture, a_recording, a_relayed, row, is_command, may_use, IsPlanOf, IsGiven}
+use Rattle.ipencap_engine.specs.Jobs.{Job, Intake, no_input, a_capture, a_recording, a_relayed, an_ethernet_capture, an_ethernet_recording, row, is_command, may_use, IsPlanOf, IsGiven}
 use Rattle.ipencap_engine.specs.Made.{Makes, puts_out}
 use Rattle.ipencap_engine.specs.Settings.{JudgesSettings}
 use Rattle.ipencap_engine.specs.Counts.{KeepsShelf}
@@ -33,12 +33,16 @@ reads_none no_input job end before after e = tt
 reads_none a_capture job end before after e = absurd (cc)
 reads_none a_recording job end before after e = absurd (cc)
 reads_none a_relayed job end before after e = absurd (cc)
+reads_none an_ethernet_capture job end before after e = absurd (cc)
+reads_none (an_ethernet_recording carrier) job end before after e = absurd (cc)
 
 no_line : (intake : Intake) → intake ≡ no_input → IsDoneLine intake (status_line Done)
 no_line no_input e = done_line
 no_line a_capture e = absurd (cc)
 no_line a_recording e = absurd (cc)
 no_line a_relayed e = absurd (cc)
+no_line an_ethernet_capture e = absurd (cc)
+no_line (an_ethernet_recording carrier) e = absurd (cc)
 
 -- memory ran out
 pub text_lacking : (job : Job) (old new : ShelfTold) (input : InputTold) (held now : OutputTold) (rack : RackTold) (same : Object → Type 0) → is_command job ≡ true

@@ -1,8 +1,20 @@
 -- What the laws of receptions say of a run: which recording it read, what its services deliver, and what its files have of it.
-use Rattle.std.specs.Prelude.{◌≡◌, ℕ, ◌<◌, true, List, length, Some}
+use Rattle.std.specs.Prelude.{◌≡◌, ℕ, ◌<◌, true, List, [], ◌∷◌, length, map, Some}
 use Rattle.wire_spec.specs.Lists.{IsCut}
-use Rattle.ts_spec.specs.Recording.{Record}
-use Rattle.pcap_file.specs.Capture.{capture_text}
+use Rattle.ts_spec.specs.Recording.{Record, plain, records_of}
+use Rattle.ts_spec.specs.Received.{arrivals}
+use Rattle.ts_spec.specs.Sndu.{sndu_form}
+use Rattle.carriage_spec.specs.Channel.{Channel}
+use Rattle.carriage_spec.specs.Carried.{NoUndetectedError}
+use Rattle.carriage_law.specs.Words.{timed_packet}
+use Rattle.gse_spec.specs.Channel.{FrameChannel}
+use Rattle.gse_spec.specs.Carried.{NoUndetectedError as NoUndetectedErrorOfPdus, DeliversIntact}
+use Rattle.gse_law.specs.Streams.{frames_of}
+use Rattle.bridge_spec.specs.Frames.{BridgeCarrier, on_pid, on_isi, frame_of_sndu, frame_of_pdu, size_of_piece}
+use Rattle.bridge_spec.specs.Carried.{DeliversUnits, CarriesOnPid, CarriesOnIsi}
+use Rattle.unbridge_command.specs.Unbridging.{AddsBridge}
+use Rattle.unbridge_command.specs.Parts.{HasBridgePart}
+use Rattle.pcap_file.specs.Capture.{capture_text, ethernet_capture}
 use Rattle.plan_spec.specs.Plan.{PlanFields}
 use Rattle.carrier_spec.specs.Stream.{piece_size}
 use Rattle.loss_law.specs.Loss.{CarriesFor}
@@ -11,12 +23,14 @@ use Rattle.bb_loss_law.specs.Plans.{CarriesInFramesFor, IsRecordedInFramesFor, D
 use Rattle.recording_spec.specs.Pieces.{records_in}
 use Rattle.receive_command.specs.Files.{AddsCaptures, AddsParts}
 use Rattle.ipencap_engine.specs.World.{World}
-use Rattle.ipencap_engine.specs.Jobs.{Job, row, IsPlanOf}
+use Rattle.ipencap_engine.specs.Jobs.{Job, a_recording, an_ethernet_recording, row, IsPlanOf}
 use Rattle.ipencap_engine.specs.declared.status.Status.{Status}
 use Rattle.ipencap_engine.specs.declared.status.Status.TheVariants as status
 
--- the told input of a job that adds files, each of what a recording delivers: these records or frames of its plan, and after them fewer bytes than one has
+-- the told input of a job that adds files, each of the datagrams that a recording delivers: these records or frames of its plan, and after
+-- them fewer bytes than one has
 pub record TellsRecording (job : Job) (before : World) (plan : PlanFields) (pieces : List (List ℕ)) : Type 0 where
+  pub reads : (row job).intake ≡ a_recording
   pub files : (row job).has_files ≡ true
   pub plan_is : IsPlanOf job before.shelf plan
   pub bytes : List ℕ
@@ -48,3 +62,36 @@ pub record Arrives (plan : PlanFields) (Holds : ℕ → List (List ℕ) → Type
   pub holds : (k : ℕ) → k < length plan.services → Holds k (delivered k)
   pub whole : end ≡ status.Done → AddsDelivered plan delivered before after
   pub front : AddsParts (λ k. capture_text (delivered k)) plan.services before.rack.files after.rack.files
+
+-- Ethernet frames.
+
+-- the told input of a job that receives Ethernet frames: these pieces of what carries them, and after them fewer bytes than one has
+pub record TellsFrames (job : Job) (before : World) (carrier : BridgeCarrier) (pieces : List (List ℕ)) : Type 0 where
+  pub reads : (row job).intake ≡ an_ethernet_recording carrier
+  pub files : (row job).has_files ≡ true
+  pub bytes : List ℕ
+  pub told : before.input.left ≡ Some bytes
+  pub tail : List ℕ
+  pub cut : IsCut (size_of_piece carrier) bytes pieces tail
+
+-- The loss law of Ethernet frames. The pieces come from what carried these frames, through the channel of this PID or ISI. No SNDU of the PID is
+-- accepted that was not sent, at its own place, and no PDU is reassembled from fragments on the ISI that was not. Then those received are a
+-- subsequence of those sent, unchanged, with every one whose SNDU or PDU arrived intact
+abbrev pub DeliversFrames : BridgeCarrier → (pieces : List (List ℕ)) → (received : List (List ℕ)) → Type 0
+DeliversFrames (on_pid pid) pieces received = (sent : List Record) (frames : List (List ℕ)) (carries : CarriesOnPid pid sent frames)
+    (channel : Channel (pid ∷ []) sent (records_of plain pieces)) → NoUndetectedError channel (records_of plain pieces) sndu_form pid carries.units carries.begin
+    → DeliversUnits channel (records_of plain pieces) frame_of_sndu pid carries.units carries.begin frames received
+DeliversFrames (on_isi isi) pieces received = (sent frames : List (List ℕ)) → CarriesOnIsi isi sent frames → (channel : FrameChannel (isi ∷ []) sent pieces)
+    → NoUndetectedErrorOfPdus channel isi → DeliversIntact channel frame_of_pdu [] isi frames received
+
+-- what is received of the pieces has this; at Done it is in the file, and whatever the end is, there is no file, or one with a prefix of the capture
+pub record FramesArrive (carrier : BridgeCarrier) (pieces : List (List ℕ)) (end : Status) (before after : World) : Type 0 where
+  pub received : List (List ℕ)
+  pub holds : DeliversFrames carrier pieces received
+  pub whole : end ≡ status.Done → AddsBridge true (ethernet_capture received) before.rack.files after.rack.files
+  pub front : HasBridgePart (ethernet_capture received) before.rack.files after.rack.files
+
+-- both have the same readable packets of the PID, or the same readable frames of the ISI, in the same order, whatever stands on other PIDs or ISIs
+abbrev pub SameOnCarrier : BridgeCarrier → (pieces others : List (List ℕ)) → Type 0
+SameOnCarrier (on_pid pid) pieces others = map timed_packet (arrivals pid (records_of plain pieces)) ≡ map timed_packet (arrivals pid (records_of plain others))
+SameOnCarrier (on_isi isi) pieces others = frames_of isi pieces ≡ frames_of isi others

@@ -3,13 +3,18 @@ use Rattle.std.specs.Prelude.{◌≡◌, ℕ, ◌+◌, ◌*◌, ◌<◌, ◌≤�
 use Rattle.wire_spec.specs.Causes.{raised}
 use Rattle.pcap_file.specs.Told.{Tells}
 use Rattle.pcap_file.specs.Reader.{Takes, IsReadAhead, ShowsNoFault}
+use Rattle.capture_intake.specs.Wanted.{is_ethernet}
+use Rattle.capture_intake.specs.Wanted.{ShowsNoFault as ShowsNoFaultIn}
+use Rattle.bridge_command.specs.Bridging.{TellsEthernet}
 use Rattle.plan_spec.specs.Plan.{PlanFields}
 use Rattle.plan_spec.specs.Wholes.{is_whole_plan}
 use Rattle.carrier_spec.specs.Stream.{piece_size}
 use Rattle.ipe_io.specs.Told.{InputTold}
+use Rattle.bridge_spec.specs.Frames.{BridgeCarrier, size_of_piece}
 use Rattle.receive_command.specs.Reading.{most_records}
+use Rattle.receive_command.specs.Receives.{TakesAllOf, TakesFrontOf, TakesMostOf}
 use Rattle.ipencap_engine.specs.World.{World}
-use Rattle.ipencap_engine.specs.Jobs.{Job, Intake, no_input, a_capture, a_recording, a_relayed, row, IsPlanOf}
+use Rattle.ipencap_engine.specs.Jobs.{Job, Intake, no_input, a_capture, a_recording, a_relayed, an_ethernet_capture, an_ethernet_recording, row, IsPlanOf}
 use Rattle.ipencap_engine.specs.declared.status.Status.{Status}
 use Rattle.ipencap_engine.specs.declared.status.Status.TheVariants as status
 
@@ -45,6 +50,14 @@ abbrev pub ReadsRelayed : Job → Status → World → World → Type 0
 ReadsRelayed job status.TooLong before after = TakesPieces job before after (λ count most. count ≤ most)
 ReadsRelayed job end before after = ReadsRecording job end before after
 
+-- of pieces that carry Ethernet frames, for which there is no plan; where they were read to the end, the rack has one file more
+abbrev pub ReadsFrames : BridgeCarrier → Status → World → World → Type 0
+ReadsFrames carrier status.Done before after = TakesAllOf (size_of_piece carrier) before.input after.input × (after.rack.count ≡ before.rack.count + 1)
+ReadsFrames carrier status.SourceFault before after = TakesFrontOf (size_of_piece carrier) before.input after.input
+ReadsFrames carrier status.RackFault before after = TakesMostOf (size_of_piece carrier) before.input after.input
+ReadsFrames carrier status.TooLong before after = after.input.taken ≡ raised before.input.taken (size_of_piece carrier * most_records)
+ReadsFrames carrier end before after = ⊤
+
 -- these bytes of a capture were taken, no more after its last record than a reader reads ahead, and so much holds of them
 pub record TakesCapture (before after : InputTold) (holds : List ℕ → Type 0) : Type 0 where
   pub bytes : List ℕ
@@ -52,20 +65,39 @@ pub record TakesCapture (before after : InputTold) (holds : List ℕ → Type 0)
   pub ahead : IsReadAhead bytes
   pub shows : holds bytes
 
+-- bytes of a capture, of datagrams or of Ethernet frames, tell these records and no fault; and they show none, or none but that they are cut
+abbrev pub TellsNone : Intake → List ℕ → List (List ℕ) → Type 0
+TellsNone an_ethernet_capture bytes captured = TellsEthernet bytes captured None
+TellsNone a_capture bytes captured = Tells bytes captured None
+TellsNone no_input bytes captured = ⊥
+TellsNone a_recording bytes captured = ⊥
+TellsNone a_relayed bytes captured = ⊥
+TellsNone (an_ethernet_recording carrier) bytes captured = ⊥
+
+abbrev pub ShowsNone : Intake → List ℕ → Type 0
+ShowsNone an_ethernet_capture bytes = ShowsNoFaultIn is_ethernet bytes
+ShowsNone a_capture bytes = ShowsNoFault bytes
+ShowsNone no_input bytes = ⊥
+ShowsNone a_recording bytes = ⊥
+ShowsNone a_relayed bytes = ⊥
+ShowsNone (an_ethernet_recording carrier) bytes = ⊥
+
 -- the told bytes of a capture have no fault
-abbrev pub TellsNoFault : InputTold → Type 0
-TellsNoFault input = (bytes : List ℕ) → input.left ≡ Some bytes → (captured : List (List ℕ)) × Tells bytes captured None
+abbrev pub TellsNoFault : Intake → InputTold → Type 0
+TellsNoFault intake input = (bytes : List ℕ) → input.left ≡ Some bytes → (captured : List (List ℕ)) × TellsNone intake bytes captured
 
 -- at Done the told bytes have no fault; at SourceFault those that were read show none, or none but that they are cut; at Capture the
 -- line has their fault
-abbrev pub ReadsCapture : Status → World → World → Type 0
-ReadsCapture status.Done before after = (after.input.ended ≡ true) × TakesCapture before.input after.input (λ bytes. ⊤) × TellsNoFault before.input
-ReadsCapture status.SinkFault before after = TakesCapture before.input after.input (λ bytes. ⊤)
-ReadsCapture status.SourceFault before after = GoesOn before.input after.input × TakesCapture before.input after.input ShowsNoFault
-ReadsCapture end before after = ⊤
+abbrev pub ReadsCapture : Intake → Status → World → World → Type 0
+ReadsCapture intake status.Done before after = (after.input.ended ≡ true) × TakesCapture before.input after.input (λ bytes. ⊤) × TellsNoFault intake before.input
+ReadsCapture intake status.SinkFault before after = TakesCapture before.input after.input (λ bytes. ⊤)
+ReadsCapture intake status.SourceFault before after = GoesOn before.input after.input × TakesCapture before.input after.input (ShowsNone intake)
+ReadsCapture intake end before after = ⊤
 
 abbrev pub Reads : Intake → Job → Status → World → World → Type 0
 Reads no_input job end before after = ⊤
-Reads a_capture job end before after = ReadsCapture end before after
+Reads a_capture job end before after = ReadsCapture a_capture end before after
 Reads a_recording job end before after = ReadsRecording job end before after
 Reads a_relayed job end before after = ReadsRelayed job end before after
+Reads an_ethernet_capture job end before after = ReadsCapture an_ethernet_capture end before after
+Reads (an_ethernet_recording carrier) job end before after = ReadsFrames carrier end before after

@@ -7,6 +7,8 @@ use Rattle.bb_reception_spec.specs.Delivered.{delivered_of as delivered_of_frame
 use Rattle.loss_law.specs.Isolation.{SameForService}
 use Rattle.bb_loss_law.specs.Plans.{SameFramesFor}
 use Rattle.recording_spec.specs.Pieces.{records_in}
+use Rattle.bridge_spec.specs.Frames.{BridgeCarrier}
+use Rattle.unbridge_command.specs.Unbridging.{bridge_capture, AddsBridge}
 use Rattle.ipencap_engine.specs.World.{World, Object}
 use Rattle.ipencap_engine.specs.Jobs.{Job, row, may_end, may_use, IsPlanOf, IsInputOf}
 pub use Rattle.ipencap_engine.specs.Settings.{JudgesSettings}
@@ -14,12 +16,12 @@ pub use Rattle.ipencap_engine.specs.Counts.{KeepsShelf, CountsFaults}
 pub use Rattle.ipencap_engine.specs.Reads.{Reads}
 use Rattle.ipencap_engine.specs.Stands.{Stands, LacksMemory}
 pub use Rattle.ipencap_engine.specs.Lines.{IsLine}
-pub use Rattle.ipencap_engine.specs.Laws.{TellsRecording}
-use Rattle.ipencap_engine.specs.Laws.{AddsDelivered, DeliversArrived, DeliversKept, Arrives}
+pub use Rattle.ipencap_engine.specs.Laws.{TellsRecording, TellsFrames}
+use Rattle.ipencap_engine.specs.Laws.{AddsDelivered, DeliversArrived, DeliversKept, Arrives, FramesArrive, SameOnCarrier}
 use Rattle.ipencap_engine.specs.declared.status.Status.{Status}
 use Rattle.ipencap_engine.specs.declared.status.Status.TheVariants as status
 
--- The twelve promises; `same` says of an object that it is the very one from before.
+-- The fourteen promises; `same` says of an object that it is the very one from before.
 pub record Runs (job : Job) (end : Status) (line : List ℕ) (before after : World) (same : Object → Type 0) : Type 0 where
   -- the job ends with one of its statuses
   pub ends : may_end job end ≡ true
@@ -34,7 +36,7 @@ pub record Runs (job : Job) (end : Status) (line : List ℕ) (before after : Wor
   -- what stands, where settings and input are told
   pub stands : (plan : PlanFields) (bytes : List ℕ) → IsPlanOf job before.shelf plan → IsInputOf (row job).intake before.input.left bytes
       → Stands job plan bytes end line before after
-  -- what stands where memory ran out, where the settings are told
+  -- what stands where memory ran out, where the settings, if it has any, are told
   pub memory : (plan : PlanFields) → IsPlanOf job before.shelf plan → end ≡ status.OutOfMemory → LacksMemory job plan before after
   -- the line that is reported
   pub line_is : IsLine job end line before after
@@ -53,3 +55,8 @@ pub record Runs (job : Job) (end : Status) (line : List ℕ) (before after : Wor
   pub isolation_in_frames : (plan : PlanFields) (frames : List (List ℕ)) → TellsRecording job before plan frames → is_baseband plan ≡ true
       → (recordings : ℕ → List (List ℕ)) → ((k : ℕ) → k < length plan.services → SameFramesFor plan k frames (recordings k)) → end ≡ status.Done
       → AddsDelivered plan (λ k. delivered_of_frames plan k (recordings k)) before after
+  -- the loss law of Ethernet frames in SNDUs or PDUs: those received are what arrived intact of those sent
+  pub loss_of_ethernet_frames : (carrier : BridgeCarrier) (pieces : List (List ℕ)) → TellsFrames job before carrier pieces → FramesArrive carrier pieces end before after
+  -- and they don't depend on what other PIDs or ISIs carry
+  pub isolation_of_ethernet_frames : (carrier : BridgeCarrier) (pieces others : List (List ℕ)) → TellsFrames job before carrier pieces → SameOnCarrier carrier pieces others
+      → end ≡ status.Done → AddsBridge true (bridge_capture carrier others) before.rack.files after.rack.files

@@ -6,6 +6,7 @@ ghost use Rattle.ipencap_engine.specs.Words.{HasPid, job_of};
 ghost use Rattle.ipencap_engine.specs.Statuses.{Complains, status_of, outcome_line};
 ghost use Rattle.ipencap_engine.specs.Runs.{Runs};
 
+use crate::bridge::send_frames;
 use crate::check::check;
 use crate::find::find_services;
 use crate::receive::receive_services;
@@ -15,6 +16,7 @@ use crate::status::{Outcome, Status, complain};
 use crate::summary::summarize;
 use crate::tables::write_plan_tables;
 use crate::ule::receive_pid;
+use crate::unbridge::receive_frames;
 use command_words::{Command, WordsFault, parse_words};
 use ipe_io::{Rack, Shelf, Sink, Source};
 use std::alloc::Global;
@@ -31,18 +33,20 @@ use std::alloc::Global;
 /// others, all of it in memory, and writes to `output` how many were offered, sent, dropped and delivered. `tables SETTINGS` loads the
 /// settings, and writes to `output` a plain recording of the PAT, the PMTs and the INT of the plan. `find PID` reads a plain recording
 /// from `input`, and writes to `output` for each rule of the INT on that PID on which PID its stream is, as the PAT and the PMTs say.
-/// `relay IN OUT` loads both settings, receives a recording from `input` under the first, and writes to `output` the stream of all that it
+/// `bridge CARRIER` reads a capture of Ethernet frames from `input`, and writes to `output` the SNDUs of a PID, or the baseband frames of an ISI,
+/// that carry them. `unbridge CARRIER` reads a recording from `input`, and adds to `rack` the file `bridge.pcap` of the Ethernet frames that are
+/// received of it. `relay IN OUT` loads both settings, receives a recording from `input` under the first, and writes to `output` the stream of all that it
 /// delivers under the second.
 ///
 /// Whatever job the words ask for, one line is reported, whole or, where `complaints` failed, a prefix of it; and what
-/// happened is a run of that job: specs/Runs.antt says in twelve sentences what that is.
+/// happened is a run of that job: specs/Runs.antt says in fourteen sentences what that is.
 ///
 /// - ends: the table of jobs and their statuses;
 /// - settings: Settings comes only where the settings are refused, and then nothing else is used; where they are, the run ends with it, or
 ///   with a fault of the shelf or out of memory;
 /// - unused: what a job does not use, and what it had no turn to use, stays as it was;
 /// - counts: each fault has its cause in the count of its object, and no count rises at another status;
-/// - reads: how much of the input was read; Done says that it has ended, and of a recording that a file was added for each service;
+/// - reads: how much of the input was read; Done says that it has ended, and where files are added, that there is one for each service, or `bridge.pcap`;
 /// - stands: what files and output hold after each status, to the byte;
 /// - memory: what they hold where memory ran out;
 /// - line_is: the line that is reported;
@@ -57,7 +61,10 @@ use std::alloc::Global;
 ///   put together that was not sent with that label. Then its file has wanted datagrams that were sent, unchanged, in order, each once,
 ///   among them each whose frames were all kept; at every status but Done a prefix of such a file, or none;
 /// - isolation, isolation_in_frames: at Done no service's file depends on packets of other PIDs, but where the plan changes on the bytes of the
-///   INT's, nor on moments, but with time slicing on those of its own packets; nor on frames of other ISIs.
+///   INT's, nor on moments, but with time slicing on those of its own packets; nor on frames of other ISIs;
+/// - loss_of_ethernet_frames, isolation_of_ethernet_frames: the same of Ethernet frames on a PID or an ISI: those received are a subsequence of
+///   those sent, unchanged, with every one whose SNDU arrived intact or whose baseband frames all came, and they don't depend on what other
+///   PIDs or ISIs carry.
 pub fn run<S: Shelf, I: Source, O: Sink, R: Rack, E: Sink>(
     alloc: Global,
     words: &[String],
@@ -106,6 +113,8 @@ fn obey<S: Shelf, I: Source, O: Sink, R: Rack>(
         Command::Sample(number) => summarize(alloc, number, output),
         Command::Tables(name) => write_plan_tables(alloc, name, shelf, output),
         Command::Find(pid) => find_services(alloc, pid, input, output),
+        Command::Bridge(carrier) => send_frames(alloc, carrier, input, output),
+        Command::Unbridge(carrier) => receive_frames(alloc, carrier, input, rack),
         Command::Relay(inner, outer) => relay_recording(alloc, inner, outer, shelf, input, output),
     }
 }
