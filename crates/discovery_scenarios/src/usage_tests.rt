@@ -24,7 +24,7 @@ find 8190
 find 0600";
 
 const USAGE: &str =
-    "ipencap: usage: send SETTINGS, receive SETTINGS, ule PID, check SETTINGS, sample NUMBER, tables SETTINGS, find PID, relay IN OUT\n";
+    "ipencap: usage: send SETTINGS, receive SETTINGS, ule PID, check SETTINGS, sample NUMBER, tables SETTINGS, find PID, bridge CARRIER, unbridge CARRIER, relay IN OUT\n";
 
 /// The text of an empty recording.
 const HEAD: &str = "rule,service,tag,pid\n";

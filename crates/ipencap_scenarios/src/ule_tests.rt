@@ -7,7 +7,7 @@ use std::test::Fail;
 use test_recordings::{FileLeft, Left, SmallPacket, faultless, small_capture, small_recording};
 
 const USAGE: &str =
-    "ipencap: usage: send SETTINGS, receive SETTINGS, ule PID, check SETTINGS, sample NUMBER, tables SETTINGS, find PID, relay IN OUT\n";
+    "ipencap: usage: send SETTINGS, receive SETTINGS, ule PID, check SETTINGS, sample NUMBER, tables SETTINGS, find PID, bridge CARRIER, unbridge CARRIER, relay IN OUT\n";
 
 const REFUSED: [&[&str]; 15] = [
     &[],

@@ -21,13 +21,24 @@ pub struct Relay<'a> {
 
 /// A relay from the first settings to the second. The output takes 300,000 bytes, and no call fails.
 pub fn faultless_relay<'a>(inner: &'a str, outer: &'a str, recording: &'a [u8]) -> Relay<'a> {
+    failing_relay(inner, outer, recording, 300_000, &[])
+}
+
+/// The same, of which these calls fail, over an output that takes so many bytes.
+pub fn failing_relay<'a>(
+    inner: &'a str,
+    outer: &'a str,
+    recording: &'a [u8],
+    room: usize,
+    fails: &'a [Failing],
+) -> Relay<'a> {
     Relay {
         names: ["a.toml", "b.toml"],
         inner: Some(inner),
         outer: Some(outer),
         recording,
-        room: 300_000,
-        fails: &[],
+        room,
+        fails,
     }
 }
 

@@ -19,7 +19,7 @@ static WORDS: [&[&str]; 9] = [
 ];
 
 const USAGE: &str =
-    "ipencap: usage: send SETTINGS, receive SETTINGS, ule PID, check SETTINGS, sample NUMBER, tables SETTINGS, find PID, relay IN OUT\n";
+    "ipencap: usage: send SETTINGS, receive SETTINGS, ule PID, check SETTINGS, sample NUMBER, tables SETTINGS, find PID, bridge CARRIER, unbridge CARRIER, relay IN OUT\n";
 
 /// Calls that must not come.
 const FAILS: &[Failing] = &[
