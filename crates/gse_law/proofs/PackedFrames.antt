@@ -1,7 +1,11 @@
 -- The frames of packed PDUs give these PDUs.
-use Rattle.std.proofs.Common.{◌≡◌, ℕ, zero, suc, ◌+◌, ◌-◌, ◌≤◌, Bool, true, false, cond, ◌&&◌, Option, Some, None, List, [], ◌∷◌, ◌++◌, take, length, map, flat_map, refl, ap, ap₂, sym, ◌∙◌, subst, arith, length-append, length-take}
-use Rattle.std.specs.Prelude.{◌==◌, not, ◌||◌}
-use Rattle.std.specs.List.{list_all, sum_by}
+use Rattle.std.proofs.Common.{◌≡◌, ℕ, zero, suc, ◌+◌, ◌-◌, ◌<◌, ◌≤◌, Bool, true, false, cond, ◌&&◌, Option, Some, None, List, [], ◌∷◌, ◌++◌, take, length, map, flat_map, refl, ap, ap₂, sym, ◌∙◌, subst, arith, length-append, length-take}
+use Rattle.std.specs.Prelude.{◌==◌, not, ◌||◌, nat_le, filter}
+use Rattle.std.specs.List.{list_all, list_any, sum_by}
+use Rattle.std.proofs.lemmas.Bool.{and_parts, leb-true}
+use Rattle.ip_datagram.specs.Destination.{destination_of}
+use Rattle.addr_rules.specs.Bits.{is_match}
+use Rattle.addr_rules.specs.declared.rules.Rule.{Rule}
 use Rattle.std.proofs.lemmas.List.Sums.{sum_by-cons, sum_by-append}
 use Rattle.std.proofs.lemmas.List.Folds.{flat_map-map}
 use Rattle.gse_spec.specs.Carried.{holds_packets, CarriesPdus}
@@ -15,17 +19,19 @@ use Rattle.gse_spec.specs.Packet.{GsePacket, complete_packet, start_packet, midd
 use Rattle.gse_spec.specs.Written.{label_bytes, Writing, bytes_of_packet, field_of}
 use Rattle.gse_spec.specs.Reassembly.{PlacedPacket, Pdu, PlacedPdu, pdu_of, pdus_after}
 use Rattle.gse_spec.specs.Received.{is_frame_of, placed, ends_pdu, packets_from, received_pdus}
-use Rattle.gse_spec.specs.Packing.{first_size, rest_after_first, middle_size, rest_after_middle, is_again, Rest, Turn, no_turn, begins, goes_on, Choice, in_front, covered_by, packed_turn, packed_within, FragIds, all_ids, InOrder, next_in_order, in_order_after, in_order, steps_of, packed}
-use Rattle.gse_spec.specs.Sending.{frames_with, packets_in_order, frames_for}
+use Rattle.gse_spec.specs.Packing.{first_size, rest_after_first, middle_size, rest_after_middle, is_again, Rest, Turn, no_turn, begins, goes_on, Choice, in_front, covered_by, packed_turn, packed_within, ClassIds, InClasses, after_urgent, after_ordinary, next_in_classes, in_classes_after, in_classes, none_begun, steps_of, packed}
+use Rattle.gse_spec.specs.Classes.{is_urgent_pdu, ids_for, placed_frames, Class, urgent_class, ordinary_class, pdus_of_class, ended_pdus}
+use Rattle.gse_spec.specs.Sending.{frames_with, packets_for, frames_for}
 use Rattle.gse_law.specs.Streams.{frames_of}
+use Rattle.gse_law.specs.Classes.{EndsInClasses}
 use Rattle.gse_law.specs.Writable.{IsWritable, AreWritable, IsFrameRead}
-use Rattle.gse_law.specs.Packed.{placed_frames, last_one, last_packets, AreShortPdus, IsSendable, AreSendable, AllFramesFit, RestFits, packet_step, frame_step, ChoosesSendable}
+use Rattle.gse_law.specs.Packed.{last_one, last_packets, AreShortPdus, IsSendable, AreSendable, AllFramesFit, RestFits, packet_step, frame_step, ChoosesSendable}
 use Rattle.crc_law.proofs.CheckSum.{crc32_below}
 use Rattle.gse_law.proofs.Openers.{equals_itself}
 use Rattle.gse_law.proofs.Written.{written_read}
 use Rattle.gse_law.proofs.WrittenFrames.{frame_read}
 use Rattle.gse_law.proofs.Isolation.{bare_from, bare_frames, pdus_of_placed, of_own_frames}
-use Rattle.gse_law.proofs.Packing.{pick, pick_both, again, packed_given}
+use Rattle.gse_law.proofs.Packing.{pick, pick_both, again, Given, classes_given, one_class_given}
 
 -- Each frame can be written.
 
@@ -152,10 +158,10 @@ module _ {State : Type 0} (choice : Choice State) where
   pub chosen_can_be_written : (s : State) → ChoosesSendable choice s → (room most : ℕ) → AllFramesFit room (packed_within choice (λ bytes. crc32_remainder 0xFFFF_FFFF bytes) room most room None s)
   chosen_can_be_written s chooses room most = chosen_fit choice (ChoosesSendable choice) chooses_keeps room most s chooses
 
--- One list of PDUs, in order.
+-- A list of PDUs in classes.
 
-abbrev CanBeSent : InOrder → Type 0
-CanBeSent s = AreSendable s.pdus × RestFits s.rest
+abbrev CanBeSent : InClasses → Type 0
+CanBeSent s = AreSendable s.pdus × RestFits s.urgent_rest × RestFits s.rest
 
 abbrev pdu_or : Pdu → Turn → Pdu
 pdu_or default no_turn = default
@@ -167,35 +173,72 @@ rest_or default no_turn = default
 rest_or default (begins id pdu) = default
 rest_or default (goes_on rest) = rest
 
-module _ (ids : FragIds) where
-  in_order_begun : (id : ℕ) (rest : Option Rest) (pdus : List Pdu) → AreSendable pdus → (i : ℕ) (pdu : Pdu) → next_in_order id rest pdus ≡ begins i pdu → IsSendable pdu
-  in_order_begun id None [] able i pdu is = absurd (cc)
-  in_order_begun id None (p ∷ pdus) able i pdu is = subst IsSendable (ap (pdu_or p) is) able.0
-  in_order_begun id (Some rest) pdus able i pdu is = absurd (cc)
+module _ (urgent : Pdu → Bool) (ids : ClassIds) where
+  classes_begun : (id urgent_id : ℕ) (u o : Option Rest) (yields : ℕ) (pdus : List Pdu) → AreSendable pdus → (i : ℕ) (pdu : Pdu)
+      → next_in_classes urgent id urgent_id u o yields pdus ≡ begins i pdu → IsSendable pdu
+  classes_begun id urgent_id (Some rest) o yields pdus able i pdu is = absurd (cc)
+  classes_begun id urgent_id None None yields [] able i pdu is = absurd (cc)
+  classes_begun id urgent_id None None yields (p ∷ pdus) able i pdu is = subst IsSendable (ap (pdu_or p) is) able.0
+  classes_begun id urgent_id None (Some rest) yields [] able i pdu is = absurd (cc)
+  classes_begun id urgent_id None (Some rest) zero (p ∷ pdus) able i pdu is = absurd (cc)
+  classes_begun id urgent_id None (Some rest) (suc yields) (p ∷ pdus) able i pdu is = by_class (urgent p) is
+    where
+      by_class : (b : Bool) → cond b (begins urgent_id p) (goes_on rest) ≡ begins i pdu → IsSendable pdu
+      by_class true e = subst IsSendable (ap (pdu_or p) e) able.0
+      by_class false e = absurd (cc)
 
-  in_order_gone_on : (id : ℕ) (rest : Option Rest) (pdus : List Pdu) → RestFits rest → (r : Rest) → next_in_order id rest pdus ≡ goes_on r → RestFits (Some r)
-  in_order_gone_on id None [] fit r is = absurd (cc)
-  in_order_gone_on id None (p ∷ pdus) fit r is = absurd (cc)
-  in_order_gone_on id (Some rest) pdus fit r is = subst (λ (t : Rest). RestFits (Some t)) (ap (rest_or rest) is) fit
+  classes_gone_on : (id urgent_id : ℕ) (u o : Option Rest) (yields : ℕ) (pdus : List Pdu) → RestFits u → RestFits o → (r : Rest)
+      → next_in_classes urgent id urgent_id u o yields pdus ≡ goes_on r → RestFits (Some r)
+  classes_gone_on id urgent_id (Some rest) o yields pdus fit other r is = subst (λ (t : Rest). RestFits (Some t)) (ap (rest_or rest) is) fit
+  classes_gone_on id urgent_id None None yields [] fit other r is = absurd (cc)
+  classes_gone_on id urgent_id None None yields (p ∷ pdus) fit other r is = absurd (cc)
+  classes_gone_on id urgent_id None (Some rest) yields [] fit other r is = subst (λ (t : Rest). RestFits (Some t)) (ap (rest_or rest) is) other
+  classes_gone_on id urgent_id None (Some rest) zero (p ∷ pdus) fit other r is = subst (λ (t : Rest). RestFits (Some t)) (ap (rest_or rest) is) other
+  classes_gone_on id urgent_id None (Some rest) (suc yields) (p ∷ pdus) fit other r is = by_class (urgent p) is
+    where
+      by_class : (b : Bool) → cond b (begins urgent_id p) (goes_on rest) ≡ goes_on r → RestFits (Some r)
+      by_class true e = absurd (cc)
+      by_class false e = subst (λ (t : Rest). RestFits (Some t)) (ap (rest_or rest) e) other
 
-  in_order_keeps : (id : ℕ) (rest : Option Rest) (pdus : List Pdu) (left : Option Rest) → AreSendable pdus → RestFits left → CanBeSent (in_order_after ids id rest pdus left)
-  in_order_keeps id (Some rest) pdus left able fit = (able, fit)
-  in_order_keeps id None [] left able fit = (tt, tt)
-  in_order_keeps id None (pdu ∷ pdus) None able fit = (able.1, tt)
-  in_order_keeps id None (pdu ∷ pdus) (Some rest) able fit = (able.1, fit)
+  urgent_keeps : (id urgent_id : ℕ) (o : Option Rest) (yields : ℕ) (pdus : List Pdu) (left : Option Rest) → AreSendable pdus → RestFits o → RestFits left
+      → CanBeSent (after_urgent ids id urgent_id o yields pdus left)
+  urgent_keeps id urgent_id o yields pdus None able other fit = (able, tt, other)
+  urgent_keeps id urgent_id o yields pdus (Some rest) able other fit = (able, fit, other)
 
-  in_order_chooses : KeepsSendable (in_order ids) CanBeSent
-  in_order_chooses = record {
-    begun = λ s id pdu good is. in_order_begun s.id s.rest s.pdus good.0 id pdu is;
-    gone_on = λ s rest good is. in_order_gone_on s.id s.rest s.pdus good.1 rest is;
-    after_packet = λ s left good fit. in_order_keeps s.id s.rest s.pdus left good.0 fit;
+  ordinary_keeps : (id urgent_id yields : ℕ) (pdus : List Pdu) (left : Option Rest) → AreSendable pdus → RestFits left → CanBeSent (after_ordinary ids id urgent_id yields pdus left)
+  ordinary_keeps id urgent_id yields pdus None able fit = (able, tt, tt)
+  ordinary_keeps id urgent_id yields pdus (Some rest) able fit = (able, tt, fit)
+
+  either_keeps : (b : Bool) (x y : InClasses) → CanBeSent x → CanBeSent y → CanBeSent (cond b x y)
+  either_keeps true x y x_can y_can = x_can
+  either_keeps false x y x_can y_can = y_can
+
+  classes_keep : (id urgent_id : ℕ) (u o : Option Rest) (yields : ℕ) (pdus : List Pdu) (left : Option Rest) → AreSendable pdus → RestFits o → RestFits left
+      → CanBeSent (in_classes_after urgent ids id urgent_id u o yields pdus left)
+  classes_keep id urgent_id (Some rest) o yields pdus left able other fit = (able, fit, other)
+  classes_keep id urgent_id None None yields [] left able other fit = (tt, tt, tt)
+  classes_keep id urgent_id None None yields (pdu ∷ pdus) left able other fit =
+      either_keeps (urgent pdu) (after_urgent ids id urgent_id None yields pdus left) (after_ordinary ids id urgent_id yields pdus left)
+      (urgent_keeps id urgent_id None yields pdus left able.1 tt fit) (ordinary_keeps id urgent_id yields pdus left able.1 fit)
+  classes_keep id urgent_id None (Some rest) yields [] left able other fit = (tt, tt, fit)
+  classes_keep id urgent_id None (Some rest) zero (pdu ∷ pdus) left able other fit = (able, tt, fit)
+  classes_keep id urgent_id None (Some rest) (suc yields) (pdu ∷ pdus) left able other fit =
+      either_keeps (urgent pdu) (after_urgent ids id urgent_id (Some rest) (suc yields) pdus left)
+      (record { id = id; urgent_id = urgent_id; urgent_rest = None; rest = left; yields = suc yields; pdus = pdu ∷ pdus })
+      (urgent_keeps id urgent_id (Some rest) (suc yields) pdus left able.1 other fit) (able, tt, fit)
+
+  classes_choose : KeepsSendable (in_classes urgent ids) CanBeSent
+  classes_choose = record {
+    begun = λ s id pdu good is. classes_begun s.id s.urgent_id s.urgent_rest s.rest s.yields s.pdus good.0 id pdu is;
+    gone_on = λ s rest good is. classes_gone_on s.id s.urgent_id s.urgent_rest s.rest s.yields s.pdus good.1 good.2 rest is;
+    after_packet = λ s left good fit. classes_keep s.id s.urgent_id s.urgent_rest s.rest s.yields s.pdus left good.0 good.2 fit;
     after_frame = λ s good. good;
   }
 
-  pub packed_fits : (room : ℕ) (pdus : List Pdu) → AreSendable pdus → AllFramesFit room (packed ids (λ bytes. crc32_remainder 0xFFFF_FFFF bytes) room pdus)
+  pub packed_fits : (room : ℕ) (pdus : List Pdu) → AreSendable pdus → AllFramesFit room (packed urgent ids (λ bytes. crc32_remainder 0xFFFF_FFFF bytes) room pdus)
   packed_fits room [] able = tt
   packed_fits room (pdu ∷ pdus) able =
-      chosen_fit (in_order ids) CanBeSent in_order_chooses room (steps_of (pdu ∷ pdus)) (record { id = ids.first; rest = None; pdus = pdu ∷ pdus }) (able, tt)
+      chosen_fit (in_classes urgent ids) CanBeSent classes_choose room (steps_of (pdu ∷ pdus)) (none_begun ids (pdu ∷ pdus)) (able, tt, tt)
 
 -- Each frame is read.
 
@@ -231,19 +274,73 @@ frames_are_read isi size frames least most fit =
     ∙ ap (λ (t : List PlacedPacket). map pdu_of (pdus_after [] t)) (frames_read isi size (size - 10) 0 frames (omega (arith, least)) (omega (arith, most)) fit)
     ∙ sym (pdus_of_placed frames)
 
-sendable_fit : (pdus : List Pdu) → AreSendable pdus → AreShortPdus pdus
+pub sendable_fit : (pdus : List Pdu) → AreSendable pdus → AreShortPdus pdus
 sendable_fit [] able = tt
 sendable_fit (pdu ∷ pdus) able = (able.0.0, sendable_fit pdus able.1)
 
--- the packets of PDUs in order give these PDUs
-placed_give : (size : ℕ) (pdus : List Pdu) → 300 ≤ size → AreSendable pdus → map pdu_of (pdus_after [] (placed_frames 0 1 0 (packets_in_order size pdus))) ≡ pdus
-placed_give size pdus least able =
-    pdus_of_placed (packets_in_order size pdus) ∙ (packed_given all_ids (size - 10) (omega (arith, least)) pdus (sendable_fit pdus able)).0
+-- The classes of a service.
 
-pub frames_give : (isi size : ℕ) (pdus : List Pdu) → 300 ≤ size → size ≤ 7274 → AreSendable pdus → map pdu_of (received_pdus isi (frames_for isi size pdus)) ≡ pdus
-frames_give isi size pdus least most able =
-    frames_are_read isi size (packets_in_order size pdus) (omega (arith, least)) most (packed_fits all_ids (size - 10) pdus able)
-    ∙ placed_give size pdus least able
+abbrev Below128 : ℕ → Type 0
+Below128 a = a < 128
+
+abbrev From128 : ℕ → Type 0
+From128 a = 128 ≤ a
+
+short_urgent : (rules : List Rule) (pdu : Pdu) → is_urgent_pdu rules pdu ≡ true → length pdu.bytes ≤ 1500
+short_urgent rules pdu is =
+    leb-true (length pdu.bytes) 1500 (and_parts (list_any (λ rule. is_match rule (destination_of pdu.bytes)) rules) (nat_le (length pdu.bytes) 1500) is).1
+
+apart : (a b : ℕ) → a < 128 → 128 ≤ b → (b == a) ≡ false
+apart a b below from = grind (arith, below, from)
+
+-- a receiver of the packets has the urgent PDUs and the ordinary ones, each in order, and as many as packets end one
+abbrev ClassesGiven : List Rule → ℕ → List Pdu → Type 0
+ClassesGiven rules room pdus =
+    Given (is_urgent_pdu rules) (packed (is_urgent_pdu rules) (ids_for rules) (crc32_remainder 0xFFFF_FFFF) room pdus) [] 1 0
+    (filter (is_urgent_pdu rules) pdus) (filter (λ (pdu : Pdu). not (is_urgent_pdu rules pdu)) pdus)
+
+rules_given : (rules : List Rule) (room : ℕ) → 290 ≤ room → (pdus : List Pdu) → AreShortPdus pdus → ClassesGiven rules room pdus
+rules_given [] room enough pdus all = one_class_given (ids_for []) room enough pdus all
+rules_given (rule ∷ rules) room enough pdus all =
+    classes_given (is_urgent_pdu (rule ∷ rules)) (short_urgent (rule ∷ rules)) (ids_for (rule ∷ rules)) room enough Below128 From128
+    (λ a below. omega arith) (λ a from. omega arith) (λ pdu is a b below from. apart a b below from) (omega arith) (omega arith) pdus all
+
+by_class : (rules : List Rule) (xs ys : List Pdu) → filter (is_urgent_pdu rules) xs ≡ filter (is_urgent_pdu rules) ys
+    → filter (λ (pdu : Pdu). not (is_urgent_pdu rules pdu)) xs ≡ filter (λ (pdu : Pdu). not (is_urgent_pdu rules pdu)) ys
+    → (class : Class) → pdus_of_class rules class xs ≡ pdus_of_class rules class ys
+by_class rules xs ys urgent_are ordinary_are urgent_class = urgent_are
+by_class rules xs ys urgent_are ordinary_are ordinary_class = ordinary_are
+
+pub ends_in_classes : (rules : List Rule) (size : ℕ) (pdus : List Pdu) → 300 ≤ size → AreShortPdus pdus → EndsInClasses rules (packets_for rules size pdus) pdus
+ends_in_classes rules size pdus least all =
+    let frames : List (List Writing) = packets_for rules size pdus in
+    let given : ClassesGiven rules (size - 10) pdus = rules_given rules (size - 10) (omega (arith, least)) pdus all in
+    let bare : ended_pdus frames ≡ map pdu_of (pdus_after [] (bare_frames 1 0 frames)) = pdus_of_placed frames in
+    record {
+      classes = by_class rules (ended_pdus frames) pdus
+          (ap (filter (is_urgent_pdu rules)) bare ∙ given.0)
+          (ap (filter (λ (pdu : Pdu). not (is_urgent_pdu rules pdu))) bare ∙ given.1);
+      counted = ap length bare ∙ sym given.2;
+    }
+
+all_pass : (pdus : List Pdu) → filter (λ (pdu : Pdu). not false) pdus ≡ pdus
+all_pass [] = refl
+all_pass (pdu ∷ pdus) = ap (λ (t : List Pdu). pdu ∷ t) (all_pass pdus)
+
+-- where no PDU is urgent all end in order, whatever Frag IDs they have
+pub one_class_in_order : (ids : ClassIds) (room : ℕ) → 290 ≤ room → (pdus : List Pdu) → AreShortPdus pdus
+    → ended_pdus (packed (λ pdu. false) ids (crc32_remainder 0xFFFF_FFFF) room pdus) ≡ pdus
+one_class_in_order ids room enough pdus all =
+    let frames : List (List Writing) = packed (λ pdu. false) ids (crc32_remainder 0xFFFF_FFFF) room pdus in
+    sym (all_pass (ended_pdus frames)) ∙ ap (filter (λ (pdu : Pdu). not false)) (pdus_of_placed frames) ∙ (one_class_given ids room enough pdus all).1 ∙ all_pass pdus
+
+pub ends_in_order : (size : ℕ) (pdus : List Pdu) → 300 ≤ size → AreShortPdus pdus → ended_pdus (packets_for [] size pdus) ≡ pdus
+ends_in_order size pdus least all = one_class_in_order (ids_for []) (size - 10) (omega (arith, least)) pdus all
+
+pub frames_give : (rules : List Rule) (isi size : ℕ) (pdus : List Pdu) → 300 ≤ size → size ≤ 7274 → AreSendable pdus
+    → map pdu_of (received_pdus isi (frames_for rules isi size pdus)) ≡ ended_pdus (packets_for rules size pdus)
+frames_give rules isi size pdus least most able =
+    frames_are_read isi size (packets_for rules size pdus) (omega (arith, least)) most (packed_fits (is_urgent_pdu rules) (ids_for rules) (size - 10) pdus able)
 
 -- The frames carry what the PDUs carry.
 
@@ -333,14 +430,11 @@ written_carry carried isi size frames least most fit many = record {
       ∙ flat_map-map carried pdu_of (received_pdus isi (frames_with isi size frames));
 }
 
--- the frames carry the datagrams of the PDUs
-pub frames_carry : (carried : Pdu → List (List ℕ)) (isi size : ℕ) (pdus : List Pdu) → 300 ≤ size → size ≤ 7274 → AreSendable pdus
-    → CarriesPdus carried isi (frames_for isi size pdus) (flat_map carried pdus)
-frames_carry carried isi size pdus least most able =
-    let frames : List (List Writing) = packets_in_order size pdus in
-    let given : map pdu_of (pdus_after [] (placed_frames 0 1 0 frames)) ≡ pdus = placed_give size pdus least able in
-    subst (λ (t : List Pdu). CarriesPdus carried isi (frames_for isi size pdus) (flat_map carried t)) given
-    (written_carry carried isi size frames (omega (arith, least)) most (packed_fits all_ids (size - 10) pdus able)
+-- the frames carry the datagrams of the PDUs that they end
+pub frames_carry : (carried : Pdu → List (List ℕ)) (rules : List Rule) (isi size : ℕ) (pdus : List Pdu) → 300 ≤ size → size ≤ 7274 → AreSendable pdus
+    → CarriesPdus carried isi (frames_for rules isi size pdus) (flat_map carried (ended_pdus (packets_for rules size pdus)))
+frames_carry carried rules isi size pdus least most able =
+    let frames : List (List Writing) = packets_for rules size pdus in
+    written_carry carried isi size frames (omega (arith, least)) most (packed_fits (is_urgent_pdu rules) (ids_for rules) (size - 10) pdus able)
     (sym (length-map_in (pdus_after [] (placed_frames 0 1 0 frames)))
-    ∙ ap length given
-    ∙ sym (packed_given all_ids (size - 10) (omega (arith, least)) pdus (sendable_fit pdus able)).1))
+    ∙ (ends_in_classes rules size pdus least (sendable_fit pdus able)).counted)

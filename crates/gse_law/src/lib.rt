@@ -24,10 +24,10 @@ pub use reassembly::{
     places_are_those_of_the_fragments, the_pdus_say_what_is_delivered,
 };
 pub use sending::{
-    chosen_frames_can_be_written, frames_are_packed_packet_by_packet, frames_are_sent_in_rotation,
-    offered_datagrams_are_carried, offered_datagrams_can_be_sent, packed_frames_can_be_written,
-    packed_frames_carry_the_datagrams, packed_frames_give_the_pdus, packed_pdus_are_reassembled,
-    sent_frames_are_the_pieces_of_their_bytes, the_frames_of_services_carry_their_datagrams,
-    written_frames_are_read, written_frames_carry_their_pdus, written_frames_give_their_packets,
-    written_packets_are_read,
+    chosen_frames_can_be_written, each_class_keeps_its_order, frames_are_packed_packet_by_packet,
+    frames_are_sent_in_rotation, offered_datagrams_are_carried, offered_datagrams_can_be_sent,
+    packed_frames_can_be_written, packed_frames_carry_the_datagrams, packed_frames_give_the_pdus,
+    packed_pdus_are_reassembled, pdus_begin_in_order, sent_frames_are_the_pieces_of_their_bytes,
+    the_frames_of_services_carry_their_datagrams, written_frames_are_read,
+    written_frames_carry_their_pdus, written_frames_give_their_packets, written_packets_are_read,
 };

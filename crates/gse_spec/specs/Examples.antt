@@ -1,15 +1,18 @@
 -- Small frames and packets, to try the definitions on.
-use Rattle.std.specs.Prelude.{ℕ, List, [], ◌∷◌, ◌++◌, take, length, map, replicate, Option, Some, None}
+use Rattle.std.specs.Prelude.{ℕ, List, [], ◌∷◌, ◌++◌, take, length, map, replicate, nat_le, false, Option, Some, None}
 use Rattle.std.specs.Int.{w16, to_be_bytes}
 use Rattle.wire_spec.specs.Crc.{crc8_remainder, crc32_remainder}
 use Rattle.wire_spec.specs.Examples.{small_ipv4}
+use Rattle.ip_datagram.specs.declared.address.IpAddress.TheVariants.{V4}
+use Rattle.addr_rules.specs.declared.rules.Rule.{Rule}
 use Rattle.addr_rules.specs.declared.filter.Label.{Label}
 use Rattle.addr_rules.specs.declared.filter.Label.TheVariants.{Six, Broadcast}
 use Rattle.gse_spec.specs.Frame.{frame_bytes}
 use Rattle.gse_spec.specs.Packet.{GsePacket, start_packet}
 use Rattle.gse_spec.specs.Written.{complete_bytes, start_bytes, middle_bytes, end_bytes, Writing, field_of}
 use Rattle.gse_spec.specs.Reassembly.{PlacedPacket, Pdu}
-use Rattle.gse_spec.specs.Packing.{Rest, Turn, no_turn, begins, goes_on, Choice, packed_within}
+use Rattle.gse_spec.specs.Packing.{ClassIds, packed}
+use Rattle.gse_spec.specs.Classes.{ids_for}
 
 -- Frames.
 
@@ -99,6 +102,10 @@ cut_packet_frames = frame_bytes 3 (labelled_packet ++ 0xEF ∷ 0xFF ∷ 8 ∷ 0 
 
 -- Packing.
 
+-- a rule that matches all IPv4 addresses
+abbrev pub any_rule : Rule
+any_rule = record { address = V4 (0 ∷ 0 ∷ 0 ∷ 0 ∷ []); slash = 0 }
+
 -- a PDU of so many bytes with an address
 abbrev pub long_pdu : ℕ → Pdu
 long_pdu size = record { protocol = 0x0800; label = Six (1 ∷ 2 ∷ 3 ∷ 4 ∷ 5 ∷ 6 ∷ []); bytes = replicate size 0 }
@@ -110,42 +117,25 @@ field_sizes frames = map (λ (writings : List Writing). length (field_of writing
 abbrev pub fronts : ℕ → List (List Writing) → List (List ℕ)
 fronts size frames = map (λ (writings : List Writing). take size (field_of writings)) frames
 
--- A choice between two lists: an urgent PDU goes before the rest of another, where all others have begun.
+-- Frag IDs of a service with one class, and of one with two
+abbrev pub one_class : ClassIds
+one_class = ids_for []
 
--- what is left of an urgent PDU and of another, and those that have not begun
-pub record TwoLists : Type 0 where
-  pub urgent_rest : Option Rest
-  pub other_rest : Option Rest
-  pub others : List Pdu
-  pub urgent : List Pdu
+abbrev pub two_classes : ClassIds
+two_classes = ids_for (any_rule ∷ [])
 
-abbrev pub next_of_two : Option Rest → Option Rest → List Pdu → List Pdu → Turn
-next_of_two (Some rest) other others urgent = goes_on rest
-next_of_two None (Some rest) others [] = goes_on rest
-next_of_two None (Some rest) [] (pdu ∷ urgent) = begins 128 pdu
-next_of_two None (Some rest) (other ∷ others) (pdu ∷ urgent) = goes_on rest
-next_of_two None None (pdu ∷ others) urgent = begins 0 pdu
-next_of_two None None [] (pdu ∷ urgent) = begins 128 pdu
-next_of_two None None [] [] = no_turn
+-- where no PDU is urgent, in frames of 300 bytes
+abbrev pub packed_in_order : List Pdu → List (List Writing)
+packed_in_order pdus = packed (λ _. false) one_class (λ _. 0) 290 pdus
 
-abbrev pub two_after : Option Rest → Option Rest → List Pdu → List Pdu → Option Rest → TwoLists
-two_after (Some rest) other others urgent left = record { urgent_rest = left; other_rest = other; others = others; urgent = urgent }
-two_after None (Some rest) others [] left = record { urgent_rest = None; other_rest = left; others = others; urgent = [] }
-two_after None (Some rest) [] (pdu ∷ urgent) left = record { urgent_rest = left; other_rest = Some rest; others = []; urgent = urgent }
-two_after None (Some rest) (other ∷ others) (pdu ∷ urgent) left = record { urgent_rest = None; other_rest = left; others = other ∷ others; urgent = pdu ∷ urgent }
-two_after None None (pdu ∷ others) urgent left = record { urgent_rest = None; other_rest = left; others = others; urgent = urgent }
-two_after None None [] (pdu ∷ urgent) left = record { urgent_rest = left; other_rest = None; others = []; urgent = urgent }
-two_after None None [] [] left = record { urgent_rest = None; other_rest = None; others = []; urgent = [] }
+-- where those of at most so many bytes are urgent
+abbrev pub short_first : ℕ → List Pdu → List (List Writing)
+short_first most pdus = packed (λ (pdu : Pdu). nat_le (length pdu.bytes) most) two_classes (λ _. 0) 290 pdus
 
-abbrev pub urgent_first : Choice TwoLists
-urgent_first = record {
-  next = λ s. next_of_two s.urgent_rest s.other_rest s.others s.urgent;
-  after_packet = λ s left. two_after s.urgent_rest s.other_rest s.others s.urgent left;
-  after_frame = λ s. s;
-}
-
--- 800 bytes, and then 40 that are urgent, in frames of 300 bytes
+-- 800 bytes, and then 40 that are urgent
 abbrev pub urgent_frames : List (List Writing)
-urgent_frames =
-    packed_within urgent_first (λ _. 0) 290 20 290 None
-    (record { urgent_rest = None; other_rest = None; others = long_pdu 800 ∷ []; urgent = long_pdu 40 ∷ [] })
+urgent_frames = short_first 100 (long_pdu 800 ∷ long_pdu 40 ∷ [])
+
+-- 600 bytes, and then nine times 270 that are urgent
+abbrev pub frames_that_yield : List (List Writing)
+frames_that_yield = short_first 270 (long_pdu 600 ∷ replicate 9 (long_pdu 270))
