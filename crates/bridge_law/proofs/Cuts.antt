@@ -1,13 +1,13 @@
 -- The pieces of a bridge have one size, and are those of their bytes.
-use Rattle.std.proofs.Common.{◌≡◌, ℕ, suc, ◌<◌, ◌≤◌, true, List, [], ◌∷◌, length, map, sym, arith, append-nil}
+use Rattle.std.proofs.Common.{◌≡◌, ℕ, suc, ◌<◌, true, List, [], ◌∷◌, length, map, sym, arith, append-nil}
 use Rattle.wire_spec.specs.Lists.{joined, IsCut}
 use Rattle.ts_spec.specs.Packet.{PacketFields}
 use Rattle.ts_spec.specs.Packetized.{packet_at}
 use Rattle.ts_spec.specs.Sndu.{sndu_form}
 use Rattle.unit_stream.specs.Packers.{written}
 use Rattle.stream_law.proofs.Packets.{IsOn, packetized_on}
-use Rattle.gse_spec.specs.Sending.{packets_in_order}
-use Rattle.gse_spec.specs.Packing.{all_ids}
+use Rattle.gse_spec.specs.Sending.{packets_for}
+use Rattle.gse_spec.specs.Classes.{is_urgent_pdu, ids_for}
 use Rattle.gse_law.proofs.Each.{Each, each_at}
 use Rattle.gse_law.proofs.PackedFrames.{packed_fits}
 use Rattle.gse_law.proofs.Sizes.{frames_sized}
@@ -31,7 +31,7 @@ bridged_cut (on_pid pid) frames rooms = record {
 }
 bridged_cut (on_isi isi) frames rooms = record {
   whole = sym (append-nil (joined (bridged_pieces (on_isi isi) frames)));
-  each = frames_sized 2000 isi (packets_in_order 2000 (map pdu_with_frame frames)) (omega arith)
-      (packed_fits all_ids 1990 (map pdu_with_frame frames) (pdus_sendable isi frames rooms));
+  each = frames_sized 2000 isi (packets_for [] 2000 (map pdu_with_frame frames)) (omega arith)
+      (packed_fits (is_urgent_pdu []) (ids_for []) 1990 (map pdu_with_frame frames) (pdus_sendable isi frames rooms));
   short = omega arith;
 }

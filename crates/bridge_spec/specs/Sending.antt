@@ -1,6 +1,6 @@
 -- What a bridge makes of Ethernet frames. Profile: an SNDU without address, packed; a PDU for all receivers; and nothing of a frame
 -- that has fewer bytes than an Ethernet header, or more than a unit can hold beside an address.
-use Rattle.std.specs.Prelude.{ℕ, Bool, true, ◌&&◌, List, length, map, filter, count_by, nat_lt, nat_le, None}
+use Rattle.std.specs.Prelude.{ℕ, Bool, true, ◌&&◌, List, [], length, map, filter, count_by, nat_lt, nat_le, None}
 use Rattle.addr_rules.specs.declared.filter.Label.TheVariants.{Broadcast}
 use Rattle.ts_spec.specs.Packet.{PacketFields}
 use Rattle.ts_spec.specs.Sndu.{sndu_form, sndu_bytes}
@@ -52,7 +52,7 @@ pdu_with_frame frame = record { protocol = bridged_type; label = Broadcast; byte
 abbrev pub packets_with : ℕ → List (List ℕ) → List PacketFields
 packets_with pid frames = packetized sndu_form true pid 0 (map sndu_with_frame frames)
 
--- what a bridge writes of Ethernet frames, in pieces
+-- what a bridge writes of Ethernet frames, in pieces; they are in one class
 abbrev pub bridged_pieces : BridgeCarrier → List (List ℕ) → List (List ℕ)
 bridged_pieces (on_pid pid) frames = map written (packets_with pid frames)
-bridged_pieces (on_isi isi) frames = frames_for isi 2000 (map pdu_with_frame frames)
+bridged_pieces (on_isi isi) frames = frames_for [] isi 2000 (map pdu_with_frame frames)

@@ -4,6 +4,7 @@ ghost use Rattle.std.specs.Prelude.{◌≡◌, ◌≤◌};
 use crate::left::Left;
 use crate::packing::fill;
 use crate::pdu::Form;
+use addr_rules::RuleList;
 use bb_frame::seal;
 use byte_slices::array_bytes;
 use ip_datagram::DatagramList;
@@ -12,7 +13,7 @@ use std::marker::Model;
 /// The bytes of a frame's header.
 const HEADER: usize = 10;
 
-/// Packs the datagrams of one service into baseband frames, frame by frame; contracts see the frames that are left.
+/// Packs the datagrams of one service, or items of one Protocol Type, into baseband frames, frame by frame; contracts see the frames that are left.
 ///
 /// It takes no memory: each frame is written to a place that the caller has.
 #[derive(Drop)]
@@ -35,17 +36,19 @@ impl<'a> Model for Packer<'a> {
 }
 
 impl<'a> Packer<'a> {
-    ghost use Rattle.std.specs.Prelude.{◌≡◌, ◌≤◌, ◌<◌, ◌∷◌, true, length, map, nat_lt};
+    ghost use Rattle.std.specs.Prelude.{◌≡◌, ◌≤◌, ◌<◌, ◌∷◌, [], true, length, map, nat_lt};
     ghost use Rattle.gse_spec.specs.Sending.{pdu_for, frames_for};
     ghost use Rattle.gse_pack.specs.Offered.{AreShortDatagrams, AreShortItems, pdu_as};
     ghost use Rattle.gse_pack.specs.Steps.{PackerState};
 
     /// Begins with the datagrams of one service, on an ISI, in frames of `frame_bytes`, 300 to 7,274.
     ///
+    /// `urgent`: the rules by which datagrams are urgent; where there are none, all are sent in order.
     /// `address`: each PDU has the address of its group, FF:FF:FF:FF:FF:FF for 255.255.255.255 or, for other destinations, `unicast`;
     /// otherwise it is broadcast. A datagram has at most 65,527 bytes, since Total Length counts Protocol Type and a label beside it.
     pub fn over(
         list: &'a DatagramList,
+        urgent: &'a RuleList,
         address: bool,
         unicast: [u8; 6],
         isi: u8,
@@ -55,24 +58,30 @@ impl<'a> Packer<'a> {
         requires most { frame_bytes ≤ 7274 }
         requires datagrams { AreShortDatagrams list.now }
         ensures size { result.size ≡ frame_bytes }
-        ensures frames { result.frames ≡ frames_for isi frame_bytes (map (pdu_for address unicast) list.now) }
+        ensures frames { result.frames ≡ frames_for urgent.now isi frame_bytes (map (pdu_for address unicast) list.now) }
     {
         // An address has six bytes.
         array_bytes(&unicast);
+        let form = Form::Datagrams {
+            address,
+            unicast,
+            urgent,
+        };
         Packer {
-            left: Left::over(list, Form::Datagrams { address, unicast }),
+            left: Left::over(list, form),
             isi,
             size: usize::from(frame_bytes),
         }
     }
 
-    /// Begins with the items of a list, each a PDU of this Protocol Type for all receivers. An item has at most 65,527 bytes.
+    /// Begins with the items of a list, each a PDU of this Protocol Type for all receivers, all in one class. An item has at most 65,527
+    /// bytes.
     pub fn over_as(list: &'a DatagramList, protocol: u16, isi: u8, frame_bytes: u16) -> Packer<'a>
         requires least { 300 ≤ frame_bytes }
         requires most { frame_bytes ≤ 7274 }
         requires items { AreShortItems list.now }
         ensures size { result.size ≡ frame_bytes }
-        ensures frames { result.frames ≡ frames_for isi frame_bytes (map (pdu_as protocol) list.now) }
+        ensures frames { result.frames ≡ frames_for [] isi frame_bytes (map (pdu_as protocol) list.now) }
     {
         Packer {
             left: Left::over(list, Form::OfType(protocol)),

@@ -1,10 +1,11 @@
 //! All frames of a service, or of a list of one Protocol Type.
-ghost use Rattle.std.specs.Prelude.{◌≡◌, ◌≤◌, ◌++◌, [], map, IfOk};
+ghost use Rattle.std.specs.Prelude.{◌≡◌, ◌≤◌, [], map, IfOk};
 ghost use Rattle.gse_spec.specs.Sending.{pdu_for, frames_for};
 ghost use Rattle.gse_pack.specs.Offered.{AreShortDatagrams, AreShortItems, pdu_as};
 
 use crate::frames::Frames;
 use crate::packer::Packer;
+use addr_rules::RuleList;
 use ip_datagram::DatagramList;
 use std::alloc::{AllocError as OutOfMemory, Global};
 
@@ -24,12 +25,11 @@ pub fn pack(
     requires least { 300 ≤ frame_bytes }
     requires most { frame_bytes ≤ 7274 }
     requires datagrams { AreShortDatagrams list.now }
-    ensures written { IfOk result (λ frames. frames ≡ frames_for isi frame_bytes (map (pdu_for address unicast) list.now)) }
+    ensures written { IfOk result (λ frames. frames ≡ record { size = frame_bytes; frames = frames_for [] isi frame_bytes (map (pdu_for address unicast) list.now) }) }
 {
-    all_frames(
-        alloc,
-        Packer::over(list, address, unicast, isi, frame_bytes),
-    )
+    let none = RuleList::new(alloc);
+    let mut packer = Packer::over(list, &none, address, unicast, isi, frame_bytes);
+    all_frames(alloc, &mut packer, frame_bytes)
 }
 
 /// Packs the items of a list as `pack` does, each as a PDU of one Protocol Type without an address, and holds all frames.
@@ -43,25 +43,28 @@ pub fn pack_as(
     requires least { 300 ≤ frame_bytes }
     requires most { frame_bytes ≤ 7274 }
     requires items { AreShortItems list.now }
-    ensures written { IfOk result (λ frames. frames ≡ frames_for isi frame_bytes (map (pdu_as protocol) list.now)) }
+    ensures written { IfOk result (λ frames. frames ≡ record { size = frame_bytes; frames = frames_for [] isi frame_bytes (map (pdu_as protocol) list.now) }) }
 {
-    all_frames(alloc, Packer::over_as(list, protocol, isi, frame_bytes))
+    let mut packer = Packer::over_as(list, protocol, isi, frame_bytes);
+    all_frames(alloc, &mut packer, frame_bytes)
 }
 
-/// All frames that a packer has left.
-fn all_frames(alloc: Global, left: Packer<'_>) -> Result<Frames, OutOfMemory>
-    requires least { 300 ≤ left.size }
-    requires most { left.size ≤ 7274 }
-    ensures all { IfOk result (λ frames. frames ≡ left.entry.frames) }
+/// All frames that a packer has left, which have so many bytes.
+fn all_frames(
+    alloc: Global,
+    packer: &mut Packer<'_>,
+    frame_bytes: u16,
+) -> Result<Frames, OutOfMemory>
+    requires most { frame_bytes ≤ 7274 }
+    requires size { packer.old.size ≡ frame_bytes }
+    ensures written { IfOk result (λ frames. frames ≡ packer.old) }
 {
-    let mut packer = left;
-    let mut frames = DatagramList::new(alloc);
+    let mut frames = Frames::new(alloc, frame_bytes);
     let mut place = [0; FRAME];
-    let size = packer.frame_bytes();
-    let frame = &mut place[..size];
+    let frame = &mut place[..usize::from(frame_bytes)];
     while packer.has_frame() {
         packer.write_frame(frame);
         frames.push(frame)?;
     }
-    Ok(Frames { list: frames })
+    Ok(frames)
 }
