@@ -3,7 +3,7 @@ use Rattle.std.proofs.Common.{◌≡◌, ℕ, Bool, true, false, not, ◌&&◌, 
 use Rattle.std.specs.Prelude.{is_some}
 use Rattle.std.specs.List.{list_all, list_any}
 use Rattle.std.proofs.lemmas.Bool.{and_parts}
-use Rattle.plan_spec.specs.Plan.{KindFields, ule, mpe, fec, gse, PlanFields, pid_of, kinds, is_baseband, rule_lists}
+use Rattle.plan_spec.specs.Plan.{KindFields, ule, mpe, fec, gse, PlanFields, pid_of, kinds, is_baseband, rule_lists, all_rule_lists}
 use Rattle.plan_spec.specs.Checks.{is_plain, is_gse, has_wrong_carrier, has_same_name, has_same_pid, has_too_many_rules, has_no_rule, needs_stamps, has_wrong_window, has_short_gap, has_long_cycle}
 use Rattle.plan_spec.specs.Signalling.{table_packets}
 use Rattle.plan_spec.specs.Valid.{is_in_range, is_consistent, is_lone_service, is_plan_of_settings, is_plan_of_pid, is_plan}
@@ -21,7 +21,7 @@ consistent_carrier : (plan : PlanFields) → is_consistent plan ≡ true → not
 unfolding is_consistent
 consistent_carrier plan all =
     (and_parts (not (has_wrong_carrier plan))
-    (not (has_same_name plan) && (not (has_same_pid plan) && (not (has_too_many_rules (rule_lists plan)) && (not (needs_stamps plan)
+    (not (has_same_name plan) && (not (has_same_pid plan) && (not (has_too_many_rules (all_rule_lists plan)) && (not (needs_stamps plan)
     && (not (has_wrong_window (table_packets plan) plan) && (not (has_short_gap plan) && not (has_long_cycle plan)))))))
     all).0
 

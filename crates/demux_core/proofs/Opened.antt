@@ -126,7 +126,7 @@ rows_of_services least [] valid = refl
 rows_of_services least (s ∷ services) valid =
     let it : ServiceFields = service_seen s in
     let parts = both (is_valid_service least it) (list_all (is_valid_service least) (map service_seen services)) valid in
-    let values = (both (has_valid_values least it) (list_all is_valid_rule it.rules) parts.0).0 in
+    let values = (both (has_valid_values least it) (list_all is_valid_rule it.rules && list_all is_valid_rule it.urgent) parts.0).0 in
     let kind = (both (is_valid_kind least it.kind) _ (both (is_service_name it.name) _ values).1).0 in
     ap (λ (b : Bool). b && list_all (λ (t : Service). has_right_rows (kind_seen t.kind)) services) (rows_of_kind least it.kind kind)
     ∙ rows_of_services least services parts.1

@@ -3,10 +3,10 @@ use Rattle.std.proofs.Common.{◌≡◌, ℕ, ◌+◌, Bool, true, false, not, �
 use Rattle.std.specs.Prelude.{flat_map, is_some, count_by, nat_le}
 use Rattle.std.specs.List.{list_all, list_any, range_with_len, filter_map, cons_option}
 use Rattle.std.proofs.lemmas.Bool.{and_parts, and_from}
-use Rattle.plan_spec.specs.Plan.{ChangeFields, PlanFields, pid_of, service_pids, table_pids, isis, rule_lists}
+use Rattle.plan_spec.specs.Plan.{ChangeFields, PlanFields, pid_of, service_pids, table_pids, isis}
 use Rattle.plan_spec.specs.Checks.{has_wrong_carrier, has_same_name, has_same_pid, has_wrong_count}
 use Rattle.plan_spec.specs.Signalling.{table_packets}
-use Rattle.plan_spec.specs.Changes.{no_service, plan_in, versions, pid_in, pids_in, with_pid_behind, version_at, records_from, records_of_version, all_pids, rises_from, moves_wrongly, has_wrong_change}
+use Rattle.plan_spec.specs.Changes.{no_service, services_in, plan_in, versions, pid_in, pids_in, with_pid_behind, version_at, records_from, records_of_version, all_pids, rises_from, moves_wrongly, has_wrong_change}
 use Rattle.plan_spec.specs.Valid.{is_consistent, is_plan_of_settings, is_plan_of_pid, is_plan}
 use Rattle.plan_spec.specs.Wholes.{has_wrong_rules, most_table_packets, is_valid_change, has_valid_changes, is_whole_of_settings, is_whole_of_pid, is_whole_plan}
 use Rattle.plan_law.proofs.Lists.{neither, not_false, not_true}
@@ -40,11 +40,11 @@ module _ (plan : PlanFields) (first : plan.version ≡ 0) (none : plan.changes �
   or_none true = refl
   or_none false = refl
 
-  pub rules_alone : has_wrong_rules plan ≡ has_wrong_count (rule_lists plan)
+  pub rules_alone : has_wrong_rules plan ≡ has_wrong_count plan.services
   rules_alone =
-      ap (list_any (λ version. has_wrong_count (rule_lists (plan_in plan version)))) versions_alone
-      ∙ or_none (has_wrong_count (rule_lists (plan_in plan 0)))
-      ∙ ap (λ (p : PlanFields). has_wrong_count (rule_lists p)) plan_alone
+      ap (list_any (λ version. has_wrong_count (services_in plan version))) versions_alone
+      ∙ or_none (has_wrong_count (services_in plan 0))
+      ∙ ap (λ (p : PlanFields). has_wrong_count p.services) plan_alone
 
   most_of_one : (n : ℕ) → max 0 n ≡ n
   most_of_one n = omega arith

@@ -1,5 +1,5 @@
 -- Plans: what the settings of a transmission say.
-use Rattle.std.specs.Prelude.{ℕ, Bool, List, [], ◌∷◌, map, Option, Some, None, is_some}
+use Rattle.std.specs.Prelude.{ℕ, Bool, List, [], ◌∷◌, ◌++◌, map, Option, Some, None, is_some}
 use Rattle.std.specs.List.{filter_map}
 use Rattle.ts_spec.specs.Recording.{RecordingForm}
 use Rattle.addr_rules.specs.declared.rules.Rule.{Rule}
@@ -16,7 +16,7 @@ pub data KindFields : Type 0 where
   fec : (pid rows parity : ℕ) (window : Option WindowFields) → KindFields
   gse : (isi : ℕ) (address : Bool) → KindFields
 
--- a service. What urgent rules match need not wait for the rest of a long datagram; no settings give such rules so far
+-- a service. Of one in GSE packets, a short datagram that an urgent rule matches need not wait for the rest of a long one
 pub record ServiceFields : Type 0 where
   pub name : List ℕ
   pub kind : KindFields
@@ -115,11 +115,26 @@ sliced plan = filter_map sliced_of (kinds plan)
 abbrev pub rule_lists : PlanFields → List (List Rule)
 rule_lists plan = map (λ (service : ServiceFields). service.rules) plan.services
 
--- services and a plan with these lists of rules, one for each service
-abbrev pub services_with : List ServiceFields → List (List Rule) → List ServiceFields
+-- the same, and with those of each service its urgent ones
+abbrev pub all_rule_lists : PlanFields → List (List Rule)
+all_rule_lists plan = map (λ (service : ServiceFields). service.rules ++ service.urgent) plan.services
+
+-- the rules of a service, or their texts: those by which it takes datagrams, and those by which these are urgent
+pub record ServiceRules (R : Type 0) : Type 0 where
+  pub rules : List R
+  pub urgent : List R
+
+abbrev pub own_rules : ServiceFields → ServiceRules Rule
+own_rules service = record { rules = service.rules; urgent = service.urgent }
+
+abbrev pub service_rules : PlanFields → List (ServiceRules Rule)
+service_rules plan = map own_rules plan.services
+
+-- services and a plan with these rules, those of one service after another
+abbrev pub services_with : List ServiceFields → List (ServiceRules Rule) → List ServiceFields
 services_with [] lists = []
 services_with (service ∷ services) [] = service ∷ services
-services_with (service ∷ services) (rules ∷ lists) = (record service { rules = rules }) ∷ services_with services lists
+services_with (service ∷ services) (own ∷ lists) = (record service { rules = own.rules; urgent = own.urgent }) ∷ services_with services lists
 
-abbrev pub with_rules : PlanFields → List (List Rule) → PlanFields
+abbrev pub with_rules : PlanFields → List (ServiceRules Rule) → PlanFields
 with_rules plan lists = record plan { services = services_with plan.services lists }

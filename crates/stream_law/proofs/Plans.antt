@@ -2,10 +2,11 @@
 use Rattle.std.proofs.Common.{◌≡◌, ℕ, zero, suc, ◌<◌, ◌≤◌, Bool, true, false, not, ◌&&◌, ◌||◌, leb, ltb, get_or, List, [], ◌∷◌, ◌++◌, length, map, refl, ap, arith, Option, Some, None}
 use Rattle.std.specs.Prelude.{sum_by}
 use Rattle.std.specs.List.{list_all, list_any}
-use Rattle.plan_spec.specs.Plan.{KindFields, ule, mpe, fec, gse, ServiceFields, IntFields, PlanFields, pid_of, table_pids, service_pids, isis, rule_lists, sliced, is_baseband}
+use Rattle.plan_spec.specs.Plan.{KindFields, ule, mpe, fec, gse, ServiceFields, IntFields, PlanFields, pid_of, table_pids, service_pids, isis, rule_lists, all_rule_lists, sliced, is_baseband}
 use Rattle.plan_spec.specs.Checks.{is_between, is_plain, is_row_count, is_service_name, has_pair, has_wrong_carrier, has_same_name, has_same_pid, has_too_many_rules, has_no_rule, needs_stamps, has_wrong_window, has_short_gap, has_long_cycle, is_wrong_window, overlaps}
 use Rattle.plan_spec.specs.Signalling.{table_packets}
 use Rattle.plan_spec.specs.Valid.{is_valid_window, is_valid_kind, is_valid_rule, has_valid_values, is_valid_service, is_valid_int, is_valid_frame_size, most_services, has_valid_top, is_in_range, is_consistent, is_lone_service, is_plan_of_settings, is_plan_of_pid, is_plan}
+use Rattle.plan_law.proofs.Rules.{rules_within}
 use Rattle.stream_law.proofs.Pids.{same_pid, neither}
 use Rattle.stream_law.proofs.OnPid.{IsSendable}
 
@@ -51,8 +52,8 @@ pub record HasRanges (least : ℕ) (service : ServiceFields) : Type 0 where
 
 pub has_ranges : (least : ℕ) (service : ServiceFields) → is_valid_service least service ≡ true → HasRanges least service
 has_ranges least service e =
-    let values : (has_valid_values least service ≡ true) × (list_all is_valid_rule service.rules ≡ true)
-    = both (has_valid_values least service) (list_all is_valid_rule service.rules) e in
+    let values : (has_valid_values least service ≡ true) × ((list_all is_valid_rule service.rules && list_all is_valid_rule service.urgent) ≡ true)
+    = both (has_valid_values least service) (list_all is_valid_rule service.rules && list_all is_valid_rule service.urgent) e in
     let behind_name : (is_valid_kind least service.kind && (is_between 0 65535 service.service_id && is_between 0 255 service.component_tag)) ≡ true
     = (both (is_service_name service.name) (is_valid_kind least service.kind && (is_between 0 65535 service.service_id && is_between 0 255 service.component_tag)) values.0).1 in
     let behind_kind : (is_between 0 65535 service.service_id && is_between 0 255 service.component_tag) ≡ true
@@ -63,7 +64,7 @@ has_ranges least service e =
       kind = (both (is_valid_kind least service.kind) (is_between 0 65535 service.service_id && is_between 0 255 service.component_tag) behind_name).0;
       service_id = at_most 0 65535 service.service_id numbers.0;
       component_tag = at_most 0 255 service.component_tag numbers.1;
-      rules = values.1;
+      rules = (both (list_all is_valid_rule service.rules) (list_all is_valid_rule service.urgent) values.1).0;
     }
 
 services_most : (least : ℕ) (services : List ServiceFields) → list_all (is_valid_service least) services ≡ true → (k pid : ℕ) → k < length (map (λ (service : ServiceFields). service.kind) services)
@@ -139,9 +140,9 @@ module _ (plan : PlanFields) (accepted : is_plan plan ≡ true) where
           let of_e : (e && f) ≡ true = (both d (e && f) of_d).1 in
           ((both a (b && (c && (d && (e && f)))) all).0, (both b (c && (d && (e && f))) of_b).0, (both d (e && f) of_d).0, (both e f of_e).0, (both e f of_e).1)
 
-  pub checks : (has_same_pid plan ≡ false) × (has_wrong_window (table_packets plan) plan ≡ false) × (has_too_many_rules (rule_lists plan) ≡ false)
+  pub checks : (has_same_pid plan ≡ false) × (has_wrong_window (table_packets plan) plan ≡ false) × (has_too_many_rules (all_rule_lists plan) ≡ false)
   unfolding is_consistent
-  checks = by_parts (has_wrong_carrier plan) (has_same_name plan) (has_same_pid plan) (has_too_many_rules (rule_lists plan)) (needs_stamps plan)
+  checks = by_parts (has_wrong_carrier plan) (has_same_name plan) (has_same_pid plan) (has_too_many_rules (all_rule_lists plan)) (needs_stamps plan)
       (has_wrong_window (table_packets plan) plan) (not (has_short_gap plan) && not (has_long_cycle plan)) consistent
     where
       by_parts : (a b c d e f g : Bool) → (not a && (not b && (not c && (not d && (not e && (not f && g)))))) ≡ true → (c ≡ false) × (f ≡ false) × (d ≡ false)
@@ -174,7 +175,7 @@ module _ (plan : PlanFields) (accepted : is_plan plan ≡ true) where
       by_carrier false le = omega (arith, le)
 
   pub few_rules : sum_by length (rule_lists plan) ≤ 128
-  few_rules = few (sum_by length (rule_lists plan)) checks.2
+  few_rules = omega (arith, rules_within plan.services, few (sum_by length (all_rule_lists plan)) checks.2)
     where
       few : (n : ℕ) → ltb 128 n ≡ false → n ≤ 128
       few n e = grind (arith, e)

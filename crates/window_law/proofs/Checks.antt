@@ -3,7 +3,7 @@ use Rattle.std.proofs.Common.{◌≡◌, ℕ, zero, suc, ◌+◌, ◌-◌, ◌*�
 use Rattle.std.specs.List.{cons_option, list_all, list_any}
 use Rattle.std.proofs.Math.Nat.{div-lt_iff_lt-mul, le-div_iff_mul-le}
 use Rattle.ts_spec.specs.Recording.{RecordingForm, plain, stamped, m2ts}
-use Rattle.plan_spec.specs.Plan.{KindFields, mpe, PlanFields, kinds, SlicedFields, sliced_of, sliced, rule_lists, is_baseband}
+use Rattle.plan_spec.specs.Plan.{KindFields, mpe, PlanFields, kinds, SlicedFields, sliced_of, sliced, rule_lists, all_rule_lists, is_baseband}
 use Rattle.plan_spec.specs.Checks.{is_between, is_plain, has_pair, has_wrong_carrier, has_same_name, has_same_pid, has_too_many_rules, has_no_rule, is_sliced, needs_stamps, leaves_cycle, is_too_short, is_too_long, is_wrong_window, overlaps, has_wrong_window, has_short_gap, has_long_cycle}
 use Rattle.plan_spec.specs.Signalling.{table_packets}
 use Rattle.plan_spec.specs.Valid.{is_valid_service, is_valid_int, is_valid_frame_size, most_services, has_valid_top, is_in_range, is_consistent, is_lone_service, is_plan_of_settings, is_plan_of_pid, is_plan}
@@ -115,7 +115,7 @@ module _ (plan : PlanFields) (accepted : is_plan plan ≡ true) where
   -- the checks on sliced services
   pub checks : (needs_stamps plan ≡ false) × (has_wrong_window (table_packets plan) plan ≡ false) × (has_short_gap plan ≡ false) × (has_long_cycle plan ≡ false)
   unfolding is_consistent
-  checks = by_parts (has_wrong_carrier plan) (has_same_name plan) (has_same_pid plan) (has_too_many_rules (rule_lists plan)) (needs_stamps plan)
+  checks = by_parts (has_wrong_carrier plan) (has_same_name plan) (has_same_pid plan) (has_too_many_rules (all_rule_lists plan)) (needs_stamps plan)
       (has_wrong_window (table_packets plan) plan) (has_short_gap plan) (has_long_cycle plan) (in_order plan accepted).2
     where
       by_parts : (a b c d e f g h : Bool) → (not a && (not b && (not c && (not d && (not e && (not f && (not g && not h))))))) ≡ true → (e ≡ false) × (f ≡ false) × (g ≡ false) × (h ≡ false)
