@@ -2,7 +2,8 @@
 
 use ip_datagram::IpAddress;
 use service_plan::{
-    Plan, PlanError, longest, pid_in, read_plan, route, route_in, sample_plan, ule_plan, version_at,
+    Kind, Plan, PlanError, longest, pid_in, read_plan, route, route_in, sample_plan, ule_plan,
+    version_at,
 };
 use std::alloc::Global;
 use std::test::Fail;
@@ -55,6 +56,12 @@ kind = 'gse'
 isi = 1
 rules = ['239.2.0.0/16']";
 
+/// The same without rules.
+const BARE: &str = "[[service]]
+name = 'files'
+kind = 'gse'
+isi = 1";
+
 /// Files that move from the third record on.
 const MOVE: &str = "[[change]]
 at = 3
@@ -71,14 +78,15 @@ fn lines_of(word: &str) -> &str {
         "ULE" => ULE,
         "OTHER" => OTHER,
         "FRAMES" => FRAMES,
+        "BARE" => BARE,
         "MOVE" => MOVE,
         _ => word,
     }
 }
 
-/// A line with so many rules.
-fn push_rules(text: &mut String, count: u16) -> Result<(), Fail> {
-    text.push_str("rules = [")?;
+/// A line of a key with so many rules.
+fn push_rules(text: &mut String, key: &str, count: u16) -> Result<(), Fail> {
+    write!(text, "{key} = [")?;
     for _ in 0..count {
         text.push_str("'10.0.0.0/8', ")?;
     }
@@ -86,12 +94,12 @@ fn push_rules(text: &mut String, count: u16) -> Result<(), Fail> {
     Ok(())
 }
 
-/// The settings of words: names of pieces, lines of TOML without spaces, and `rules*N` for N rules.
+/// The settings of words: names of pieces, lines of TOML without spaces, and `rules*N` or `urgent*N` for N rules.
 fn settings_of(alloc: Global, words: &str) -> Result<String, Fail> {
     let mut text = String::new(alloc);
     for word in words.split_whitespace() {
-        match word.strip_prefix("rules*") {
-            Some(count) => push_rules(&mut text, count.parse()?)?,
+        match word.split_once('*') {
+            Some((key, count)) => push_rules(&mut text, key, count.parse()?)?,
             None => text.push_str(lines_of(word))?,
         }
         text.push('\n')?;
@@ -164,6 +172,26 @@ ULE pid=513 filter=['01:00:5E:01:02']|Range(Filter)
 urgent=[] ULE pid=513|Unknown
 |Missing(Service)";
 
+/// Urgent rules: a list of texts directly behind the rules, of GSE packets alone. They count into the 128, and bring a service no datagram.
+const URGENT: &str = "carrier='bb' FRAMES urgent=[]|accepted
+carrier='bb' FRAMES urgent=['239.2.0.0/16','ff0e::/16']|accepted
+carrier='bb' FRAMES urgent='239.2.0.0/16'|Type_(Urgent)
+carrier='bb' FRAMES urgent=[7]|Type_(Urgent)
+carrier='bb' FRAMES filter=7 urgent=[7]|Type_(Urgent)
+carrier='bb' BARE rules=[7] urgent=[7]|Type_(Rules)
+carrier='bb' FRAMES urgent=['239.2.0.1/16']|Rules
+carrier='bb' FRAMES urgent*127|accepted
+carrier='bb' FRAMES urgent*128|Rules
+carrier='bb' BARE rules*127 urgent*1|accepted
+carrier='bb' BARE rules*127 urgent*2|Rules
+carrier='bb' BARE rules*0 urgent*1|Rules
+carrier='bb' BARE urgent*1|Missing(Rules)
+carrier='bb' FRAMES urgent*1 [[service]] name='other' kind='gse' isi=2 rules*1 urgent*125|accepted
+carrier='bb' FRAMES urgent*1 [[service]] name='other' kind='gse' isi=2 rules*1 urgent*126|Rules
+ULE pid=513 urgent=7|Unknown
+[[service]] name='files' kind='mpe' pid=513 rules*1 urgent=[]|Unknown
+[[service]] name='files' kind='fec' pid=513 rules*1 urgent=[]|Unknown";
+
 /// Changes: their order, their names and their PIDs, each beside neighbours that are accepted.
 const CHANGES: &str = "INT FILES MOVE|accepted
 INT FILES OTHER MOVE|accepted
@@ -217,17 +245,49 @@ INT FILES MOVE rules=['10.0.0.1/8']|Rules";
 #[test]
 fn each_fault_is_named(rt: HostRuntime) -> Result<(), Fail> {
     let alloc = rt.alloc();
-    for table in [WHOLES, KEYS, CHANGES, CHANGE_KEYS, VERSIONS] {
+    for table in [WHOLES, KEYS, URGENT, CHANGES, CHANGE_KEYS, VERSIONS] {
         assert_eq!(rt; wrong_lines(alloc, table)?.as_str(), "");
     }
     assert_eq!(rt; fault_of(alloc, &[0xFF])?.as_str(), "Text");
     Ok(())
 }
 
+/// A kind and its values; of urgent rules how many there are.
+fn push_kind(text: &mut String, kind: &Kind) -> Result<(), Fail> {
+    match kind {
+        Kind::Ule {
+            pid,
+            address,
+            packing,
+        } => write!(text, "Ule pid {pid}, address {address}, packing {packing}")?,
+        Kind::Mpe { pid } => write!(text, "Mpe pid {pid}")?,
+        Kind::Fec {
+            pid,
+            rows,
+            parity,
+            window,
+        } => write!(
+            text,
+            "Fec pid {pid}, rows {rows}, parity {parity}, window {window:?}"
+        )?,
+        Kind::Gse {
+            isi,
+            address,
+            urgent,
+        } => write!(
+            text,
+            "Gse isi {isi}, address {address}, urgent {}",
+            urgent.len()
+        )?,
+    }
+    Ok(())
+}
+
 /// A line for each service.
 fn push_services(text: &mut String, plan: &Plan) -> Result<(), Fail> {
     for service in plan.services.items() {
-        write!(text, "{} {:?}", service.name.text(), service.kind)?;
+        write!(text, "{} ", service.name.text())?;
+        push_kind(text, &service.kind)?;
         write!(text, " up to {} bytes", longest(&service.kind))?;
         write!(text, ", unicast {:?}", service.unicast)?;
         write!(text, ", service_id {}", service.service_id)?;
@@ -292,8 +352,8 @@ const RUN: &str = "Stamped, packet_rate 10000, cycle 20000, frame_bytes None
 [10, 0, 0, 9] to None
 [239, 1, 1, 1] to Some(0)
 [239, 2, 2, 2] to Some(1)
-lecture Fec { pid: 512, rows: 1024, parity: 64, window: Some((100, 1500)) } up to 4080 bytes, unicast [255, 255, 255, 255, 255, 255], service_id 10, component_tag 1
-files Ule { pid: 513, address: true, packing: true } up to 32757 bytes, unicast [255, 255, 255, 255, 255, 255], service_id 10, component_tag 2
+lecture Fec pid 512, rows 1024, parity 64, window Some((100, 1500)) up to 4080 bytes, unicast [255, 255, 255, 255, 255, 255], service_id 10, component_tag 1
+files Ule pid 513, address true, packing true up to 32757 bytes, unicast [255, 255, 255, 255, 255, 255], service_id 10, component_tag 2
 ";
 
 /// A plan that changes, and three of its records. What a change does not give is as it was before it, and not as it was at first.
@@ -301,8 +361,8 @@ const CHANGING: &str = "Plain, packet_rate 10000, cycle 20000, frame_bytes None
 [10, 0, 0, 9] to None
 [239, 1, 1, 1] to None
 [239, 2, 2, 2] to Some(1)
-other Mpe { pid: 515 } up to 4080 bytes, unicast [255, 255, 255, 255, 255, 255], service_id 1, component_tag 0
-files Ule { pid: 513, address: true, packing: true } up to 32757 bytes, unicast [255, 255, 255, 255, 255, 255], service_id 10, component_tag 2
+other Mpe pid 515 up to 4080 bytes, unicast [255, 255, 255, 255, 255, 255], service_id 1, component_tag 0
+files Ule pid 513, address true, packing true up to 32757 bytes, unicast [255, 255, 255, 255, 255, 255], service_id 10, component_tag 2
 from 3 on: 1 to 514 with rules: 1;
 from 5 on: 1 to 514 with rules: 1; 0 to 516 with rules: 1;
 record 2: version 0, PID Some(515) and Some(513), 10.0.0.9 to None, 239.2.2.2 to Some(1)
@@ -338,7 +398,7 @@ const ONE_PID: &str = "Plain, packet_rate 10000, cycle 20000, frame_bytes None
 [10, 0, 0, 9] to None
 [239, 1, 1, 1] to None
 [239, 2, 2, 2] to None
-ule Ule { pid: 17, address: true, packing: true } up to 32757 bytes, unicast [255, 255, 255, 255, 255, 255], service_id 1, component_tag 0
+ule Ule pid 17, address true, packing true up to 32757 bytes, unicast [255, 255, 255, 255, 255, 255], service_id 1, component_tag 0
 ";
 
 /// The plan of the sample job.
@@ -346,8 +406,8 @@ const SAMPLE: &str = "Stamped, packet_rate 10000, cycle 4000, frame_bytes None
 [10, 0, 0, 9] to None
 [239, 1, 1, 1] to Some(0)
 [239, 2, 2, 2] to Some(1)
-lecture Fec { pid: 512, rows: 1024, parity: 64, window: Some((100, 1500)) } up to 4080 bytes, unicast [255, 255, 255, 255, 255, 255], service_id 10, component_tag 1
-files Ule { pid: 513, address: true, packing: true } up to 32757 bytes, unicast [255, 255, 255, 255, 255, 255], service_id 10, component_tag 2
+lecture Fec pid 512, rows 1024, parity 64, window Some((100, 1500)) up to 4080 bytes, unicast [255, 255, 255, 255, 255, 255], service_id 10, component_tag 1
+files Ule pid 513, address true, packing true up to 32757 bytes, unicast [255, 255, 255, 255, 255, 255], service_id 10, component_tag 2
 ";
 
 /// The plans of the commands without settings.

@@ -2,7 +2,7 @@
 use Rattle.std.proofs.Common.{◌≡◌, inl, inr, ℕ, Bool, true, false, not, ◌||◌, ◌&&◌, List, [], ◌∷◌, ◌++◌, map, Option, Some, None, MatchOption, codes, if◌then◌else◌, refl, sym, ap, ap₂, ◌∙◌}
 use Rattle.toml.specs.Data.{Members}
 use Rattle.addr_rules.specs.declared.rules.Rule.{Rule}
-use Rattle.plan_spec.specs.Plan.{KindFields, ServiceFields, PlanFields, services_with, with_rules}
+use Rattle.plan_spec.specs.Plan.{KindFields, ServiceFields, ServiceRules, PlanFields, services_with, with_rules}
 use Rattle.plan_spec.specs.Checks.{has_wrong_carrier, has_same_name, has_same_pid, needs_stamps, has_wrong_window, has_short_gap, has_long_cycle}
 use Rattle.plan_spec.specs.Changes.{has_wrong_change}
 use Rattle.plan_spec.specs.Valid.{is_plan}
@@ -85,32 +85,32 @@ none_fails test fails tells (check ∷ checks) e = by_test (test check) (tells c
     by_test false t later met = (t.1 refl, later met)
 
 -- the checks that do not look at rules
-kinds_with : (services : List ServiceFields) (lists : List (List Rule)) → map (λ (s : ServiceFields). s.kind) (services_with services lists) ≡ map (λ (s : ServiceFields). s.kind) services
+kinds_with : (services : List ServiceFields) (lists : List (ServiceRules Rule)) → map (λ (s : ServiceFields). s.kind) (services_with services lists) ≡ map (λ (s : ServiceFields). s.kind) services
 kinds_with [] lists = refl
 kinds_with (s ∷ services) [] = refl
 kinds_with (s ∷ services) (rules ∷ lists) = ap (λ (rest : List KindFields). s.kind ∷ rest) (kinds_with services lists)
 
-names_with : (services : List ServiceFields) (lists : List (List Rule)) → map (λ (s : ServiceFields). s.name) (services_with services lists) ≡ map (λ (s : ServiceFields). s.name) services
+names_with : (services : List ServiceFields) (lists : List (ServiceRules Rule)) → map (λ (s : ServiceFields). s.name) (services_with services lists) ≡ map (λ (s : ServiceFields). s.name) services
 names_with [] lists = refl
 names_with (s ∷ services) [] = refl
 names_with (s ∷ services) (rules ∷ lists) = ap (λ (rest : List (List ℕ)). s.name ∷ rest) (names_with services lists)
 
-carrier_with : (plan : PlanFields) (lists : List (List Rule)) → has_wrong_carrier (with_rules plan lists) ≡ has_wrong_carrier plan
+carrier_with : (plan : PlanFields) (lists : List (ServiceRules Rule)) → has_wrong_carrier (with_rules plan lists) ≡ has_wrong_carrier plan
 carrier_with plan lists = rw (kinds_with plan.services lists)
 
-pid_with : (plan : PlanFields) (lists : List (List Rule)) → has_same_pid (with_rules plan lists) ≡ has_same_pid plan
+pid_with : (plan : PlanFields) (lists : List (ServiceRules Rule)) → has_same_pid (with_rules plan lists) ≡ has_same_pid plan
 pid_with plan lists = rw (kinds_with plan.services lists)
 
-stamps_with : (plan : PlanFields) (lists : List (List Rule)) → needs_stamps (with_rules plan lists) ≡ needs_stamps plan
+stamps_with : (plan : PlanFields) (lists : List (ServiceRules Rule)) → needs_stamps (with_rules plan lists) ≡ needs_stamps plan
 stamps_with plan lists = rw (kinds_with plan.services lists)
 
-gap_with : (plan : PlanFields) (lists : List (List Rule)) → has_short_gap (with_rules plan lists) ≡ has_short_gap plan
+gap_with : (plan : PlanFields) (lists : List (ServiceRules Rule)) → has_short_gap (with_rules plan lists) ≡ has_short_gap plan
 gap_with plan lists = rw (kinds_with plan.services lists)
 
-delta_with : (plan : PlanFields) (lists : List (List Rule)) → has_long_cycle (with_rules plan lists) ≡ has_long_cycle plan
+delta_with : (plan : PlanFields) (lists : List (ServiceRules Rule)) → has_long_cycle (with_rules plan lists) ≡ has_long_cycle plan
 delta_with plan lists = rw (kinds_with plan.services lists)
 
-name_with : (plan : PlanFields) (lists : List (List Rule)) → has_same_name (with_rules plan lists) ≡ has_same_name plan
+name_with : (plan : PlanFields) (lists : List (ServiceRules Rule)) → has_same_name (with_rules plan lists) ≡ has_same_name plan
 name_with plan lists = rw (names_with plan.services lists)
 
 module _ (top : Members) (draft : Draft) (is : IsDraftOf top draft) where
@@ -124,7 +124,7 @@ module _ (top : Members) (draft : Draft) (is : IsDraftOf top draft) where
       let only = is.only of_top.rules of_top.changes of_top.spelled in (
         only.0,
         of_top.values
-            ∙ ap₂ (λ (r : List (List Rule)) (c : List (ChangeValues Rule)). with_changes (with_rules (plan_of top) r) c) only.1.0 only.1.1
+            ∙ ap₂ (λ (r : List (ServiceRules Rule)) (c : List (ChangeValues Rule)). with_changes (with_rules (plan_of top) r) c) only.1.0 only.1.1
             ∙ sym is.seen,
       )
 

@@ -1,12 +1,13 @@
 -- Services against each other.
 use Rattle.std.proofs.Common.{◌≡◌, sum_by, option_map, not, if◌then◌else◌, ℕ, ◌+◌, ◌<◌, ◌≤◌, Bool, true, false, ◌||◌, ◌&&◌, ◌==◌, nat_le, ◌++◌, List, [], ◌∷◌, length, map, get_or, drop, Option, Some, None, nat_lt, is_some, refl, ap, ap₂, sym, ◌∙◌, arith}
 use Rattle.std.specs.List.{list_any, list_all, filter_map, cons_option}
-use Rattle.std.proofs.lemmas.List.{drop_more, drop_all}
+use Rattle.std.proofs.lemmas.List.{drop_more, drop_all, length-append}
 use Rattle.std.proofs.lemmas.Bool.Decides.{nat_tests}
 use Rattle.plan_spec.specs.Plan.{KindFields, ServiceFields, IntFields, PlanFields, SlicedFields, sliced_of, pid_of, isi_of, table_pids}
 use Rattle.plan_spec.specs.Checks.{has_pair, is_wrong_window, overlaps, is_gse, is_plain, has_no_rule, has_too_many_rules}
 use Rattle.plan_spec.specs.Changes.{no_service}
 use Rattle.plan_law.proofs.Lists.{neither}
+use Rattle.plan_law.proofs.Rules.{rules_within}
 use Rattle.settings_spec.specs.Keys.{holds}
 use Rattle.plan.specs.Parts.{kind_seen, int_seen, services_seen}
 use Rattle.service_plan.specs.Wholes.{has_slices, ids_seen, int_shares, is_small_gap}
@@ -123,6 +124,14 @@ packets_checked frame table form services r ts any = rw (← ts, any_kind is_gse
 abbrev pub rules_of : List ServiceFields → List (List Rule)
 rules_of services = map (λ (s : ServiceFields). s.rules) services
 
+-- the urgent ones among them
+abbrev pub all_rules_of : List ServiceFields → List (List Rule)
+all_rules_of services = map (λ (s : ServiceFields). s.rules ++ s.urgent) services
+
+-- so many with those of services that were counted before
+abbrev pub passes_most : ℕ → List ServiceFields → Bool
+passes_most total services = nat_lt 128 (total + sum_by length (all_rules_of services))
+
 or_second : (a b : Bool) → b ≡ true → (a || b) ≡ true
 or_second true b is = refl
 or_second false b is = is
@@ -130,53 +139,66 @@ or_second false b is = is
 more_is_above : (total count rest : ℕ) → nat_lt 128 (total + count) ≡ true → nat_lt 128 (total + (count + rest)) ≡ true
 more_is_above total count rest above = grind (arith, nat_tests)
 
-sum_is : (service : ServiceFields) (services : List ServiceFields) → sum_by length (rules_of (service ∷ services)) ≡ length service.rules + sum_by length (rules_of services)
-sum_is service services = sum_by-cons length service.rules (rules_of services)
+-- those of one service more
+own_count : (service : ServiceFields) (count urgent : ℕ) → count ≡ length service.rules → urgent ≡ length service.urgent → count + urgent ≡ length (service.rules ++ service.urgent)
+own_count service count urgent is also = omega (arith, is, also, length-append service.rules service.urgent)
+
+sum_is : (service : ServiceFields) (services : List ServiceFields) → sum_by length (all_rules_of (service ∷ services)) ≡ length (service.rules ++ service.urgent) + sum_by length (all_rules_of services)
+sum_is service services = sum_by-cons length (service.rules ++ service.urgent) (all_rules_of services)
 
 -- where a count is wrong all are, else the others decide
-pub count_wrong : (services : List ServiceFields) (k total count : ℕ) → k < length services → count ≡ length (get_or services k no_service).rules
-    → true ≡ ((count == 0) || nat_lt 128 (total + count)) → true ≡ (has_no_rule (rules_of (drop k services)) || nat_lt 128 (total + sum_by length (rules_of (drop k services))))
-count_wrong services k total count within is wrong = rw (drop_more services k no_service within) (by_count ((count == 0)) refl wrong)
+pub count_wrong : (services : List ServiceFields) (k total count urgent : ℕ) → k < length services → count ≡ length (get_or services k no_service).rules
+    → urgent ≡ length (get_or services k no_service).urgent
+    → true ≡ ((count == 0) || nat_lt 128 (total + (count + urgent))) → true ≡ (has_no_rule (rules_of (drop k services)) || passes_most total (drop k services))
+count_wrong services k total count urgent within is also wrong = rw (drop_more services k no_service within) (by_count ((count == 0)) refl wrong)
   where
     rest : List ServiceFields
     rest = drop (k + 1) services
 
-    by_count : (b : Bool) → (count == 0) ≡ b → true ≡ (b || nat_lt 128 (total + count))
-        → true ≡ (has_no_rule (rules_of (get_or services k no_service ∷ rest)) || nat_lt 128 (total + sum_by length (rules_of (get_or services k no_service ∷ rest))))
-    by_count true none h = sym (ap (λ (t : Bool). (t || has_no_rule (rules_of rest)) || nat_lt 128 (total + sum_by length (rules_of (get_or services k no_service ∷ rest)))) (ap (λ (n : ℕ). n == 0) (sym is) ∙ none))
+    here : ServiceFields
+    here = get_or services k no_service
+
+    by_count : (b : Bool) → (count == 0) ≡ b → true ≡ (b || nat_lt 128 (total + (count + urgent)))
+        → true ≡ (has_no_rule (rules_of (here ∷ rest)) || passes_most total (here ∷ rest))
+    by_count true none h = sym (ap (λ (t : Bool). (t || has_no_rule (rules_of rest)) || passes_most total (here ∷ rest)) (ap (λ (n : ℕ). n == 0) (sym is) ∙ none))
     by_count false some h =
-        sym (or_second (has_no_rule (rules_of (get_or services k no_service ∷ rest))) (nat_lt 128 (total + sum_by length (rules_of (get_or services k no_service ∷ rest))))
-        (ap (λ (n : ℕ). nat_lt 128 (total + n)) (sum_is (get_or services k no_service) rest ∙ ap (λ (n : ℕ). n + sum_by length (rules_of rest)) (sym is))
-        ∙ more_is_above total count (sum_by length (rules_of rest)) (sym h)))
+        sym (or_second (has_no_rule (rules_of (here ∷ rest))) (passes_most total (here ∷ rest))
+        (ap (λ (n : ℕ). nat_lt 128 (total + n)) (sum_is here rest ∙ ap (λ (n : ℕ). n + sum_by length (all_rules_of rest)) (sym (own_count here count urgent is also)))
+        ∙ more_is_above total (count + urgent) (sum_by length (all_rules_of rest)) (sym h)))
 
-pub count_right : (services : List ServiceFields) (k total count : ℕ) → k < length services → count ≡ length (get_or services k no_service).rules
-    → false ≡ ((count == 0) || nat_lt 128 (total + count))
-    → (has_no_rule (rules_of (drop k services)) || nat_lt 128 (total + sum_by length (rules_of (drop k services))))
-    ≡ (has_no_rule (rules_of (drop (k + 1) services)) || nat_lt 128 ((total + count) + sum_by length (rules_of (drop (k + 1) services))))
-count_right services k total count within is right =
-    ap (λ (l : List ServiceFields). has_no_rule (rules_of l) || nat_lt 128 (total + sum_by length (rules_of l))) (drop_more services k no_service within)
-    ∙ ap₂ (λ (t : Bool) (n : ℕ). (t || has_no_rule (rules_of rest)) || nat_lt 128 n) (ap (λ (n : ℕ). n == 0) (sym is) ∙ (neither (count == 0) (nat_lt 128 (total + count)) (sym right)).0)
-    (ap (λ (n : ℕ). total + n) (sum_is (get_or services k no_service) rest ∙ ap (λ (n : ℕ). n + sum_by length (rules_of rest)) (sym is)) ∙ regrouped total count (sum_by length (rules_of rest)))
+pub count_right : (services : List ServiceFields) (k total count urgent : ℕ) → k < length services → count ≡ length (get_or services k no_service).rules
+    → urgent ≡ length (get_or services k no_service).urgent
+    → false ≡ ((count == 0) || nat_lt 128 (total + (count + urgent)))
+    → (has_no_rule (rules_of (drop k services)) || passes_most total (drop k services))
+    ≡ (has_no_rule (rules_of (drop (k + 1) services)) || passes_most (total + (count + urgent)) (drop (k + 1) services))
+count_right services k total count urgent within is also right =
+    ap (λ (l : List ServiceFields). has_no_rule (rules_of l) || passes_most total l) (drop_more services k no_service within)
+    ∙ ap₂ (λ (t : Bool) (n : ℕ). (t || has_no_rule (rules_of rest)) || nat_lt 128 n) (ap (λ (n : ℕ). n == 0) (sym is) ∙ (neither (count == 0) (nat_lt 128 (total + (count + urgent))) (sym right)).0)
+    (ap (λ (n : ℕ). total + n) (sum_is here rest ∙ ap (λ (n : ℕ). n + sum_by length (all_rules_of rest)) (sym (own_count here count urgent is also)))
+    ∙ regrouped total (count + urgent) (sum_by length (all_rules_of rest)))
   where
     rest : List ServiceFields
     rest = drop (k + 1) services
+
+    here : ServiceFields
+    here = get_or services k no_service
 
     regrouped : (a b c : ℕ) → a + (b + c) ≡ (a + b) + c
     regrouped a b c = omega arith
 
-pub count_above : (total count : ℕ) → false ≡ ((count == 0) || nat_lt 128 (total + count)) → total + count ≤ 128
-count_above total count right = let h = (neither (count == 0) (nat_lt 128 (total + count)) (sym right)).1 in grind (arith, nat_tests)
+pub count_above : (total count urgent : ℕ) → false ≡ ((count == 0) || nat_lt 128 (total + (count + urgent))) → total + (count + urgent) ≤ 128
+count_above total count urgent right = let h = (neither (count == 0) (nat_lt 128 (total + (count + urgent))) (sym right)).1 in grind (arith, nat_tests)
 
 pub count_end : (services : List ServiceFields) (k total : ℕ) → length services ≤ k → total ≤ 128
-    → (has_no_rule (rules_of (drop k services)) || nat_lt 128 (total + sum_by length (rules_of (drop k services)))) ≡ false
+    → (has_no_rule (rules_of (drop k services)) || passes_most total (drop k services)) ≡ false
 count_end services k total past few =
-    ap (λ (l : List ServiceFields). has_no_rule (rules_of l) || nat_lt 128 (total + sum_by length (rules_of l))) (drop_all k services past) ∙ none_above total few
+    ap (λ (l : List ServiceFields). has_no_rule (rules_of l) || passes_most total l) (drop_all k services past) ∙ none_above total few
   where
     none_above : (n : ℕ) → n ≤ 128 → nat_lt 128 (n + 0) ≡ false
     none_above n less = grind (arith, nat_tests)
 
-pub few_rules : (services : List ServiceFields) → has_too_many_rules (rules_of services) ≡ false → sum_by length (rules_of services) ≤ 128
-few_rules services few = grind (arith, nat_tests)
+pub few_rules : (services : List ServiceFields) → has_too_many_rules (all_rules_of services) ≡ false → sum_by length (rules_of services) ≤ 128
+few_rules services few = let within = rules_within services in grind (arith, nat_tests)
 
 pub right_rules : (spelled wrong : Bool) → false ≡ (not spelled || wrong) → wrong ≡ false
 right_rules spelled wrong right = (neither (not spelled) wrong (sym right)).1

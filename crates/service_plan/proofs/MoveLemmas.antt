@@ -83,6 +83,11 @@ service_moved services changes k service within is =
     after_changes k (service_seen service) None (services_seen services) changes (rw (length-map services service_seen) within)
     (get_or-map service_seen services k service no_service within ∙ ap service_seen (sym is))
 
+-- a move leaves its urgent rules
+pub urgent_stays : (service : ServiceFields) (found : Option MovedFields) → (moved_so service found).urgent ≡ service.urgent
+urgent_stays service None = refl
+urgent_stays service (Some moved) = refl
+
 -- one that is not there
 pub no_service_after : (services : List Service) (changes : List Change) (k : ℕ) → length services ≤ k → service_after services changes k ≡ no_service
 no_service_after services changes k past = none_at (services_after services changes) k (omega (arith, past, length-services_after services changes))

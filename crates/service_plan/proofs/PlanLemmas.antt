@@ -6,7 +6,7 @@ use Rattle.std.proofs.lemmas.Bool.Decides.{nat_tests}
 use Rattle.toml.specs.Data.{Members}
 use Rattle.ts_spec.specs.Recording.{RecordingForm}
 use Rattle.addr_rules.specs.declared.rules.Rule.{Rule}
-use Rattle.plan_spec.specs.Plan.{ServiceFields, IntFields, ChangeFields, PlanFields, services_with, with_rules}
+use Rattle.plan_spec.specs.Plan.{ServiceFields, ServiceRules, IntFields, ChangeFields, PlanFields, services_with, with_rules}
 use Rattle.plan_spec.specs.Checks.{is_between}
 use Rattle.plan_spec.specs.Valid.{most_services}
 use Rattle.settings_spec.specs.Keys.{tables, text_or, number_or, table_at, tables_at}
@@ -33,7 +33,7 @@ plan_from recording rate cycle frame table services changes =
 pub service_key_is : (top : Members) (b : Bool) (n : ℕ) → n ≡ most_services b → b ≡ says_baseband top → rule_for key.Service true (tables n) ≡ service_key top
 service_key_is top b n most said = rw (most, said)
 
-plan_of_parts : (top : Members) (recording : RecordingForm) (rate cycle : ℕ) (frame : Option ℕ) (table : Option IntFields) (services : List ServiceFields) (lists : List (List Rule))
+plan_of_parts : (top : Members) (recording : RecordingForm) (rate cycle : ℕ) (frame : Option ℕ) (table : Option IntFields) (services : List ServiceFields) (lists : List (ServiceRules Rule))
     (changes : List ChangeFields) (values : List (ChangeValues Rule))
     → recording ≡ recording_of (text_or (codes "plain") (codes "recording") top) → rate ≡ number_or 10000 (codes "packet_rate") top
     → cycle ≡ number_or 20000 (codes "cycle") top → frame ≡ (if says_baseband top then Some (number_or 2000 (codes "frame_bytes") top) else None)

@@ -1,5 +1,5 @@
 -- The services so far, as a list of tables is read.
-use Rattle.std.proofs.Common.{◌≡◌, ℕ, ◌+◌, ◌<◌, ◌≤◌, ◌&&◌, Bool, true, List, [], ◌∷◌, ◌++◌, length, get_or, drop, Option, Some, None, refl, ap, sym, ◌∙◌, arith, append_assoc, codes}
+use Rattle.std.proofs.Common.{◌≡◌, ℕ, ◌+◌, ◌<◌, ◌≤◌, ◌&&◌, Bool, true, List, [], ◌∷◌, ◌++◌, length, get_or, drop, Option, Some, None, refl, ap, sym, ◌∙◌, arith, append_assoc}
 use Rattle.std.specs.List.{list_all}
 use Rattle.std.specs.List.{cons_option}
 use Rattle.std.proofs.lemmas.List.{drop_more, drop_all, append-nil, length-append, length-map}
@@ -8,14 +8,14 @@ use Rattle.toml.specs.Data.{Data, Members, as_table}
 use Rattle.toml.specs.View.{view}
 use Rattle.toml.specs.declared.value.Value.{Value}
 use Rattle.addr_rules.specs.declared.rules.Rule.{Rule}
-use Rattle.plan_spec.specs.Plan.{ServiceFields, services_with}
-use Rattle.settings_spec.specs.Keys.{first_of, texts_at}
-use Rattle.settings_spec.specs.Settings.{service_fault, services_fault, service_of, services_of}
-use Rattle.settings_spec.specs.Refusal.{AreRules, AreRuleLists}
+use Rattle.plan_spec.specs.Plan.{ServiceFields, ServiceRules, own_rules, services_with}
+use Rattle.settings_spec.specs.Keys.{first_of}
+use Rattle.settings_spec.specs.Settings.{service_fault, services_fault, service_of, services_of, service_texts}
+use Rattle.settings_spec.specs.Refusal.{AreServiceRules, AreRuleLists}
 use Rattle.plan_spec.specs.Valid.{has_valid_values}
 use Rattle.plan.specs.Parts.{service_seen, services_seen}
 use Rattle.settings_keys.specs.Lists.{views, tables_of}
-use Rattle.service_plan.specs.Services.{IsServiceOf, HasRulesOf, ruled}
+use Rattle.service_plan.specs.Services.{IsServiceOf, SpellsService, rules_read, ruled}
 use Rattle.service_plan.specs.Drafts.{rules_seen, texts_of_rules, AreServicesOf}
 use Rattle.plan.specs.declared.service.Service.{Service}
 use Rattle.service_plan.specs.declared.service_draft.ServiceDraft.{ServiceDraft}
@@ -24,9 +24,9 @@ use Rattle.service_plan.specs.declared.services.ServicesDraft.{ServicesDraft}
 -- what was read of all tables, the rest of them still to come
 pub record ServicesSoFar (all rest : List Members) (list : List Service) (spelled : Bool) : Type 0 where
   pub fault : services_fault all ≡ services_fault rest
-  pub seen : (later : List (List Rule)) → services_with (services_of 0 all) (rules_seen list ++ later) ≡ services_seen list ++ services_with (services_of (length list) rest) later
-  pub forth : spelled ≡ true → (later : List (List Rule)) → AreRuleLists (texts_of_rules rest) later → AreRuleLists (texts_of_rules all) (rules_seen list ++ later)
-  pub back : (whole : List (List Rule)) → AreRuleLists (texts_of_rules all) whole → (spelled ≡ true) × ((later : List (List Rule)) × (whole ≡ rules_seen list ++ later) × AreRuleLists (texts_of_rules rest) later)
+  pub seen : (later : List (ServiceRules Rule)) → services_with (services_of 0 all) (rules_seen list ++ later) ≡ services_seen list ++ services_with (services_of (length list) rest) later
+  pub forth : spelled ≡ true → (later : List (ServiceRules Rule)) → AreRuleLists (texts_of_rules rest) later → AreRuleLists (texts_of_rules all) (rules_seen list ++ later)
+  pub back : (whole : List (ServiceRules Rule)) → AreRuleLists (texts_of_rules all) whole → (spelled ≡ true) × ((later : List (ServiceRules Rule)) × (whole ≡ rules_seen list ++ later) × AreRuleLists (texts_of_rules rest) later)
   pub valid : list_all (has_valid_values 32) (services_seen list) ≡ true
   pub count : length list + length rest ≡ length all
 
@@ -45,9 +45,9 @@ seen_more : (list : List Service) (service : Service) → services_seen (list ++
 seen_more [] service = refl
 seen_more (x ∷ list) service = ap (λ rest. service_seen x ∷ rest) (seen_more list service)
 
-rules_more : (list : List Service) (service : Service) (later : List (List Rule)) → rules_seen (list ++ service ∷ []) ++ later ≡ rules_seen list ++ service.rules ∷ later
+rules_more : (list : List Service) (service : Service) (later : List (ServiceRules Rule)) → rules_seen (list ++ service ∷ []) ++ later ≡ rules_seen list ++ own_rules (service_seen service) ∷ later
 rules_more [] service later = refl
-rules_more (x ∷ list) service later = ap (λ rest. x.rules ∷ rest) (rules_more list service later)
+rules_more (x ∷ list) service later = ap (λ rest. own_rules (service_seen x) ∷ rest) (rules_more list service later)
 
 valid_more : (xs : List ServiceFields) (x : ServiceFields) → list_all (has_valid_values 32) xs ≡ true → has_valid_values 32 x ≡ true → list_all (has_valid_values 32) (xs ++ x ∷ []) ≡ true
 valid_more [] x all here = rw here
@@ -57,37 +57,37 @@ both_true : (a b : Bool) → a ≡ true → b ≡ true → (a && b) ≡ true
 both_true a b x y = rw (x, y)
 
 -- the rules of one service more
-split_lists : (texts : List (List ℕ)) (rest : List (List (List ℕ))) (rules : List Rule) (spelled : Bool) (before whole later : List (List Rule))
-    → ((others : List Rule) → AreRules texts others → (spelled ≡ true) × (others ≡ rules))
+split_lists : (texts : ServiceRules (List ℕ)) (rest : List (ServiceRules (List ℕ))) (rules : ServiceRules Rule) (spelled : Bool) (before whole later : List (ServiceRules Rule))
+    → ((others : ServiceRules Rule) → AreServiceRules texts others → (spelled ≡ true) × (others ≡ rules))
     → whole ≡ before ++ later → AreRuleLists (texts ∷ rest) later
-    → (spelled ≡ true) × ((more : List (List Rule)) × (whole ≡ before ++ rules ∷ more) × AreRuleLists rest more)
+    → (spelled ≡ true) × ((more : List (ServiceRules Rule)) × (whole ≡ before ++ rules ∷ more) × AreRuleLists rest more)
 split_lists texts rest rules spelled before whole [] only same are = absurd are
 split_lists texts rest rules spelled before whole (first ∷ later) only same are =
     let found = only first are.0 in
     (found.0, (later, same ∙ ap (λ x. before ++ x ∷ later) found.1, are.1))
 
 back_more : (m : Members) (all rest : List Members) (list : List Service) (spelled : Bool) (draft : ServiceDraft) → ServicesSoFar all (m ∷ rest) list spelled
-    → HasRulesOf (texts_at (codes "rules") m) draft → (whole : List (List Rule)) → AreRuleLists (texts_of_rules all) whole
-    → ((spelled && draft.spelled) ≡ true) × ((later : List (List Rule)) × (whole ≡ rules_seen (list ++ draft.service ∷ []) ++ later) × AreRuleLists (texts_of_rules rest) later)
+    → SpellsService (service_texts m) (rules_read draft) draft.spelled → (whole : List (ServiceRules Rule)) → AreRuleLists (texts_of_rules all) whole
+    → ((spelled && draft.spelled) ≡ true) × ((later : List (ServiceRules Rule)) × (whole ≡ rules_seen (list ++ draft.service ∷ []) ++ later) × AreRuleLists (texts_of_rules rest) later)
 back_more m all rest list spelled draft far rules whole are =
     let before = far.back whole are in
-    let split = split_lists (texts_at (codes "rules") m) (texts_of_rules rest) draft.service.rules draft.spelled (rules_seen list) whole before.1.0 rules.only before.1.1 before.1.2 in
+    let split = split_lists (service_texts m) (texts_of_rules rest) (rules_read draft) draft.spelled (rules_seen list) whole before.1.0 rules.only before.1.1 before.1.2 in
     (both_true spelled draft.spelled before.0 split.0, (split.1.0, split.1.1 ∙ sym (rules_more list draft.service split.1.0), split.1.2))
 
 forth_more : (m : Members) (all rest : List Members) (list : List Service) (spelled : Bool) (draft : ServiceDraft) → ServicesSoFar all (m ∷ rest) list spelled
-    → HasRulesOf (texts_at (codes "rules") m) draft → (spelled && draft.spelled) ≡ true → (later : List (List Rule)) → AreRuleLists (texts_of_rules rest) later
+    → SpellsService (service_texts m) (rules_read draft) draft.spelled → (spelled && draft.spelled) ≡ true → (later : List (ServiceRules Rule)) → AreRuleLists (texts_of_rules rest) later
     → AreRuleLists (texts_of_rules all) (rules_seen (list ++ draft.service ∷ []) ++ later)
 forth_more m all rest list spelled draft far rules spells later are =
     let (before, here) = and_parts spelled draft.spelled spells in
-    rw (rules_more list draft.service later) (far.forth before (draft.service.rules ∷ later) (rules.spelled here, are))
+    rw (rules_more list draft.service later) (far.forth before (rules_read draft ∷ later) (rules.all here, are))
 
 seen_one_more : (m : Members) (all rest : List Members) (list : List Service) (spelled : Bool) (service : Service) → ServicesSoFar all (m ∷ rest) list spelled
-    → service_seen service ≡ ruled (service_of (length list) m) service.rules → (later : List (List Rule))
+    → service_seen service ≡ ruled (service_of (length list) m) (own_rules (service_seen service)) → (later : List (ServiceRules Rule))
     → services_with (services_of 0 all) (rules_seen (list ++ service ∷ []) ++ later) ≡ services_seen (list ++ service ∷ []) ++ services_with (services_of (length (list ++ service ∷ [])) rest) later
 seen_one_more m all rest list spelled service far is later =
     let count : length (list ++ service ∷ []) ≡ length list + 1 = length-append list (service ∷ []) in
     rw (rules_more list service later, seen_more list service, count, append_assoc (services_seen list) (service_seen service ∷ []) (services_with (services_of (length list + 1) rest) later), is)
-    (far.seen (service.rules ∷ later))
+    (far.seen (own_rules (service_seen service) ∷ later))
 
 pub one_service_more : (m : Members) (all rest : List Members) (list : List Service) (spelled : Bool) (draft : ServiceDraft) → ServicesSoFar all (m ∷ rest) list spelled
     → service_fault m ≡ None → IsServiceOf m (length list) draft → ServicesSoFar all rest (list ++ draft.service ∷ []) (spelled && draft.spelled)
@@ -106,7 +106,7 @@ pub wrong_service : (m : Members) (all rest : List Members) (list : List Service
 wrong_service m all rest list spelled far = far.fault
 
 -- where no table is left, the services are those of all tables
-last_lists : (before whole later : List (List Rule)) → whole ≡ before ++ later → AreRuleLists [] later → whole ≡ before
+last_lists : (before whole later : List (ServiceRules Rule)) → whole ≡ before ++ later → AreRuleLists [] later → whole ≡ before
 last_lists before whole [] same are = same ∙ append-nil before
 last_lists before whole (first ∷ later) same are = absurd are
 

@@ -3,16 +3,15 @@ use Rattle.std.proofs.Common.{◌≡◌, ℕ, suc, ◌+◌, ◌-◌, ◌<◌, �
 use Rattle.std.specs.Prelude.{nat_le, slice_get}
 use Rattle.std.specs.List.{list_any, range_with_len}
 use Rattle.std.proofs.lemmas.List.{drop_more, drop_all, length-map}
-use Rattle.plan_spec.specs.Plan.{ServiceFields, ChangeFields, PlanFields, pid_of, rule_lists}
+use Rattle.plan_spec.specs.Plan.{ServiceFields, ChangeFields, PlanFields, pid_of}
 use Rattle.plan_spec.specs.Checks.{has_pair, has_wrong_count}
 use Rattle.plan_spec.specs.Wholes.{has_wrong_rules}
-use Rattle.plan_spec.specs.Changes.{no_service, with_change, services_in, plan_in, pid_in, pids_in, with_last, with_pid_behind, all_pids, rises_from, moves_wrongly, has_wrong_change}
+use Rattle.plan_spec.specs.Changes.{no_service, with_change, services_in, pid_in, pids_in, with_last, with_pid_behind, all_pids, rises_from, moves_wrongly, has_wrong_change}
 use Rattle.plan.specs.Parts.{services_seen, moved_seen, change_seen, changes_seen}
 use Rattle.plan.specs.declared.change.Moved.{Moved}
 use Rattle.plan.specs.declared.change.Change.{Change}
 use Rattle.plan.specs.declared.service.Service.{Service}
 use Rattle.service_plan.specs.Moves.{services_after, pid_seen, pids_seen, ends_so}
-use Rattle.service_plan.proofs.CheckLemmas.{rules_of}
 use Rattle.service_plan.proofs.MoveLemmas.{services_of_version}
 
 -- Numbers that stand twice.
@@ -112,11 +111,11 @@ module _ (plan : PlanFields) (services : List Service) (changes : List Change) (
       (map_same (λ version. pid_in plan version k) (λ version. pid_seen services (take version changes) k) (λ version. pid_is version k) (range_with_len 0 (length changes + 1)))
 
   -- its rules
-  pub rules_are : has_wrong_rules plan ≡ list_any (λ version. has_wrong_count (rules_of (services_after services (take version changes)))) (range_with_len 0 (length changes + 1))
+  pub rules_are : has_wrong_rules plan ≡ list_any (λ version. has_wrong_count (services_after services (take version changes))) (range_with_len 0 (length changes + 1))
   rules_are =
-      ap (λ (n : ℕ). list_any (λ version. has_wrong_count (rule_lists (plan_in plan version))) (range_with_len 0 (n + 1))) count_is
-      ∙ any_same (λ version. has_wrong_count (rule_lists (plan_in plan version))) (λ version. has_wrong_count (rules_of (services_after services (take version changes))))
-      (λ version. ap (λ (l : List ServiceFields). has_wrong_count (rules_of l)) (services_in_version version)) (range_with_len 0 (length changes + 1))
+      ap (λ (n : ℕ). list_any (λ version. has_wrong_count (services_in plan version)) (range_with_len 0 (n + 1))) count_is
+      ∙ any_same (λ version. has_wrong_count (services_in plan version)) (λ version. has_wrong_count (services_after services (take version changes)))
+      (λ version. ap has_wrong_count (services_in_version version)) (range_with_len 0 (length changes + 1))
 
 -- the whole check
 abbrev wrong_by : PlanFields → Bool → Bool → Bool → Bool

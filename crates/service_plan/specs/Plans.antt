@@ -2,7 +2,7 @@
 use Rattle.std.specs.Prelude.{◌≡◌, ◌≤◌, true, List, length, map, codes, Option}
 use Rattle.toml.specs.Data.{Members}
 use Rattle.addr_rules.specs.declared.rules.Rule.{Rule}
-use Rattle.plan_spec.specs.Plan.{PlanFields, with_rules}
+use Rattle.plan_spec.specs.Plan.{ServiceRules, PlanFields, with_rules}
 use Rattle.settings_spec.specs.Keys.{SettingsFault, key_fault, unknown_fault, keys_fault, first_of, table_at, tables_at}
 use Rattle.settings_spec.specs.Changes.{ChangeValues, without_rules, with_changes}
 use Rattle.settings_spec.specs.Settings.{top_names, value_keys, int_key, service_key, change_key, int_fault, services_fault, changes_fault, changes_at, plan_of}
@@ -28,7 +28,7 @@ pub record IsDraftOf (top : Members) (draft : Draft) : Type 0 where
   pub seen : draft_seen draft ≡ with_changes (with_rules (plan_of top) (rules_seen draft.services)) changes
   pub same : map without_rules changes ≡ map without_rules (changes_at top)
   pub spelled : draft.spelled ≡ true → AreSpelled top (rules_seen draft.services) changes
-  pub only : (lists : List (List Rule)) (others : List (ChangeValues Rule)) → AreSpelled top lists others
+  pub only : (lists : List (ServiceRules Rule)) (others : List (ChangeValues Rule)) → AreSpelled top lists others
       → (draft.spelled ≡ true) × ((lists ≡ rules_seen draft.services) × (others ≡ changes))
   pub rate : 1 ≤ draft.packet_rate
   pub count : length draft.services ≤ 64

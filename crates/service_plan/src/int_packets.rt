@@ -2,7 +2,7 @@
 ghost use Rattle.std.specs.Prelude.{◌≡◌, ℕ, ◌≤◌, false, length, map, flat_map, sum_by, max};
 ghost use Rattle.int_spec.specs.Table.{TableFields, entry_bytes};
 ghost use Rattle.int_table.specs.Views.{HaveSlices};
-ghost use Rattle.plan_spec.specs.Plan.{rule_lists};
+ghost use Rattle.plan_spec.specs.Plan.{all_rule_lists};
 ghost use Rattle.plan_spec.specs.Checks.{has_too_many_rules};
 ghost use Rattle.plan_spec.specs.Signalling.{entry_of, slices_of, table_packets as packets_of_plan};
 ghost use Rattle.plan_spec.specs.Changes.{plan_in};
@@ -46,7 +46,7 @@ fn entries_size(services: &[Service], changes: &[Change]) -> usize
 fn table_packets(draft: &Draft, version: usize) -> u32
     requires services { length draft.now.services ≤ 64 }
     requires version { version ≤ length draft.now.changes }
-    requires rules { has_too_many_rules (rule_lists (plan_in (draft_seen draft.now) version)) ≡ false }
+    requires rules { has_too_many_rules (all_rule_lists (plan_in (draft_seen draft.now) version)) ≡ false }
     ensures read { result ≡ packets_of_plan (plan_in (draft_seen draft.now) version) }
 {
     match &draft.table {

@@ -8,10 +8,12 @@ ghost use Rattle.service_plan.specs.Services.{IsServiceOf};
 
 use crate::fault::PlanError;
 use crate::service_draft::{ServiceDraft, filter, finish};
+use crate::services::both;
 use addr_rules::MacList;
 use plan::Kind;
 use settings_keys::{
-    Key, flag, kind_word, name_text, number, pid, refuse_unknown, rows, rule_items, word,
+    Key, flag, kind_word, name_text, number, pid, refuse_unknown, rows, rule_items, rules,
+    urgent_items, word,
 };
 use std::alloc::Global;
 use toml::Table;
@@ -73,12 +75,13 @@ const SLICED_KEYS: [Key; 12] = [
 ];
 
 /// The keys of a GSE service.
-const GSE_KEYS: [Key; 9] = [
+const GSE_KEYS: [Key; 10] = [
     Key::Name,
     Key::Kind,
     Key::Isi,
     Key::Address,
     Key::Rules,
+    Key::Urgent,
     Key::Filter,
     Key::Unicast,
     Key::ServiceId,
@@ -175,7 +178,7 @@ fn sliced(alloc: Global, place: u8, table: &Table) -> Result<ServiceDraft, PlanE
     finish(alloc, place, table, name, kind, items, filter)
 }
 
-/// Reads a GSE service.
+/// Reads a GSE service, which alone may have urgent rules.
 #[tactic(auto, using(settings_keys::proofs::KeyLemmas::first_here, settings_keys::proofs::KeyLemmas::first_later, crate::proofs::KeyLemmas::error_here, crate::proofs::KeyLemmas::error_later))]
 fn gse(alloc: Global, place: u8, table: &Table) -> Result<ServiceDraft, PlanError>
     requires not_ule { bytes_eq (kind_text (table_view table.now)) (codes "ule") ≡ false }
@@ -189,12 +192,19 @@ fn gse(alloc: Global, place: u8, table: &Table) -> Result<ServiceDraft, PlanErro
     let isi = number(table, Key::Isi, 0, 255, None)?;
     let address = flag(table, Key::Address)?;
     let items = rule_items(table)?;
+    let urgent_items = urgent_items(table)?;
     let filter = filter(alloc, table)?;
+    let (urgent, spelled) = rules(alloc, urgent_items)?;
     let kind = Kind::Gse {
         isi: isi as u8,
         address,
+        urgent,
     };
-    finish(alloc, place, table, name, kind, items, filter)
+    let draft = finish(alloc, place, table, name, kind, items, filter)?;
+    Ok(ServiceDraft {
+        service: draft.service,
+        spelled: both(draft.spelled, spelled),
+    })
 }
 
 /// Reads a service with frames.

@@ -1,10 +1,11 @@
 //! The checks over a whole plan, in their order.
-ghost use Rattle.std.specs.Prelude.{◌≡◌, ◌≤◌, ◌+◌, ◌||◌, ◌==◌, nat_lt, not, length, map, take};
+ghost use Rattle.std.specs.Prelude.{◌≡◌, ◌≤◌, ◌<◌, ◌+◌, ◌||◌, ◌==◌, List, nat_lt, not, length, take};
+ghost use Rattle.plan.specs.declared.change.Change.{Change};
 ghost use Rattle.std.specs.List.{list_all, list_any, range_with_len};
 ghost use Rattle.plan_spec.specs.Checks.{is_gse as is_gse_kind, has_wrong_carrier as has_bad_carrier, has_wrong_count};
 ghost use Rattle.plan_spec.specs.Wholes.{has_wrong_rules as has_bad_rules};
-ghost use Rattle.plan.specs.Parts.{kind_seen};
-ghost use Rattle.service_plan.specs.Moves.{services_after};
+ghost use Rattle.plan.specs.Parts.{kind_seen, urgent_seen};
+ghost use Rattle.service_plan.specs.Moves.{services_after, service_after};
 ghost use Rattle.service_plan.specs.Plans.{draft_seen};
 ghost use Rattle.service_plan.specs.Reading.{AnswersOrWants, Always};
 ghost use Rattle.service_plan.specs.Order.{whole_fault};
@@ -22,7 +23,7 @@ use crate::window_checks::{
 use plan::{Change, Kind, Service};
 use std::alloc::Global;
 
-/// The rules of all services together, at most.
+/// The rules of all services together, the urgent ones among them, at most.
 const MOST_RULES: usize = 128;
 
 fn is_gse(kind: &Kind) -> bool
@@ -63,26 +64,49 @@ fn has_wrong_carrier(draft: &Draft) -> bool
     has_gse(services)
 }
 
-/// Whether a service has no rule, or more than those before it leave.
-fn is_wrong_count(count: usize, total: usize) -> bool
-    requires { total ≤ 128 }
-    ensures { result ≡ ((count == 0) || nat_lt 128 (total + count)) }
+/// How many urgent rules a kind has.
+fn urgent_of_kind(kind: &Kind) -> usize
+    ensures { result ≡ length (urgent_seen kind.now) }
 {
-    count == 0 || count > MOST_RULES - total
+    match kind {
+        Kind::Gse { urgent, .. } => urgent.len(),
+        _ => 0,
+    }
+}
+
+/// How many urgent rules a service has, after whatever changes: they move none of these.
+fn urgent_count(services: &[Service], service: u32) -> usize
+    requires { service < length services.now }
+    ensures { (changes : List Change) → result ≡ length (service_after services.now changes service).urgent }
+{
+    let k = service as usize;
+    urgent_of_kind(&services[k].kind)
+}
+
+/// Whether a service has no rule, or, with its urgent ones, more than those before it leave.
+fn is_wrong_count(count: usize, urgent: usize, total: usize) -> bool
+    requires { total ≤ 128 }
+    ensures { result ≡ ((count == 0) || nat_lt 128 (total + (count + urgent))) }
+{
+    if count == 0 || count > MOST_RULES - total {
+        return true;
+    }
+    urgent > MOST_RULES - total - count
 }
 
 /// Whether a service has no rule after some changes, or there are more rules than a plan may have.
 fn has_wrong_counts(services: &[Service], changes: &[Change]) -> bool
     requires { length services.now ≤ 64 }
-    ensures { result ≡ has_wrong_count (map (λ s. s.rules) (services_after services.now changes.now)) }
+    ensures { result ≡ has_wrong_count (services_after services.now changes.now) }
 {
     let mut total = 0;
     for service in 0..services.len() {
         let count = rules_after(services, changes, service as u32).len();
-        if is_wrong_count(count, total) {
+        let urgent = urgent_count(services, service as u32);
+        if is_wrong_count(count, urgent, total) {
             return true;
         }
-        total += count;
+        total += count + urgent;
     }
     false
 }
@@ -90,7 +114,7 @@ fn has_wrong_counts(services: &[Service], changes: &[Change]) -> bool
 /// Whether the counts are wrong in a version.
 fn any_wrong_counts(services: &[Service], changes: &[Change]) -> bool
     requires { length services.now ≤ 64 }
-    ensures { result ≡ list_any (λ version. has_wrong_count (map (λ s. s.rules) (services_after services.now (take version changes.now)))) (range_with_len 0 (length changes.now + 1)) }
+    ensures { result ≡ list_any (λ version. has_wrong_count (services_after services.now (take version changes.now))) (range_with_len 0 (length changes.now + 1)) }
 {
     for version in 0..changes.len() + 1 {
         if has_wrong_counts(services, &changes[..version]) {

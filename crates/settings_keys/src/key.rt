@@ -51,6 +51,8 @@ pub enum Key {
     WindowLength,
     /// `rules` of a service.
     Rules,
+    /// `urgent`: the rules by which datagrams of a service are urgent.
+    Urgent,
     /// `filter` of a service.
     Filter,
     /// `unicast`: the address for datagrams to one receiver.
@@ -94,6 +96,7 @@ impl Key {
             Key::WindowStart => "window_start",
             Key::WindowLength => "window_length",
             Key::Rules => "rules",
+            Key::Urgent => "urgent",
             Key::Filter => "filter",
             Key::Unicast => "unicast",
             Key::ServiceId => "service_id",

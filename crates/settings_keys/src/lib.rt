@@ -14,6 +14,7 @@ pub use fault::PlanFault;
 pub use key::Key;
 pub use lists::{
     addresses, change_items, filter_items, moved_rules, rule_items, rules, table_items,
+    urgent_items,
 };
 pub use unknown::refuse_unknown;
 pub use values::{

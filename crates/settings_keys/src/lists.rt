@@ -76,6 +76,20 @@ pub fn rule_items(table: &Table) -> Result<&[Value], PlanFault>
     }
 }
 
+/// The items of `urgent`, texts, or none where the key is absent.
+pub fn urgent_items(table: &Table) -> Result<&[Value], PlanFault>
+    ensures read { Reads result (rule_for Key.Urgent false texts) (table_view table.now) (λ v. views v.now ≡ items_at (codes "urgent") (table_view table.now)) }
+{
+    let value = match find(table, Key::Urgent) {
+        Some(value) => value,
+        None => return Ok(&[]),
+    };
+    match text_list(value) {
+        Some(items) => Ok(items),
+        None => Err(PlanFault::Type_(Key::Urgent)),
+    }
+}
+
 /// The items of `filter`, texts, where there is one.
 pub fn filter_items(table: &Table) -> Result<Option<&[Value]>, PlanFault>
     ensures there { IfOk result (λ o. MatchOption o (None ≡ get_member (codes "filter") (table_view table.now)) (λ v. IsTextList (get_member (codes "filter") (table_view table.now)) (views v.now))) }

@@ -5,7 +5,7 @@ use Rattle.std.specs.List.{list_any, range_with_len, take-map, AllZip}
 use Rattle.std.proofs.lemmas.List.{length-map, map-set}
 use Rattle.toml.specs.Data.{Members}
 use Rattle.addr_rules.specs.declared.rules.Rule.{Rule}
-use Rattle.plan_spec.specs.Plan.{ServiceFields, MovedFields, ChangeFields, PlanFields, pid_of, table_pids, services_with, with_rules}
+use Rattle.plan_spec.specs.Plan.{ServiceFields, MovedFields, ChangeFields, PlanFields, pid_of, table_pids, ServiceRules, services_with, with_rules}
 use Rattle.plan_spec.specs.Checks.{has_pair}
 use Rattle.plan_spec.specs.Changes.{moved_to, no_service, with_moved, with_change, services_in, pid_in, pids_in, with_pid_behind, all_pids, rises_from, moves_wrongly, has_wrong_change}
 use Rattle.settings_spec.specs.Keys.{tables_at}
@@ -16,7 +16,7 @@ use Rattle.settings_spec.specs.Refusal.{IsSpelledMoved, IsSpelledChange}
 -- Services, moves, changes and plans without rules.
 
 abbrev pub bare : ServiceFields → ServiceFields
-bare service = record service { rules = [] }
+bare service = record service { rules = []; urgent = [] }
 
 abbrev pub bare_move : MovedFields → MovedFields
 bare_move moved = record moved { rules = [] }
@@ -165,7 +165,7 @@ same_changes (text ∷ texts) (change ∷ changes) are =
 
 -- The plan of a table.
 
-with_rules_bare : (services : List ServiceFields) (lists : List (List Rule)) → map bare (services_with services lists) ≡ map bare services
+with_rules_bare : (services : List ServiceFields) (lists : List (ServiceRules Rule)) → map bare (services_with services lists) ≡ map bare services
 with_rules_bare [] lists = refl
 with_rules_bare (s ∷ services) [] = refl
 with_rules_bare (s ∷ services) (rules ∷ lists) = ap (λ (l : List ServiceFields). bare s ∷ l) (with_rules_bare services lists)
@@ -174,7 +174,7 @@ of_table_bare : (place : ℕ) (ms : List Members) → map bare (services_of plac
 of_table_bare place [] = refl
 of_table_bare place (m ∷ ms) = ap (λ (l : List ServiceFields). service_of place m ∷ l) (of_table_bare (place + 1) ms)
 
-plan_bare : (top : Members) (lists : List (List Rule)) (changes : List (ChangeValues Rule)) → map without_rules changes ≡ map without_rules (changes_at top)
+plan_bare : (top : Members) (lists : List (ServiceRules Rule)) (changes : List (ChangeValues Rule)) → map without_rules changes ≡ map without_rules (changes_at top)
     → bare_plan (with_changes (with_rules (plan_of top) lists) changes) ≡ plan_of top
 unfolding plan_of
 plan_bare top lists changes alike =
@@ -185,11 +185,11 @@ plan_bare top lists changes alike =
     ∙ ap₂ (λ (s : List ServiceFields) (c : List (ChangeValues Rule)). changes_by s c) same alike)
 
 -- it has a wrong change exactly where it has one without rules, whether the texts spell them or not
-pub wrong_alike : (top : Members) (lists : List (List Rule)) (changes : List (ChangeValues Rule)) → map without_rules changes ≡ map without_rules (changes_at top)
+pub wrong_alike : (top : Members) (lists : List (ServiceRules Rule)) (changes : List (ChangeValues Rule)) → map without_rules changes ≡ map without_rules (changes_at top)
     → has_wrong_change (with_changes (with_rules (plan_of top) lists) changes) ≡ has_wrong_change (plan_of top)
 wrong_alike top lists changes alike =
     sym (wrong_bare (with_changes (with_rules (plan_of top) lists) changes)) ∙ ap has_wrong_change (plan_bare top lists changes alike)
 
-pub wrong_with : (top : Members) (lists : List (List Rule)) (changes : List (ChangeValues Rule)) → AllZip IsSpelledChange (changes_at top) changes
+pub wrong_with : (top : Members) (lists : List (ServiceRules Rule)) (changes : List (ChangeValues Rule)) → AllZip IsSpelledChange (changes_at top) changes
     → has_wrong_change (with_changes (with_rules (plan_of top) lists) changes) ≡ has_wrong_change (plan_of top)
 wrong_with top lists changes are = wrong_alike top lists changes (same_changes (changes_at top) changes are)

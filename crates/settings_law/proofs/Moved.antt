@@ -1,5 +1,5 @@
 -- Services after the changes of accepted settings have values in their ranges, and rules that can be written.
-use Rattle.std.proofs.Common.{◌≡◌, ◌⊎◌, inl, inr, ℕ, zero, suc, ◌+◌, ◌<◌, ◌≤◌, Bool, true, false, List, [], ◌∷◌, length, map, fold, take, set, get_or, Option, Some, None, codes, refl, ap, sym, ◌∙◌, arith}
+use Rattle.std.proofs.Common.{◌≡◌, ◌⊎◌, inl, inr, ℕ, zero, suc, ◌+◌, ◌<◌, ◌≤◌, Bool, true, false, ◌&&◌, List, [], ◌∷◌, length, map, fold, take, set, get_or, Option, Some, None, codes, refl, ap, sym, ◌∙◌, arith}
 use Rattle.std.specs.Prelude.{All}
 use Rattle.std.specs.List.{list_all, AllZip}
 use Rattle.std.specs.Option.{unwrap_or, option_and_then}
@@ -9,7 +9,7 @@ use Rattle.std.proofs.lemmas.Slice.Zip.{AllZip-long}
 use Rattle.toml.specs.Data.{Data, Members, get_member}
 use Rattle.addr_rules.specs.declared.rules.Rule.{Rule}
 use Rattle.int_spec.specs.Table.{IsRule}
-use Rattle.plan_spec.specs.Plan.{KindFields, ule, mpe, fec, gse, ServiceFields, MovedFields, pid_of, services_with}
+use Rattle.plan_spec.specs.Plan.{KindFields, ule, mpe, fec, gse, ServiceFields, ServiceRules, MovedFields, pid_of, services_with}
 use Rattle.plan_spec.specs.Checks.{is_between, is_service_name, is_gse}
 use Rattle.plan_spec.specs.Changes.{with_pid, moved_to, no_service, with_moved, with_change}
 use Rattle.plan_spec.specs.Valid.{is_valid_kind, is_valid_rule, has_valid_values, is_valid_service}
@@ -17,7 +17,7 @@ use Rattle.plan_spec.specs.Wholes.{is_valid_change}
 use Rattle.plan_law.proofs.Kept.{gse_stays, by_moved}
 use Rattle.settings_spec.specs.Keys.{wrong_type, out_of_range, range, has_type, in_range, as_natural, holds, optional, required, value_fault, key_fault, table_fault, texts_at, number_at, tables_at}
 use Rattle.settings_spec.specs.Changes.{MovedValues, ChangeValues, moved_values, change_values, place_of_name, moved_by, change_by, changes_by}
-use Rattle.settings_spec.specs.Settings.{change_keys, moved_keys, moved_fault, change_fault, changes_fault, services_fault, services_of}
+use Rattle.settings_spec.specs.Settings.{change_keys, moved_keys, moved_fault, change_fault, changes_fault, services_fault, services_of, urgent_texts, service_texts}
 use Rattle.settings_spec.specs.Refusal.{AreRuleLists, AreNewRules, IsSpelledMoved, IsSpelledChange}
 use Rattle.settings_law.proofs.Keys.{first_none, key_of_table, passed, number_between}
 use Rattle.settings_law.proofs.Services.{both_true, values_hold, rules_hold, rules_are}
@@ -27,6 +27,7 @@ use Rattle.settings_law.proofs.Tops.{count_holds}
 pub record IsGood (service : ServiceFields) : Type 0 where
   pub values : has_valid_values 32 service ≡ true
   pub rules : list_all is_valid_rule service.rules ≡ true
+  pub urgent : list_all is_valid_rule service.urgent ≡ true
   pub written : All IsRule service.rules
 
 abbrev pub AreGood : List ServiceFields → Type 0
@@ -38,7 +39,9 @@ pub all_valid : (services : List ServiceFields) → AreGood services → list_al
 all_valid [] good = refl
 all_valid (service ∷ services) good =
     both_true (is_valid_service 32 service) (list_all (is_valid_service 32) services)
-    (both_true (has_valid_values 32 service) (list_all is_valid_rule service.rules) good.0.values good.0.rules) (all_valid services good.1)
+    (both_true (has_valid_values 32 service) (list_all is_valid_rule service.rules && list_all is_valid_rule service.urgent) good.0.values
+    (both_true (list_all is_valid_rule service.rules) (list_all is_valid_rule service.urgent) good.0.rules good.0.urgent))
+    (all_valid services good.1)
 
 pub all_written : (services : List ServiceFields) → AreGood services → All (All IsRule) (map (λ (service : ServiceFields). service.rules) services)
 all_written [] good k d less = absurd (omega (arith, less))
@@ -46,16 +49,17 @@ all_written (service ∷ services) good zero d less = good.0.written
 all_written (service ∷ services) good (suc k) d less = all_written services good.1 k d (omega (arith, less))
 
 -- those of the tables are
-pub services_good : (place : ℕ) (ms : List Members) (lists : List (List Rule)) → place + length ms ≤ 256 → services_fault ms ≡ None
-    → AreRuleLists (map (texts_at (codes "rules")) ms) lists → AreGood (services_with (services_of place ms) lists)
+pub services_good : (place : ℕ) (ms : List Members) (lists : List (ServiceRules Rule)) → place + length ms ≤ 256 → services_fault ms ≡ None
+    → AreRuleLists (map service_texts ms) lists → AreGood (services_with (services_of place ms) lists)
 services_good place [] lists few none are = tt
 services_good place (m ∷ ms) [] few none are = absurd are
-services_good place (m ∷ ms) (rules ∷ lists) few none are =
+services_good place (m ∷ ms) (own ∷ lists) few none are =
     let parts = first_none _ (services_fault ms) none in (
       record {
         values = values_hold place m (omega (arith, few)) parts.0;
-        rules = rules_hold (texts_at (codes "rules") m) rules are.0;
-        written = rules_are (texts_at (codes "rules") m) rules are.0;
+        rules = rules_hold (texts_at (codes "rules") m) own.rules are.0.rules;
+        urgent = rules_hold (urgent_texts m) own.urgent are.0.urgent;
+        written = rules_are (texts_at (codes "rules") m) own.rules are.0.rules;
       },
       services_good (place + 1) ms lists (omega (arith, few)) parts.1 are.1,
     )
@@ -149,6 +153,7 @@ moves_good start services same good (moved ∷ moves) right =
       values = values_again (get_or services moved.service no_service) moved before.values
           (fits_still services start moved.service moved.pid same (right.0.fits (lengths less)));
       rules = right.0.rules;
+      urgent = before.urgent;
       written = right.0.written;
     }))
     moves right.1

@@ -8,7 +8,7 @@ use Rattle.addr_rules.specs.Macs.{broadcast_mac}
 use Rattle.addr_rules.specs.Texts.{bit_count}
 use Rattle.addr_rules.specs.declared.rules.Rule.{Rule}
 use Rattle.int_spec.specs.Table.{IsRule}
-use Rattle.plan_spec.specs.Plan.{WindowFields, KindFields, ule, mpe, fec, gse, ServiceFields, services_with}
+use Rattle.plan_spec.specs.Plan.{WindowFields, KindFields, ule, mpe, fec, gse, ServiceFields, ServiceRules, services_with}
 use Rattle.plan_spec.specs.Checks.{is_between, is_row_count, is_service_name}
 use Rattle.settings_spec.specs.Keys.{range, row_count, address_text, KeyRule, optional, required, key_fault, table_fault, text_or, number_or, flag_or}
 use Rattle.settings_spec.specs.Settings.{name_key, kind_key, pid_key, mode_key, ule_keys, mpe_keys, indexed_keys, sliced_keys, gse_keys, kind_text, is_sliced_mode, fec_fault, kind_fault, service_fault, services_fault, window_of, kind_of, service_of, services_of}
@@ -76,9 +76,9 @@ gse_holds m none = (
   number_between 0 255 0 (codes "isi") true m (key_of_table gse_keys (required (codes "isi") (range 0 255)) m none (inr (inr (inl refl)))) (λ never. absurd (cc)),
   record {
     name = key_of_table gse_keys name_key m none (inl refl);
-    unicast = key_of_table gse_keys unicast_key m none (inr (inr (inr (inr (inr (inr (inl refl)))))));
-    service_id = key_of_table gse_keys service_id_key m none (inr (inr (inr (inr (inr (inr (inr (inl refl))))))));
-    tag = key_of_table gse_keys tag_key m none (inr (inr (inr (inr (inr (inr (inr (inr (inl refl)))))))));
+    unicast = key_of_table gse_keys unicast_key m none (inr (inr (inr (inr (inr (inr (inr (inl refl))))))));
+    service_id = key_of_table gse_keys service_id_key m none (inr (inr (inr (inr (inr (inr (inr (inr (inl refl)))))))));
+    tag = key_of_table gse_keys tag_key m none (inr (inr (inr (inr (inr (inr (inr (inr (inr (inl refl))))))))));
   },
 )
 
@@ -203,14 +203,14 @@ broadcast_is = record { size = refl; bytes = each }
     each (suc (suc (suc (suc (suc (suc n)))))) x less = absurd (omega (arith, less))
 
 -- the addresses of their receivers
-pub unicasts_are : (place : ℕ) (ms : List Members) (lists : List (List Rule)) → services_fault ms ≡ None
+pub unicasts_are : (place : ℕ) (ms : List Members) (lists : List (ServiceRules Rule)) → services_fault ms ≡ None
     → All IsMac (map (λ (service : ServiceFields). service.unicast) (services_with (services_of place ms) lists))
 unicasts_are place [] lists none k d less = absurd (omega (arith, less))
 unicasts_are place (m ∷ ms) lists none k d less =
     by_lists lists (first_none (service_fault m) (services_fault ms) none) (λ more. unicasts_are (place + 1) ms more) k d less
   where
-    by_lists : (rest : List (List Rule)) → (service_fault m ≡ None) × (services_fault ms ≡ None)
-        → ((more : List (List Rule)) → services_fault ms ≡ None → All IsMac (map (λ (service : ServiceFields). service.unicast) (services_with (services_of (place + 1) ms) more)))
+    by_lists : (rest : List (ServiceRules Rule)) → (service_fault m ≡ None) × (services_fault ms ≡ None)
+        → ((more : List (ServiceRules Rule)) → services_fault ms ≡ None → All IsMac (map (λ (service : ServiceFields). service.unicast) (services_with (services_of (place + 1) ms) more)))
         → All IsMac (map (λ (service : ServiceFields). service.unicast) (services_with (services_of place (m ∷ ms)) rest))
     by_lists [] parts later zero d less = address_holds broadcast_mac (codes "unicast") m (service_holds m parts.0).1.unicast broadcast_is
     by_lists [] parts later (suc k) d less = without (services_of (place + 1) ms) (later [] parts.1) k d (omega (arith, less))

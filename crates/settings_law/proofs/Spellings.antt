@@ -15,10 +15,10 @@ use Rattle.addr_rules.proofs.TextLemmas.{lacks_below, decimal_digits, ipv4_piece
 use Rattle.addr_rules.proofs.GroupTexts.{groups_or_empty, empty_only, single_colon}
 use Rattle.addr_rules.proofs.DoubleColons.{no_double, double_at, same_cut}
 use Rattle.addr_rules.proofs.RuleTexts.{no_dot, dotted}
-use Rattle.plan_spec.specs.Plan.{PlanFields, with_rules}
+use Rattle.plan_spec.specs.Plan.{ServiceRules, PlanFields, with_rules}
 use Rattle.std.specs.List.{AllZip}
 use Rattle.settings_spec.specs.Changes.{MovedValues, ChangeValues, with_changes}
-use Rattle.settings_spec.specs.Refusal.{AreRules, AreRuleLists, AreNewRules, IsSpelledMoved, IsSpelledChange, IsPlan, IsAccepted}
+use Rattle.settings_spec.specs.Refusal.{AreRules, AreServiceRules, AreRuleLists, AreNewRules, IsSpelledMoved, IsSpelledChange, IsPlan, IsAccepted}
 use Rattle.settings_spec.specs.Settings.{changes_at, plan_of, rule_texts}
 
 -- Decimals.
@@ -152,13 +152,20 @@ same_rules (text ∷ texts) [] ss of_rs of_ss = absurd of_rs
 same_rules (text ∷ texts) (r ∷ rs) [] of_rs of_ss = absurd of_ss
 same_rules (text ∷ texts) (r ∷ rs) (s ∷ ss) of_rs of_ss = cc (one_rule text r s of_rs.0 of_ss.0, same_rules texts rs ss of_rs.1 of_ss.1)
 
-same_lists : (services : List (List (List ℕ))) (rs ss : List (List Rule)) → AreRuleLists services rs → AreRuleLists services ss → rs ≡ ss
+abbrev rules_with : List Rule → List Rule → ServiceRules Rule
+rules_with rules urgent = record { rules = rules; urgent = urgent }
+
+same_own : (texts : ServiceRules (List ℕ)) (r s : ServiceRules Rule) → AreServiceRules texts r → AreServiceRules texts s → r ≡ s
+same_own texts r s of_r of_s =
+    ap₂ rules_with (same_rules texts.rules r.rules s.rules of_r.rules of_s.rules) (same_rules texts.urgent r.urgent s.urgent of_r.urgent of_s.urgent)
+
+same_lists : (services : List (ServiceRules (List ℕ))) (rs ss : List (ServiceRules Rule)) → AreRuleLists services rs → AreRuleLists services ss → rs ≡ ss
 same_lists [] [] [] of_rs of_ss = refl
 same_lists [] [] (s ∷ ss) of_rs of_ss = absurd of_ss
 same_lists [] (r ∷ rs) ss of_rs of_ss = absurd of_rs
 same_lists (texts ∷ services) [] ss of_rs of_ss = absurd of_rs
 same_lists (texts ∷ services) (r ∷ rs) [] of_rs of_ss = absurd of_ss
-same_lists (texts ∷ services) (r ∷ rs) (s ∷ ss) of_rs of_ss = cc (same_rules texts r s of_rs.0 of_ss.0, same_lists services rs ss of_rs.1 of_ss.1)
+same_lists (texts ∷ services) (r ∷ rs) (s ∷ ss) of_rs of_ss = cc (same_own texts r s of_rs.0 of_ss.0, same_lists services rs ss of_rs.1 of_ss.1)
 
 -- Changes.
 
@@ -205,7 +212,7 @@ same_changes (text ∷ texts) (c ∷ cs) (d ∷ ds) of_cs of_ds = cc (same_chang
 one_plan_of_table : (top : Members) (p q : PlanFields) → IsPlan top p → IsPlan top q → p ≡ q
 one_plan_of_table top p q is_p is_q =
     is_p.values
-    ∙ (ap₂ (λ (rules : List (List Rule)) (changes : List (ChangeValues Rule)). with_changes (with_rules (plan_of top) rules) changes)
+    ∙ (ap₂ (λ (rules : List (ServiceRules Rule)) (changes : List (ChangeValues Rule)). with_changes (with_rules (plan_of top) rules) changes)
     (same_lists (rule_texts top) is_p.rules is_q.rules is_p.spelled.of_services is_q.spelled.of_services)
     (same_changes (changes_at top) is_p.changes is_q.changes is_p.spelled.of_changes is_q.spelled.of_changes)
     ∙ sym is_q.values)

@@ -6,7 +6,7 @@ use Rattle.std.specs.Option.{unwrap_or, option_and_then}
 use Rattle.std.proofs.lemmas.Bool.{and_parts, leb-true}
 use Rattle.toml.specs.Data.{Data, Members, get_member, as_table}
 use Rattle.addr_rules.specs.declared.rules.Rule.{Rule}
-use Rattle.plan_spec.specs.Plan.{ServiceFields, ChangeFields, PlanFields, is_baseband, services_with, with_rules}
+use Rattle.plan_spec.specs.Plan.{ServiceFields, ChangeFields, PlanFields, is_baseband, ServiceRules, services_with, with_rules}
 use Rattle.plan_spec.specs.Checks.{is_between}
 use Rattle.settings_spec.specs.Keys.{wrong_type, out_of_range, range, one_table, tables, as_list, is_table, has_type, in_range, holds, optional, required, key_fault, value_fault, unknown_fault, keys_fault, items_at, number_or, tables_at, table_at}
 use Rattle.settings_spec.specs.Settings.{says_baseband, int_key, service_key, change_key, top_keys, top_names, top_fault, int_keys, int_fault, services_fault, changes_fault, tables_fault, int_of, services_of, plan_of}
@@ -47,7 +47,7 @@ pub length-services_of : (place : ℕ) (ms : List Members) → length (services_
 length-services_of place [] = refl
 length-services_of place (m ∷ ms) = ap suc (length-services_of (place + 1) ms)
 
-length-services_with : (services : List ServiceFields) (lists : List (List Rule)) → length (services_with services lists) ≡ length services
+length-services_with : (services : List ServiceFields) (lists : List (ServiceRules Rule)) → length (services_with services lists) ≡ length services
 length-services_with [] lists = refl
 length-services_with (service ∷ services) [] = refl
 length-services_with (service ∷ services) (rules ∷ lists) = ap suc (length-services_with services lists)
@@ -104,7 +104,7 @@ services_few top parts = by_carrier (says_baseband top) (service_count top parts
     by_carrier false is = leb-true (length (tables_at (codes "service") top)) 64 (and_parts (leb 1 (length (tables_at (codes "service") top))) _ is).1
 
 -- all values
-pub top_holds : (top : Members) (lists : List (List Rule)) → PartsHold top → has_valid_top (with_rules (plan_of top) lists) ≡ true
+pub top_holds : (top : Members) (lists : List (ServiceRules Rule)) → PartsHold top → has_valid_top (with_rules (plan_of top) lists) ≡ true
 unfolding has_valid_top plan_of
 top_holds top lists parts =
     both_true (is_between 1 1000000 (number_or 10000 (codes "packet_rate") top)) _

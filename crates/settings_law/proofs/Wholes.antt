@@ -1,5 +1,5 @@
 -- The checks over the whole plan of accepted settings.
-use Rattle.std.proofs.Common.{◌≡◌, ◌⊎◌, inl, inr, ℕ, suc, ◌+◌, ◌<◌, ◌≤◌, Bool, true, false, not, ◌||◌, List, [], ◌∷◌, ◌++◌, length, map, Option, Some, None, is_some, option_map, codes, eqb, le-leb, refl, ap, sym, ◌∙◌, subst, arith}
+use Rattle.std.proofs.Common.{◌≡◌, ◌⊎◌, inl, inr, ℕ, ◌+◌, ◌<◌, ◌≤◌, Bool, true, false, not, ◌||◌, List, [], ◌∷◌, ◌++◌, length, map, Option, Some, None, is_some, option_map, codes, eqb, le-leb, refl, ap, sym, ◌∙◌, subst, arith}
 use Rattle.std.specs.Prelude.{All}
 use Rattle.std.specs.List.{list_all, list_any}
 use Rattle.std.specs.Prelude.{nat_le}
@@ -8,13 +8,13 @@ use Rattle.std.proofs.lemmas.Slice.Zip.{AllZip-long}
 use Rattle.toml.specs.Data.{Members}
 use Rattle.std.proofs.lemmas.List.{length-map}
 use Rattle.addr_rules.specs.declared.rules.Rule.{Rule}
-use Rattle.plan_spec.specs.Plan.{KindFields, ServiceFields, ChangeFields, PlanFields, services_with, with_rules, rule_lists, table_pids, service_pids, isis}
+use Rattle.plan_spec.specs.Plan.{KindFields, ServiceFields, ServiceRules, ChangeFields, PlanFields, services_with, with_rules, rule_lists, all_rule_lists, table_pids, service_pids, isis}
 use Rattle.plan_spec.specs.Checks.{has_wrong_carrier, has_same_name, has_same_pid, has_no_rule, has_too_many_rules, has_wrong_count, needs_stamps, has_wrong_window, has_short_gap, has_long_cycle}
-use Rattle.settings_spec.specs.Keys.{wrong_change, wrong_rules, wrong_window, texts_at, tables_at, table_at}
+use Rattle.settings_spec.specs.Keys.{wrong_change, wrong_rules, wrong_window, tables_at, table_at}
 use Rattle.settings_spec.specs.Settings.{int_of, changes_at, plan_of, rule_texts}
 use Rattle.plan_spec.specs.Signalling.{table_packets}
 use Rattle.settings_spec.specs.Changes.{ChangeValues, change_values, with_changes}
-use Rattle.settings_spec.specs.Refusal.{AreRules, AreRuleLists, IsSpelledChange, AreSpelled, IsPlan, Fails, whole_checks, NoneFails, IsAccepted}
+use Rattle.settings_spec.specs.Refusal.{IsSpelledChange, AreSpelled, IsPlan, Fails, whole_checks, NoneFails, IsAccepted}
 use Rattle.plan_spec.specs.Changes.{services_in, plan_in, all_pids, rises_from, moves_wrongly, has_wrong_change}
 use Rattle.plan_spec.specs.Valid.{has_valid_top, is_in_range, is_consistent, is_plan_of_settings}
 use Rattle.plan_spec.specs.Wholes.{has_wrong_rules, most_table_packets, is_valid_change, has_valid_changes, is_whole_of_settings}
@@ -27,57 +27,37 @@ use Rattle.plan_law.proofs.Versions.{versions_of_settings, first_of_settings}
 use Rattle.settings_law.proofs.Services.{both_true, unicasts_are}
 use Rattle.settings_law.proofs.Bare.{wrong_with}
 use Rattle.settings_law.proofs.Moved.{AreGood, all_valid, all_written, services_good, changes_good, changes_valid, length-changes_by}
-use Rattle.settings_law.proofs.Tops.{length-services_of, PartsHold, parts_hold, services_few, top_holds, count_if_any, int_is_there, top_again}
+use Rattle.settings_law.proofs.Tops.{PartsHold, parts_hold, services_few, top_holds, count_if_any, int_is_there, top_again}
 
 -- Rules change neither kinds nor names.
 
-kinds_with : (services : List ServiceFields) (lists : List (List Rule)) → map (λ (s : ServiceFields). s.kind) (services_with services lists) ≡ map (λ (s : ServiceFields). s.kind) services
+kinds_with : (services : List ServiceFields) (lists : List (ServiceRules Rule)) → map (λ (s : ServiceFields). s.kind) (services_with services lists) ≡ map (λ (s : ServiceFields). s.kind) services
 kinds_with [] lists = refl
 kinds_with (s ∷ services) [] = refl
 kinds_with (s ∷ services) (rules ∷ lists) = ap (λ (rest : List KindFields). s.kind ∷ rest) (kinds_with services lists)
 
-names_with : (services : List ServiceFields) (lists : List (List Rule)) → map (λ (s : ServiceFields). s.name) (services_with services lists) ≡ map (λ (s : ServiceFields). s.name) services
+names_with : (services : List ServiceFields) (lists : List (ServiceRules Rule)) → map (λ (s : ServiceFields). s.name) (services_with services lists) ≡ map (λ (s : ServiceFields). s.name) services
 names_with [] lists = refl
 names_with (s ∷ services) [] = refl
 names_with (s ∷ services) (rules ∷ lists) = ap (λ (rest : List (List ℕ)). s.name ∷ rest) (names_with services lists)
 
-rules_with : (services : List ServiceFields) (lists : List (List Rule)) → length services ≡ length lists → map (λ (s : ServiceFields). s.rules) (services_with services lists) ≡ lists
-rules_with [] [] same = refl
-rules_with [] (rules ∷ lists) same = absurd (omega (arith, same))
-rules_with (s ∷ services) [] same = absurd (omega (arith, same))
-rules_with (s ∷ services) (rules ∷ lists) same = ap (λ (rest : List (List Rule)). rules ∷ rest) (rules_with services lists (omega (arith, same)))
-
-carrier_with : (plan : PlanFields) (lists : List (List Rule)) → has_wrong_carrier (with_rules plan lists) ≡ has_wrong_carrier plan
+carrier_with : (plan : PlanFields) (lists : List (ServiceRules Rule)) → has_wrong_carrier (with_rules plan lists) ≡ has_wrong_carrier plan
 carrier_with plan lists = rw (kinds_with plan.services lists)
 
-pid_with : (plan : PlanFields) (lists : List (List Rule)) → has_same_pid (with_rules plan lists) ≡ has_same_pid plan
+pid_with : (plan : PlanFields) (lists : List (ServiceRules Rule)) → has_same_pid (with_rules plan lists) ≡ has_same_pid plan
 pid_with plan lists = rw (kinds_with plan.services lists)
 
-stamps_with : (plan : PlanFields) (lists : List (List Rule)) → needs_stamps (with_rules plan lists) ≡ needs_stamps plan
+stamps_with : (plan : PlanFields) (lists : List (ServiceRules Rule)) → needs_stamps (with_rules plan lists) ≡ needs_stamps plan
 stamps_with plan lists = rw (kinds_with plan.services lists)
 
-gap_with : (plan : PlanFields) (lists : List (List Rule)) → has_short_gap (with_rules plan lists) ≡ has_short_gap plan
+gap_with : (plan : PlanFields) (lists : List (ServiceRules Rule)) → has_short_gap (with_rules plan lists) ≡ has_short_gap plan
 gap_with plan lists = rw (kinds_with plan.services lists)
 
-cycle_with : (plan : PlanFields) (lists : List (List Rule)) → has_long_cycle (with_rules plan lists) ≡ has_long_cycle plan
+cycle_with : (plan : PlanFields) (lists : List (ServiceRules Rule)) → has_long_cycle (with_rules plan lists) ≡ has_long_cycle plan
 cycle_with plan lists = rw (kinds_with plan.services lists)
 
-name_with : (plan : PlanFields) (lists : List (List Rule)) → has_same_name (with_rules plan lists) ≡ has_same_name plan
+name_with : (plan : PlanFields) (lists : List (ServiceRules Rule)) → has_same_name (with_rules plan lists) ≡ has_same_name plan
 name_with plan lists = rw (names_with plan.services lists)
-
--- As many rules as texts.
-
-same_length : (texts : List (List ℕ)) (rules : List Rule) → AreRules texts rules → length texts ≡ length rules
-same_length [] [] are = refl
-same_length [] (rule ∷ rules) are = absurd are
-same_length (text ∷ texts) [] are = absurd are
-same_length (text ∷ texts) (rule ∷ rules) are = ap suc (same_length texts rules are.1)
-
-same_lists : (texts : List (List (List ℕ))) (lists : List (List Rule)) → AreRuleLists texts lists → length texts ≡ length lists
-same_lists [] [] are = refl
-same_lists [] (rules ∷ lists) are = absurd are
-same_lists (text ∷ texts) [] are = absurd are
-same_lists (text ∷ texts) (rules ∷ lists) are = ap suc (same_lists texts lists are.1)
 
 -- The checks.
 
@@ -89,7 +69,7 @@ neither : (a b : Bool) → (a || b) ≡ false → (a ≡ false) × (b ≡ false)
 neither true b none = absurd (cc)
 neither false b none = (refl, none)
 
-module _ (top : Members) (lists : List (List Rule)) (changes : List (ChangeValues Rule)) (spelled : AreSpelled top lists changes) where
+module _ (top : Members) (lists : List (ServiceRules Rule)) (changes : List (ChangeValues Rule)) (spelled : AreSpelled top lists changes) where
   -- the plan of the settings, before its changes and with them
   abbrev pub base : PlanFields
   base = with_rules (plan_of top) lists
@@ -99,18 +79,6 @@ module _ (top : Members) (lists : List (List Rule)) (changes : List (ChangeValue
 
   is_plan : IsPlan top plan
   is_plan = record { rules = lists; changes = changes; spelled = spelled; values = refl }
-
-  -- the rules are those of its services
-  texts_count : length (rule_texts top) ≡ length (tables_at (codes "service") top)
-  unfolding rule_texts
-  texts_count = length-map (tables_at (codes "service") top) (texts_at (codes "rules"))
-
-  services_count : length (plan_of top).services ≡ length (tables_at (codes "service") top)
-  unfolding plan_of
-  services_count = length-services_of 0 (tables_at (codes "service") top)
-
-  pub rule_lists_are : rule_lists plan ≡ lists
-  rule_lists_are = rules_with (plan_of top).services lists (services_count ∙ sym texts_count ∙ same_lists (rule_texts top) lists spelled.of_services)
 
   -- its services are good, and so are those of each version
   base_good : PartsHold top → AreGood base.services
@@ -139,11 +107,11 @@ module _ (top : Members) (lists : List (List Rule)) (changes : List (ChangeValue
 
   -- in each version
   module _ (none : NoneFails (Fails top) whole_checks) (version : ℕ) (within : version < length plan.changes + 1) where
-    counts : (has_no_rule (rule_lists (plan_in plan version)) ≡ false) × (has_too_many_rules (rule_lists (plan_in plan version)) ≡ false)
+    counts : (has_no_rule (rule_lists (plan_in plan version)) ≡ false) × (has_too_many_rules (all_rule_lists (plan_in plan version)) ≡ false)
     counts =
-        neither (has_no_rule (rule_lists (plan_in plan version))) (has_too_many_rules (rule_lists (plan_in plan version)))
-        (ap (λ v. has_wrong_count (rule_lists (plan_in plan v))) (zero_is version)
-        ∙ none_at (λ v. has_wrong_count (rule_lists (plan_in plan v))) 0 (length plan.changes + 1) version (rules_right none.1.1.1.1.0) within)
+        neither (has_no_rule (rule_lists (plan_in plan version))) (has_too_many_rules (all_rule_lists (plan_in plan version)))
+        (ap (λ v. has_wrong_count (services_in plan v)) (zero_is version)
+        ∙ none_at (λ v. has_wrong_count (services_in plan v)) 0 (length plan.changes + 1) version (rules_right none.1.1.1.1.0) within)
       where
         zero_is : (n : ℕ) → n ≡ 0 + n
         zero_is n = omega arith

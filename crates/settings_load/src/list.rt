@@ -15,15 +15,15 @@ use itoa::Buffer;
 use service_plan::{Change, Kind, MovedList, Plan, pid_in};
 
 /// The word of a kind, and its PID or ISI.
-fn parts_of(kind: Kind) -> (&'static str, u16)
-    ensures word { result.0.now ≡ kind_word (kind_seen kind) }
-    ensures number { result.1 ≡ kind_number (kind_seen kind) }
+fn parts_of(kind: &Kind) -> (&'static str, u16)
+    ensures word { result.0.now ≡ kind_word (kind_seen kind.now) }
+    ensures number { result.1 ≡ kind_number (kind_seen kind.now) }
 {
     match kind {
-        Kind::Ule { pid, .. } => ("ule", pid),
-        Kind::Mpe { pid } => ("mpe", pid),
-        Kind::Fec { pid, .. } => ("fec", pid),
-        Kind::Gse { isi, .. } => ("gse", u16::from(isi)),
+        Kind::Ule { pid, .. } => ("ule", *pid),
+        Kind::Mpe { pid } => ("mpe", *pid),
+        Kind::Fec { pid, .. } => ("fec", *pid),
+        Kind::Gse { isi, .. } => ("gse", u16::from(*isi)),
     }
 }
 
@@ -50,7 +50,7 @@ fn put_service<O: Sink>(plan: &Plan, version: u8, place: u32, output: &mut O) ->
     ensures cause { HasCause (O.told output.old).faults (O.told output.new).faults result }
 {
     let service = plan.services.at(place as usize);
-    let (word, own) = parts_of(service.kind);
+    let (word, own) = parts_of(&service.kind);
     let number = pid_in(plan, version, place).unwrap_or(own);
     let mut digits = Buffer::new();
     let number = digits.format(number);

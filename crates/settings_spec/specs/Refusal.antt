@@ -5,7 +5,7 @@ use Rattle.toml.specs.Data.{Members}
 use Rattle.toml.specs.Parse.{parse_document}
 use Rattle.addr_rules.specs.Texts.{IsRuleText}
 use Rattle.addr_rules.specs.declared.rules.Rule.{Rule}
-use Rattle.plan_spec.specs.Plan.{PlanFields, with_rules}
+use Rattle.plan_spec.specs.Plan.{ServiceRules, PlanFields, with_rules}
 use Rattle.plan_spec.specs.Checks.{has_wrong_carrier, has_same_name, has_same_pid, needs_stamps, has_wrong_window, has_short_gap, has_long_cycle}
 use Rattle.plan_spec.specs.Changes.{has_wrong_change}
 use Rattle.plan_spec.specs.Wholes.{has_wrong_rules, most_table_packets}
@@ -21,19 +21,23 @@ pub record IsDocument (bytes : List ℕ) (top : Members) : Type 0 where
 abbrev pub IsNoDocument : List ℕ → Type 0
 IsNoDocument bytes = IsUtf8 bytes → parse_document bytes ≡ None
 
--- the texts of a service are these rules, one for one
+-- texts are these rules, one for one
 abbrev pub AreRules : List (List ℕ) → List Rule → Type 0
 AreRules [] [] = Unit {0}
 AreRules [] (rule ∷ rules) = ⊥
 AreRules (text ∷ texts) [] = ⊥
 AreRules (text ∷ texts) (rule ∷ rules) = IsRuleText text rule × AreRules texts rules
 
--- the same of each service
-abbrev pub AreRuleLists : List (List (List ℕ)) → List (List Rule) → Type 0
+-- the texts of a service are its rules, and of each service
+pub record AreServiceRules (texts : ServiceRules (List ℕ)) (own : ServiceRules Rule) : Type 0 where
+  pub rules : AreRules texts.rules own.rules
+  pub urgent : AreRules texts.urgent own.urgent
+
+abbrev pub AreRuleLists : List (ServiceRules (List ℕ)) → List (ServiceRules Rule) → Type 0
 AreRuleLists [] [] = Unit {0}
-AreRuleLists [] (rules ∷ lists) = ⊥
+AreRuleLists [] (own ∷ lists) = ⊥
 AreRuleLists (texts ∷ services) [] = ⊥
-AreRuleLists (texts ∷ services) (rules ∷ lists) = AreRules texts rules × AreRuleLists services lists
+AreRuleLists (texts ∷ services) (own ∷ lists) = AreServiceRules texts own × AreRuleLists services lists
 
 -- the same of a moved service, where its rules change
 abbrev pub AreNewRules : Option (List (List ℕ)) → Option (List Rule) → Type 0
@@ -53,20 +57,20 @@ pub record IsSpelledChange (texts : ChangeValues (List ℕ)) (change : ChangeVal
   pub moved : AllZip IsSpelledMoved texts.moved change.moved
 
 -- the texts of a table are the rules of these services and changes
-pub record AreSpelled (top : Members) (rules : List (List Rule)) (changes : List (ChangeValues Rule)) : Type 0 where
+pub record AreSpelled (top : Members) (rules : List (ServiceRules Rule)) (changes : List (ChangeValues Rule)) : Type 0 where
   pub of_services : AreRuleLists (rule_texts top) rules
   pub of_changes : AllZip IsSpelledChange (changes_at top) changes
 
 -- the table gives the plan: its values or their defaults, and the rules of its texts
 pub record IsPlan (top : Members) (plan : PlanFields) : Type 0 where
-  pub rules : List (List Rule)
+  pub rules : List (ServiceRules Rule)
   pub changes : List (ChangeValues Rule)
   pub spelled : AreSpelled top rules changes
   pub values : plan ≡ with_changes (with_rules (plan_of top) rules) changes
 
 -- one of the texts is no rule
 abbrev pub HasNoRule : Members → Type 0
-HasNoRule top = (rules : List (List Rule)) (changes : List (ChangeValues Rule)) → ¬ AreSpelled top rules changes
+HasNoRule top = (rules : List (ServiceRules Rule)) (changes : List (ChangeValues Rule)) → ¬ AreSpelled top rules changes
 
 -- The checks over the whole, each by its fault: which of them fail, and their order.
 

@@ -6,7 +6,8 @@ use Rattle.toml.specs.Data.{Members, get_member}
 use Rattle.ts_spec.specs.Recording.{RecordingForm, plain, stamped, m2ts}
 use Rattle.addr_rules.specs.Macs.{broadcast_mac}
 use Rattle.addr_rules.specs.Texts.{mac_of_text}
-use Rattle.plan_spec.specs.Plan.{WindowFields, KindFields, ule, mpe, fec, gse, ServiceFields, IntFields, PlanFields}
+use Rattle.plan_spec.specs.Plan.{WindowFields, KindFields, ule, mpe, fec, gse, ServiceFields, ServiceRules, IntFields, PlanFields}
+use Rattle.plan_spec.specs.Checks.{is_gse}
 use Rattle.settings_spec.specs.Keys.{SettingsFault, one_of, name_text, address_text, any_text, range, row_count, flag, one_table, tables, texts, addresses, KeyRule, required, optional, key_fault, unknown_fault, keys_fault, first_of, table_fault, text_or, number_or, flag_or, address_or, texts_at, tables_at, table_at}
 use Rattle.settings_spec.specs.Changes.{ChangeValues, change_values, without_rules, changes_by}
 
@@ -87,6 +88,10 @@ window_keys = required (codes "window_start") (range 0 999999) ∷ required (cod
 abbrev pub rules_key : KeyRule
 rules_key = required (codes "rules") texts
 
+-- the rules by which datagrams of GSE packets are urgent
+abbrev pub urgent_key : KeyRule
+urgent_key = optional (codes "urgent") texts
+
 abbrev pub filter_key : KeyRule
 filter_key = optional (codes "filter") addresses
 
@@ -111,7 +116,7 @@ abbrev pub sliced_keys : List KeyRule
 sliced_keys = name_key ∷ kind_key ∷ pid_key ∷ (frame_keys ++ window_keys ++ rules_key ∷ last_keys)
 
 abbrev pub gse_keys : List KeyRule
-gse_keys = name_key ∷ kind_key ∷ required (codes "isi") (range 0 255) ∷ address_key ∷ rules_key ∷ filter_key ∷ last_keys
+gse_keys = name_key ∷ kind_key ∷ required (codes "isi") (range 0 255) ∷ address_key ∷ rules_key ∷ urgent_key ∷ filter_key ∷ last_keys
 
 -- What is wrong with the tables.
 
@@ -228,6 +233,12 @@ plan_of top = record {
   changes = changes_by (services_of 0 (tables_at (codes "service") top)) (map without_rules (changes_at top));
 }
 
--- the texts of the rules of each service
-unfoldable pub rule_texts : Members → List (List (List ℕ))
-rule_texts top = map (texts_at (codes "rules")) (tables_at (codes "service") top)
+-- the texts of the rules of a service, and of each; only GSE packets have urgent ones
+abbrev pub urgent_texts : Members → List (List ℕ)
+urgent_texts service = if is_gse (kind_of service) then texts_at (codes "urgent") service else []
+
+abbrev pub service_texts : Members → ServiceRules (List ℕ)
+service_texts service = record { rules = texts_at (codes "rules") service; urgent = urgent_texts service }
+
+unfoldable pub rule_texts : Members → List (ServiceRules (List ℕ))
+rule_texts top = map service_texts (tables_at (codes "service") top)

@@ -5,7 +5,7 @@
 
 ghost use Rattle.std.specs.Prelude.{◌≡◌, ℕ, List, map, codes, negsuc, [], ◌∷◌, Some, None};
 ghost use Rattle.toml.specs.Data.{integer, string, no_members};
-ghost use Rattle.plan_spec.specs.Plan.{PlanFields, rule_lists, with_rules};
+ghost use Rattle.plan_spec.specs.Plan.{PlanFields, service_rules, with_rules};
 ghost use Rattle.plan_spec.specs.Given.{sample_plan};
 ghost use Rattle.plan_spec.specs.Examples.{plan_that_changes};
 ghost use Rattle.settings_spec.specs.Refusal.{IsRefused, IsAccepted};
@@ -46,10 +46,10 @@ pub fn changes_of_settings()
 
 /// The values of the sample job's settings are those of its plan, whose rules their texts spell.
 pub fn settings_of_the_sample()
-    ensures plan { with_rules (plan_of (both (codes "stamped") 1500 4000 (number 513))) (rule_lists sample_plan) ≡ sample_plan }
+    ensures plan { with_rules (plan_of (both (codes "stamped") 1500 4000 (number 513))) (service_rules sample_plan) ≡ sample_plan }
 {}
 
 /// Settings of files that move give the plan, whose rules stay where the change names none.
 pub fn settings_that_change()
-    ensures plan { with_changes (with_rules (plan_of (moving (number 514))) (rule_lists plan_that_changes)) (map without_rules (changes_at (moving (number 514)))) ≡ plan_that_changes }
+    ensures plan { with_changes (with_rules (plan_of (moving (number 514))) (service_rules plan_that_changes)) (map without_rules (changes_at (moving (number 514)))) ≡ plan_that_changes }
 {}

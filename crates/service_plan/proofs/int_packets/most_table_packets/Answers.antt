@@ -1,9 +1,9 @@
 use Rattle.std.proofs.Common.{◌≡◌, ℕ, ◌+◌, ◌<◌, ◌≤◌, length, map, fold, max, ap, sym, ◌∙◌, arith}
 use Rattle.std.specs.List.{range_with_len}
 use Rattle.std.proofs.lemmas.List.{length-map}
-use Rattle.plan_spec.specs.Plan.{rule_lists}
+use Rattle.plan_spec.specs.Plan.{rule_lists, all_rule_lists}
 use Rattle.plan_spec.specs.Checks.{has_no_rule, has_too_many_rules, has_wrong_count}
-use Rattle.plan_spec.specs.Changes.{plan_in}
+use Rattle.plan_spec.specs.Changes.{services_in, plan_in}
 use Rattle.plan_spec.specs.Signalling.{table_packets}
 use Rattle.plan_spec.specs.Wholes.{most_table_packets}
 use Rattle.plan_law.proofs.Lists.{neither, none_at}
@@ -27,9 +27,9 @@ table_packets-requires-clause-rules c =
     let below : version < length c.args.draft.now.changes + 1 = rw c.items-changes.ensures.read at c.loop-version-test.true in
     let within : version < length plan.changes + 1 = omega (arith, below, length-map c.args.draft.now.changes change_seen) in
     let right =
-    ap (λ v. has_wrong_count (rule_lists (plan_in plan v))) (zero_is version)
-    ∙ none_at (λ v. has_wrong_count (rule_lists (plan_in plan v))) 0 (length plan.changes + 1) version c.requires.rules within in
-    (neither (has_no_rule (rule_lists (plan_in plan version))) (has_too_many_rules (rule_lists (plan_in plan version))) right).1
+    ap (λ v. has_wrong_count (services_in plan v)) (zero_is version)
+    ∙ none_at (λ v. has_wrong_count (services_in plan v)) 0 (length plan.changes + 1) version c.requires.rules within in
+    (neither (has_no_rule (rule_lists (plan_in plan version))) (has_too_many_rules (all_rule_lists (plan_in plan version))) right).1
 
 pub loop-version-preserved : goal.loop-version-preserved
 loop-version-preserved c =

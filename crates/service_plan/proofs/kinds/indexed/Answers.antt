@@ -12,6 +12,6 @@ returns c =
     record {
       read = answers_as c.finish.result _ _ _ (IsServiceOf (table_view c.args.table.now) c.args.place)
           (rw (c.in_ok-refuse_unknown.ensures.read.0, name.read.0, c.requires.kind, pid.read.0, c.requires.mode, c.in_ok-rows.ensures.read.0, c.in_ok-parity.ensures.read.0, c.in_ok-items.ensures.read.0) refl)
-          (λ draft ended. ended_is_service _ _ _ _ _ _ draft ended name.read.1 (kind_of_indexed _ _ _ _ c.requires.word c.requires.indexed pid.read.1 c.in_ok-rows.ensures.read.1 c.in_ok-parity.ensures.read.1) c.in_ok-items.ensures.read.1 (filter_of_fec _ _ c.requires.word c.new-filter.ensures.written) name.valid (rw (between_both 32 8190 _ pid.within.0 pid.within.1, c.in_ok-rows.ensures.within, between_both 1 64 _ c.in_ok-parity.ensures.within.0 c.in_ok-parity.ensures.within.1)))
+          (λ draft ended. ended_is_service _ _ _ _ _ _ draft ended name.read.1 (kind_of_indexed _ _ _ _ c.requires.word c.requires.indexed pid.read.1 c.in_ok-rows.ensures.read.1 c.in_ok-parity.ensures.read.1) c.in_ok-items.ensures.read.1 (filter_of_fec _ _ c.requires.word c.new-filter.ensures.written) name.valid (rw (between_both 32 8190 _ pid.within.0 pid.within.1, c.in_ok-rows.ensures.within, between_both 1 64 _ c.in_ok-parity.ensures.within.0 c.in_ok-parity.ensures.within.1)) refl refl)
           c.finish.ensures.read;
     }

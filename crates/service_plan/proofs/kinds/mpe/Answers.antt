@@ -12,6 +12,6 @@ returns c =
     record {
       read = answers_as c.finish.result _ _ _ (IsServiceOf (table_view c.args.table.now) c.args.place)
           (rw (c.in_ok-refuse_unknown.ensures.read.0, name.read.0, c.requires.kind, pid.read.0, c.in_ok-items.ensures.read.0, c.in_ok-filter.ensures.read.0) refl)
-          (λ draft ended. ended_is_service _ _ _ _ _ _ draft ended name.read.1 (kind_of_mpe _ _ c.requires.word pid.read.1) c.in_ok-items.ensures.read.1 (filter_of_mpe _ _ c.requires.word c.in_ok-filter.ensures.read.1) name.valid (between_both _ _ _ pid.within.0 pid.within.1))
+          (λ draft ended. ended_is_service _ _ _ _ _ _ draft ended name.read.1 (kind_of_mpe _ _ c.requires.word pid.read.1) c.in_ok-items.ensures.read.1 (filter_of_mpe _ _ c.requires.word c.in_ok-filter.ensures.read.1) name.valid (between_both _ _ _ pid.within.0 pid.within.1) refl refl)
           c.finish.ensures.read;
     }

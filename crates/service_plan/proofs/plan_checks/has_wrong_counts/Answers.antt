@@ -10,16 +10,18 @@ returns-then-is_wrong_count c =
     let after = services_after c.args.services.now c.args.changes.now in
     let within : c.loop-service.service < length after = omega (arith, c.loop-service-test.true, length-services_after c.args.services.now c.args.changes.now) in
     let count = c.len-count.ensures.read ∙ ap (λ (l : List Rule). length l) c.rules_after.ensures in
-    count_wrong after c.loop-service.service c.loop-service.total _ within count c.if-is_wrong_count.ensures ∙ sym c.loop-service.invariant.counts
+    let urgent = c.urgent_count-urgent.ensures c.args.changes.now in
+    count_wrong after c.loop-service.service c.loop-service.total _ _ within count urgent c.if-is_wrong_count.ensures ∙ sym c.loop-service.invariant.counts
 
 pub loop-service-preserved : goal.loop-service-preserved
 loop-service-preserved c =
     let after = services_after c.args.services.now c.args.changes.now in
     let within : c.loop-service.service < length after = omega (arith, c.loop-service-test.true, length-services_after c.args.services.now c.args.changes.now) in
     let count = c.len-count.ensures.read ∙ ap (λ (l : List Rule). length l) c.rules_after.ensures in
+    let urgent = c.urgent_count-urgent.ensures c.args.changes.now in
     record {
-      few = count_above c.loop-service.total _ c.if-is_wrong_count.ensures;
-      counts = c.loop-service.invariant.counts ∙ count_right after c.loop-service.service c.loop-service.total _ within count c.if-is_wrong_count.ensures;
+      few = count_above c.loop-service.total _ _ c.if-is_wrong_count.ensures;
+      counts = c.loop-service.invariant.counts ∙ count_right after c.loop-service.service c.loop-service.total _ _ within count urgent c.if-is_wrong_count.ensures;
     }
 
 pub returns : goal.returns
