@@ -2,13 +2,14 @@
 use Rattle.std.proofs.Common.{◌≡◌, ℕ, zero, suc, ◌+◌, ◌≤◌, Bool, true, List, [], ◌∷◌, length, map, Option, Some, None, refl, ap, sym, ◌∙◌, subst, arith}
 use Rattle.std.specs.Prelude.{All, AllPairs, Contains, slice_get, slice_index_or, is_some, ◌==◌}
 use Rattle.std.proofs.lemmas.Bool.{and_parts, leb-true}
+use Rattle.std.proofs.lemmas.Option.{get_or_from_slice_get}
 use Rattle.std.proofs.lemmas.List.Elements.{All-filter, filter_passes}
 use Rattle.wire_spec.specs.Datagram.{IsDatagram}
 use Rattle.wire_spec.specs.Lists.{joined, IsCut}
 use Rattle.plan_spec.specs.Plan.{KindFields, ule, mpe, fec, gse, ServiceFields, PlanFields, isi_of, kinds, is_baseband}
 use Rattle.plan_spec.specs.Route.{longest_of}
 use Rattle.plan_spec.specs.Bytes.{IsMac, IsOfBytes, AreOfBytes}
-use Rattle.plan_spec.specs.Changes.{plan_in, records_of_version}
+use Rattle.plan_spec.specs.Changes.{no_service, plan_in, records_of_version}
 use Rattle.plan_spec.specs.Wholes.{is_whole_plan}
 use Rattle.plan_spec.specs.Offered.{Records, datagrams as datagrams_of, service_of_datagram, fits, is_offered_to, offered, offered_in}
 use Rattle.plan_law.proofs.Alone.{plan_alone, records_alone}
@@ -16,12 +17,14 @@ use Rattle.plan_law.proofs.Versions.{first_is_zero}
 use Rattle.gse_spec.specs.Received.{carried_by_pdu}
 use Rattle.gse_spec.specs.Carried.{CarriesPdus}
 use Rattle.gse_spec.specs.Sending.{pdu_for, frames_for, GseService, sent_frames}
+use Rattle.addr_rules.specs.declared.rules.Rule.{Rule}
+use Rattle.gse_law.specs.Classes.{KeepsClasses}
 use Rattle.gse_law.specs.Services.{CanBeWritten, HaveOtherIsis}
 use Rattle.gse_law.specs.Streams.{frames_of}
-use Rattle.gse_law.proofs.Offered.{offered_sendable, offered_carried}
-use Rattle.gse_law.proofs.Rotation.{own_in_rotation, rotation_in_order}
+use Rattle.gse_law.proofs.ClassOrder.{keeps_classes, frames_carry_in_order, one_class_order}
+use Rattle.gse_law.proofs.Rotation.{own_in_rotation, rotation_carries}
 use Rattle.gse_law.proofs.Sizes.{sent_cut}
-use Rattle.bb_stream_spec.specs.Stream.{sent_as, sent_by, sent_from, IsBasebandStream}
+use Rattle.bb_stream_spec.specs.Stream.{sent_as, sent_by, sent_from, order_by_rules, order_as, order_by, order_of, IsBasebandStream}
 use Rattle.bb_stream_spec.specs.Carried.{CarriesInBaseband}
 use Rattle.bb_stream_law.proofs.PlanChecks.{AreBaseband, of_whole, unchanged, on_isis, has_size}
 use Rattle.bb_stream_law.proofs.Services.{AreShort, AllCanSend, can_send_all, all_written, all_apart, found}
@@ -115,40 +118,76 @@ module _ (plan : PlanFields) (whole : is_whole_plan plan ≡ true) (of_bytes : A
       six_at (x ∷ ss) all (suc n) s e = six_at ss (λ i d within. all (suc i) d (omega (arith, within))) n s e
 
   -- of a service of this kind
-  carried_by_kind : (kind : KindFields) (unicast : List ℕ) (isi : ℕ) (datagrams : List (List ℕ)) → isi_of kind ≡ Some isi → length unicast ≡ 6
-      → AreShort datagrams → All IsDatagram datagrams → Contains services (sent_as stream.size unicast kind datagrams)
-      → CarriesPdus carried_by_pdu isi (sent_frames stream.size services) datagrams
-  carried_by_kind (ule pid address packing) unicast isi datagrams is six short are within = absurd (cc)
-  carried_by_kind (mpe pid) unicast isi datagrams is six short are within = absurd (cc)
-  carried_by_kind (fec pid rows parity window) unicast isi datagrams is six short are within = absurd (cc)
-  carried_by_kind (gse other address) unicast isi datagrams is six short are within =
+  carried_by_kind : (kind : KindFields) (unicast : List ℕ) (urgent : List Rule) (isi : ℕ) (datagrams : List (List ℕ)) → isi_of kind ≡ Some isi → length unicast ≡ 6
+      → AreShort datagrams → All IsDatagram datagrams → Contains services (sent_as stream.size unicast urgent kind datagrams)
+      → CarriesPdus carried_by_pdu isi (sent_frames stream.size services) (order_as stream.size unicast urgent kind datagrams)
+  carried_by_kind (ule pid address packing) unicast urgent isi datagrams is six short are within = absurd (cc)
+  carried_by_kind (mpe pid) unicast urgent isi datagrams is six short are within = absurd (cc)
+  carried_by_kind (fec pid rows parity window) unicast urgent isi datagrams is six short are within = absurd (cc)
+  carried_by_kind (gse other address) unicast urgent isi datagrams is six short are within =
       let same : other ≡ isi = by_some is in
-      subst (λ (n : ℕ). CarriesPdus carried_by_pdu n (sent_frames stream.size services) datagrams) same
-      (subst (λ (t : List (List ℕ)). CarriesPdus carried_by_pdu other (sent_frames stream.size services) t) (offered_carried address unicast datagrams are)
-      (rotation_in_order carried_by_pdu stream.size services (sent_as stream.size unicast (gse other address) datagrams) size_fits.0 size_fits.1 written apart within
-      (map (pdu_for address unicast) datagrams) (offered_sendable address unicast datagrams (λ _. six) short) refl))
+      subst (λ (n : ℕ). CarriesPdus carried_by_pdu n (sent_frames stream.size services) (order_by_rules urgent stream.size address unicast datagrams)) same
+      (rotation_carries stream.size (omega (arith, size_fits.0)) size_fits.1 carried_by_pdu services (sent_as stream.size unicast urgent (gse other address) datagrams) written apart within
+      (order_by_rules urgent stream.size address unicast datagrams) (by_rules urgent))
     where
       by_some : Some other ≡ Some isi → other ≡ isi
       by_some e = cc
 
-  pub carries : All IsDatagram (datagrams_of gives) → CarriesInBaseband plan frames (offered_in plan gives 0)
+      by_rules : (rules : List Rule) → CarriesPdus carried_by_pdu other (frames_for rules other stream.size (map (pdu_for address unicast) datagrams)) (order_by_rules rules stream.size address unicast datagrams)
+      by_rules [] =
+          subst (λ (t : List (List ℕ)). CarriesPdus carried_by_pdu other (frames_for [] other stream.size (map (pdu_for address unicast) datagrams)) t)
+          (one_class_order address unicast stream.size size_fits.0 (λ _. six) datagrams short)
+          (frames_carry_in_order address unicast [] stream.size size_fits.0 (λ _. six) datagrams short other size_fits.1 are)
+      by_rules (rule ∷ rules) = frames_carry_in_order address unicast (rule ∷ rules) stream.size size_fits.0 (λ _. six) datagrams short other size_fits.1 are
+
+  -- what is offered to a service, and its order in the frames
+  abbrev offer : ℕ → List (List ℕ)
+  offer k = offered_in plan gives 0 k
+
+  order_is : (k : ℕ) (service : ServiceFields) → slice_get plan.services k ≡ Some service → order_of plan stream.size k (offer k) ≡ order_by stream.size service (offer k)
+  order_is k service is = ap (λ (s : ServiceFields). order_by stream.size s (offer k)) (get_or_from_slice_get plan.services k service no_service is)
+
+  offered_all : All IsDatagram (datagrams_of gives) → (k : ℕ) → All IsDatagram (offer k)
+  offered_all all k =
+      offered_are (plan_in plan 0) (records_of_version plan 0 gives) k
+      (subst (λ (r : Records). All IsDatagram (datagrams_of r)) (sym (records_alone plan (first_is_zero plan whole) stream.unchanged gives)) all)
+
+  pub carries : All IsDatagram (datagrams_of gives) → CarriesInBaseband plan frames (λ k. order_of plan stream.size k (offered_in plan gives 0 k))
   carries all = record {
     on_isis = stream.defined;
     carried = λ k isi service is isi_is.
-        subst (λ (t : List (List ℕ)). CarriesPdus carried_by_pdu isi t (offered_in plan gives 0 k)) (sym stream.frames_are)
-        (carried_by_kind service.kind service.unicast isi (offered_in plan gives 0 k) isi_is (six_of k service is)
-        (offered_short (plan_in plan 0) (records_of_version plan 0 gives) k)
-        (offered_are (plan_in plan 0) (records_of_version plan 0 gives) k (subst (λ (r : Records). All IsDatagram (datagrams_of r)) (sym (records_alone plan (first_is_zero plan whole) stream.unchanged gives)) all))
-        (there k service is));
+        subst (λ (t : List (List ℕ)). CarriesPdus carried_by_pdu isi t (order_of plan stream.size k (offer k))) (sym stream.frames_are)
+        (subst (λ (t : List (List ℕ)). CarriesPdus carried_by_pdu isi (sent_frames stream.size services) t) (sym (order_is k service is))
+        (carried_by_kind service.kind service.unicast service.urgent isi (offer k) isi_is (six_of k service is)
+        (offered_short (plan_in plan 0) (records_of_version plan 0 gives) k) (offered_all all k) (there k service is)));
   }
 
   pub own : (k isi : ℕ) (address : Bool) (service : ServiceFields) → slice_get plan.services k ≡ Some service → service.kind ≡ gse isi address
-      → frames_of isi frames ≡ frames_for isi stream.size (map (pdu_for address service.unicast) (offered_in plan gives 0 k))
+      → frames_of isi frames ≡ frames_for service.urgent isi stream.size (map (pdu_for address service.unicast) (offered_in plan gives 0 k))
   own k isi address service is kind_is =
-      let sent : GseService = sent_as stream.size service.unicast (gse isi address) (offered_in plan gives 0 k) in
+      let sent : GseService = sent_as stream.size service.unicast service.urgent (gse isi address) (offered_in plan gives 0 k) in
       ap (frames_of isi) stream.frames_are
       ∙ own_in_rotation stream.size (omega (arith, size_fits.0)) size_fits.1 services sent written apart
-      (subst (λ (kind : KindFields). Contains services (sent_as stream.size service.unicast kind (offered_in plan gives 0 k))) kind_is (there k service is))
+      (subst (λ (kind : KindFields). Contains services (sent_as stream.size service.unicast service.urgent kind (offered_in plan gives 0 k))) kind_is (there k service is))
+
+  -- each class keeps its order
+  kept_by_rules : (rules : List Rule) (address : Bool) (unicast : List ℕ) (datagrams : List (List ℕ)) → length unicast ≡ 6 → AreShort datagrams
+      → KeepsClasses rules datagrams (order_by_rules rules stream.size address unicast datagrams)
+  kept_by_rules [] address unicast datagrams six short = record { classes = λ class. refl }
+  kept_by_rules (rule ∷ rules) address unicast datagrams six short = keeps_classes address unicast (rule ∷ rules) stream.size size_fits.0 (λ _. six) datagrams short
+
+  kept_by_kind : (kind : KindFields) (unicast : List ℕ) (urgent : List Rule) (datagrams : List (List ℕ)) → length unicast ≡ 6 → AreShort datagrams
+      → KeepsClasses urgent datagrams (order_as stream.size unicast urgent kind datagrams)
+  kept_by_kind (ule pid address packing) unicast urgent datagrams six short = record { classes = λ class. refl }
+  kept_by_kind (mpe pid) unicast urgent datagrams six short = record { classes = λ class. refl }
+  kept_by_kind (fec pid rows parity window) unicast urgent datagrams six short = record { classes = λ class. refl }
+  kept_by_kind (gse isi address) unicast urgent datagrams six short = kept_by_rules urgent address unicast datagrams six short
+
+  pub kept : (k : ℕ) (service : ServiceFields) → slice_get plan.services k ≡ Some service
+      → KeepsClasses service.urgent (offered_in plan gives 0 k) (order_of plan stream.size k (offered_in plan gives 0 k))
+  kept k service is =
+      subst (KeepsClasses service.urgent (offer k)) (sym (order_is k service is))
+      (kept_by_kind service.kind service.unicast service.urgent (offer k) (six_of k service is) (offered_short (plan_in plan 0) (records_of_version plan 0 gives) k))
 
   pub is_cut : IsCut stream.size (joined frames) frames []
   is_cut =
