@@ -60,7 +60,7 @@ names_at least [] valid k service there = absurd (cc)
 names_at least (s ∷ services) valid zero service there =
     let same : s ≡ service = cc in
     subst (λ (t : ServiceFields). is_service_name t.name ≡ true) same
-    (both (is_service_name s.name) _ (both (has_valid_values least s) (list_all is_valid_rule s.rules) (both (is_valid_service least s) (list_all (is_valid_service least) services) valid).0).0).0
+    (both (is_service_name s.name) _ (both (has_valid_values least s) (list_all is_valid_rule s.rules && list_all is_valid_rule s.urgent) (both (is_valid_service least s) (list_all (is_valid_service least) services) valid).0).0).0
 names_at least (s ∷ services) valid (suc k) service there =
     names_at least services (both (is_valid_service least s) (list_all (is_valid_service least) services) valid).1 k service there
 

@@ -1,11 +1,14 @@
 -- A relay's stream, and what arrives of it.
-use Rattle.std.specs.Prelude.{◌≡◌, ℕ, ◌<◌, Bool, true, false, List, length, filter, All}
+use Rattle.std.specs.Prelude.{◌≡◌, ℕ, ◌<◌, Bool, true, false, List, [], length, filter, All}
 use Rattle.wire_spec.specs.Bytes.{AreBytes}
 use Rattle.wire_spec.specs.Lists.{IsSubsequence}
 use Rattle.plan_spec.specs.Plan.{ServiceFields, PlanFields, is_baseband}
 use Rattle.plan_spec.specs.Bytes.{AreOfBytes}
 use Rattle.plan_spec.specs.Wholes.{is_whole_plan}
 use Rattle.plan_spec.specs.Offered.{offered_in_all}
+use Rattle.gse_spec.specs.Classes.{Class, datagrams_of_class}
+use Rattle.carrier_spec.specs.Stream.{piece_size}
+use Rattle.bb_stream_spec.specs.Stream.{order_of}
 use Rattle.bb_reception_spec.specs.Delivered.{service_at}
 use Rattle.end_to_end_law.specs.Units.{wants_datagram}
 use Rattle.bb_end_to_end_law.specs.Sent.{wants_in_frames}
@@ -28,26 +31,34 @@ pub record IsRelay (inner outer : PlanFields) (pieces stream : List (List ℕ)) 
 abbrev pub reoffered : (inner outer : PlanFields) → List (List ℕ) → ℕ → List (List ℕ)
 reoffered inner outer pieces j = offered_in_all outer (as_records (relayed inner pieces)) j
 
+-- the same in the order in which the stream carries it: in frames the order of their ends, where the service has urgent rules
+abbrev pub reordered : (inner outer : PlanFields) → List (List ℕ) → ℕ → List (List ℕ)
+reordered inner outer pieces j = order_of outer (piece_size outer) j (reoffered inner outer pieces j)
+
 -- the filter of the service wants the datagram, in baseband frames or in packets
 abbrev pub wants_on : (in_baseband : Bool) → ServiceFields → List ℕ → Bool
 wants_on true service datagram = wants_in_frames service datagram
 wants_on false service datagram = wants_datagram service datagram
 
--- what a service of the outer plan wants of what a relay offers to it
+-- what a service of the outer plan wants of what a relay offers to it, in the order in which the stream carries it
 abbrev pub wanted_again : (inner outer : PlanFields) → List (List ℕ) → ℕ → List (List ℕ)
-wanted_again inner outer pieces j = filter (wants_on (is_baseband outer) (service_at outer j)) (reoffered inner outer pieces j)
+wanted_again inner outer pieces j = filter (wants_on (is_baseband outer) (service_at outer j)) (reordered inner outer pieces j)
 
 -- For service j of the outer plan: the stream carries what was offered to it of the relayed datagrams; it is a recording of itself, and of it
--- the service delivers all that it wants of that; and of each recording of it the service delivers some of what it wants, so some of all
--- relayed datagrams, unchanged and in order
+-- the service delivers all that it wants of that; and of each recording of it the service delivers some of what it wants, so of each class some
+-- of all relayed datagrams of that class, unchanged and in order; without urgent rules some of all of them
 pub record ArrivesAgain (inner outer : PlanFields) (pieces stream : List (List ℕ)) (j : ℕ) : Type 0 where
-  pub carries : CarriesInPieces outer j stream (reoffered inner outer pieces j)
-  pub itself : IsRecordedInPieces outer j stream (reoffered inner outer pieces j) carries stream
+  pub carries : CarriesInPieces outer j stream (reordered inner outer pieces j)
+  pub itself : IsRecordedInPieces outer j stream (reordered inner outer pieces j) carries stream
   pub whole : delivered_of outer j stream ≡ wanted_again inner outer pieces j
-  pub wanted : (again : List (List ℕ)) → IsRecordedInPieces outer j stream (reoffered inner outer pieces j) carries again
+  pub wanted : (again : List (List ℕ)) → IsRecordedInPieces outer j stream (reordered inner outer pieces j) carries again
       → IsSubsequence (delivered_of outer j again) (wanted_again inner outer pieces j)
-  pub some : (again : List (List ℕ)) → IsRecordedInPieces outer j stream (reoffered inner outer pieces j) carries again
-      → IsSubsequence (delivered_of outer j again) (relayed inner pieces)
+  pub classes : (onward : CarriesInPieces outer j stream (reordered inner outer pieces j)) (again : List (List ℕ))
+      → IsRecordedInPieces outer j stream (reordered inner outer pieces j) onward again → (class : Class)
+      → IsSubsequence (datagrams_of_class (service_at outer j).urgent class (delivered_of outer j again))
+      (datagrams_of_class (service_at outer j).urgent class (relayed inner pieces))
+  pub some : (service_at outer j).urgent ≡ [] → (onward : CarriesInPieces outer j stream (reordered inner outer pieces j)) (again : List (List ℕ))
+      → IsRecordedInPieces outer j stream (reordered inner outer pieces j) onward again → IsSubsequence (delivered_of outer j again) (relayed inner pieces)
 
 -- what was relayed is merged of what each service of the inner plan delivers, and this is some of what the service wants of what was sent to it
 pub record ArrivesMerged (inner : PlanFields) (sent pieces : List (List ℕ)) : Type 0 where
