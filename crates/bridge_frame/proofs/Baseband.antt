@@ -2,7 +2,6 @@
 use Rattle.std.proofs.Common.{◌≡◌, ℕ, ◌+◌, Bool, true, false, not, cond, ◌&&◌, eqb, eqb-true, Option, Some, List, [], ◌∷◌, ◌++◌, drop, length, refl, ap, sym, ◌∙◌, subst, arith, eq-eqb}
 use Rattle.std.specs.Option.{option_eq}
 use Rattle.std.proofs.lemmas.Bool.{ne_eqb}
-use Rattle.std.proofs.lemmas.Option.{same_Some}
 use Rattle.std.proofs.lemmas.List.{drop_at}
 use Rattle.std.proofs.lemmas.Grind.{flat_map-append}
 use Rattle.gse_spec.specs.Frame.{FrameFields, is_frame, frame_fields}
@@ -15,7 +14,7 @@ use Rattle.gse_law.proofs.Steps.{one_frame}
 use Rattle.gse_reassembly.specs.Slots.{SlotsState, Stands}
 use Rattle.bridge_spec.specs.Frames.{frame_of_pdu, frames_on_isi}
 use Rattle.bridge_frame.specs.Pdus.{frames_of_pdus}
-use Rattle.bridge_frame.specs.Bridge.{BridgeState, HasTakenFrames, added_on_isi}
+use Rattle.bridge_frame.specs.Bridge.{BridgeState, of_pdus, HasTakenFrames, added_on_isi}
 use Rattle.bridge_frame.proofs.Placed.{latest_both}
 
 -- without a filter the frames received are those of all PDUs
@@ -83,9 +82,9 @@ module _ (isi : ℕ) (frames : List (List ℕ)) (b : List ℕ) where
 
 -- What a bridge makes of a frame of its ISI.
 module _ (isi : ℕ) (frames : List (List ℕ)) (b field : List ℕ) (of_isi : is_frame_of isi b ≡ true) (field_is : (frame_fields b).field ≡ field)
-    (bridge : BridgeState) (slots : SlotsState) (slots_are : bridge.slots ≡ Some slots) (has : HasTakenFrames isi bridge frames) where
+    (bridge : BridgeState) (slots : SlotsState) (units_are : bridge.units ≡ of_pdus slots) (has : HasTakenFrames isi bridge frames) where
   same_slots : has.state ≡ slots
-  same_slots = same_Some has.state slots (sym has.slots_are ∙ slots_are)
+  same_slots = let both : of_pdus has.state ≡ of_pdus slots = sym has.units_are ∙ units_are in cc
 
   pub slots_stand : Stands slots (latest_first [] (received_gse_packets isi frames))
   slots_stand = subst (λ (s : SlotsState). Stands s (latest_first [] (received_gse_packets isi frames))) same_slots has.stands
@@ -98,11 +97,11 @@ module _ (isi : ℕ) (frames : List (List ℕ)) (b field : List ℕ) (of_isi : i
 
   pub frame_taken : (now : SlotsState) (n : ℕ) → now.frame_number ≡ slots.frame_number + 1
       → Stands now (latest_first (latest_first [] (received_gse_packets isi frames)) (placed (length frames) (slots.frame_number + 1) 0 (packets_of field)))
-      → HasTakenFrames isi (record { id = bridge.id; taken = n; sndus = bridge.sndus; slots = Some now }) (frames ++ b ∷ [])
+      → HasTakenFrames isi (record { id = bridge.id; taken = n; units = of_pdus now }) (frames ++ b ∷ [])
   frame_taken now n counted stands = record {
     selected = has.selected;
     state = now;
-    slots_are = refl;
+    units_are = refl;
     stands = stands_after isi frames b field of_isi field_is now
         (subst (λ (h : ℕ). Stands now (latest_first (latest_first [] (received_gse_packets isi frames)) (these (h + 1)))) number_is stands);
     frame_number_is = counted ∙ ap (λ (h : ℕ). h + 1) number_is ∙ counted_after isi frames b field of_isi field_is;
@@ -114,11 +113,11 @@ module _ (isi : ℕ) (frames : List (List ℕ)) (b field : List ℕ) (of_isi : i
 
 -- and of another
 pub frame_passed : (isi : ℕ) (frames : List (List ℕ)) (b : List ℕ) → is_frame_of isi b ≡ false → (bridge : BridgeState) (n : ℕ) → HasTakenFrames isi bridge frames
-    → HasTakenFrames isi (record { id = bridge.id; taken = n; sndus = bridge.sndus; slots = bridge.slots }) (frames ++ b ∷ [])
+    → HasTakenFrames isi (record { id = bridge.id; taken = n; units = bridge.units }) (frames ++ b ∷ [])
 frame_passed isi frames b off bridge n has = record {
   selected = has.selected;
   state = has.state;
-  slots_are = has.slots_are;
+  units_are = has.units_are;
   stands = others_stand isi frames b off has.state has.stands;
   frame_number_is = has.frame_number_is ∙ others_counted isi frames b off;
 }

@@ -70,11 +70,11 @@ module _ (pid : ℕ) (records : List Record) (r : Record) (off : is_on pid r ≡
 
 -- so a bridge stands for it too, and nothing is handed out
 pub passed_over : (pid : ℕ) (records : List Record) (r : Record) → is_on pid r ≡ false → (bridge : BridgeState) (n : ℕ) → HasTakenRecords pid bridge records
-    → HasTakenRecords pid (record { id = bridge.id; taken = n; sndus = bridge.sndus; slots = bridge.slots }) (records ++ r ∷ [])
+    → HasTakenRecords pid (record { id = bridge.id; taken = n; units = bridge.units }) (records ++ r ∷ [])
 passed_over pid records r off bridge n has = record {
   selected = has.selected;
   state = has.state;
-  sndus_are = has.sndus_are;
+  units_are = has.units_are;
   received = others_taken pid records r off has.state has.received;
 }
 

@@ -1,13 +1,12 @@
 -- One record more of those that a bridge has taken.
 use Rattle.std.proofs.Common.{◌≡◌, ℕ, ◌-◌, true, false, List, [], ◌∷◌, ◌++◌, length, drop, refl, ap, sym, ◌∙◌, subst, arith, Option}
-use Rattle.std.specs.Prelude.{is_some}
 use Rattle.std.proofs.lemmas.List.{map-append}
 use Rattle.wire_spec.specs.Causes.{Rose, raised}
 use Rattle.ts_spec.specs.Recording.{Record, plain, records_of}
 use Rattle.outlet_spec.specs.Pairs.{pairs_of, Delivers, DeliversFront}
 use Rattle.outlet_spec.proofs.Pairs.{pairs_of-append, delivers_then, front_then}
 use Rattle.bridge_spec.specs.Frames.{BridgeCarrier, on_pid, on_isi, frames_on_isi, received_ethernet_frames}
-use Rattle.bridge_frame.specs.Bridge.{BridgeState, HasTakenRecords, HasTakenFrames}
+use Rattle.bridge_frame.specs.Bridge.{BridgeState, is_of_sndus, HasTakenRecords, HasTakenFrames}
 use Rattle.bridge_frame.specs.Taking.{contents, frames_of_records, added_by_record, HasTaken, TookRecords, StoppedInRecord}
 use Rattle.bridge_frame.proofs.Records.{frames_stay}
 use Rattle.bridge_frame.proofs.Baseband.{frames_stay as baseband_stays}
@@ -69,14 +68,14 @@ module _ (start mid now : BridgeState) (old mids new : List (ℕ × List ℕ) �
 
 -- A bridge of SNDUs has a PID, and one of GSE packets an ISI.
 module _ (bridge : BridgeState) (P : BridgeCarrier → List Record → Type 0) where
-  pub by_records : is_some bridge.slots ≡ false → ((pid : ℕ) (given : List Record) → HasTakenRecords pid bridge given → P (on_pid pid) given)
+  pub by_records : is_of_sndus bridge.units ≡ true → ((pid : ℕ) (given : List Record) → HasTakenRecords pid bridge given → P (on_pid pid) given)
       → (carrier : BridgeCarrier) (given : List Record) → HasTaken carrier bridge given → P carrier given
   by_records none each (on_pid pid) given has = each pid given has
-  by_records none each (on_isi isi) given has = let some : is_some bridge.slots ≡ true = ap is_some has.slots_are in absurd (cc)
+  by_records none each (on_isi isi) given has = let pdus : is_of_sndus bridge.units ≡ false = ap is_of_sndus has.units_are in absurd (cc)
 
-  pub by_frames : is_some bridge.sndus ≡ false → ((isi : ℕ) (given : List Record) → HasTakenFrames isi bridge (contents given) → P (on_isi isi) given)
+  pub by_frames : is_of_sndus bridge.units ≡ false → ((isi : ℕ) (given : List Record) → HasTakenFrames isi bridge (contents given) → P (on_isi isi) given)
       → (carrier : BridgeCarrier) (given : List Record) → HasTaken carrier bridge given → P carrier given
-  by_frames none each (on_pid pid) given has = let some : is_some bridge.sndus ≡ true = ap is_some has.sndus_are in absurd (cc)
+  by_frames none each (on_pid pid) given has = let sndus : is_of_sndus bridge.units ≡ true = ap is_of_sndus has.units_are in absurd (cc)
   by_frames none each (on_isi isi) given has = each isi given has
 
 -- one frame more

@@ -1,11 +1,11 @@
 -- A bridge as a taker of records: those of transport packets, or the frames of a plain recording.
-use Rattle.std.specs.Prelude.{◌≡◌, ℕ, ◌≤◌, true, false, List, [], ◌∷◌, ◌++◌, map, is_some}
+use Rattle.std.specs.Prelude.{◌≡◌, ℕ, ◌≤◌, true, false, List, [], ◌∷◌, ◌++◌, map}
 use Rattle.wire_spec.specs.Causes.{Rose}
 use Rattle.ts_spec.specs.Recording.{Record}
 use Rattle.outlet_spec.specs.Pairs.{pairs_of, Delivers, DeliversFront}
 use Rattle.bridge_spec.specs.Frames.{BridgeCarrier, on_pid, on_isi, frames_on_pid, frames_on_isi}
 use Rattle.bridge_frame.specs.Sndus.{added_on_pid}
-use Rattle.bridge_frame.specs.Bridge.{BridgeState, HasTakenRecords, HasTakenFrames, added_on_isi}
+use Rattle.bridge_frame.specs.Bridge.{BridgeState, is_of_sndus, HasTakenRecords, HasTakenFrames, added_on_isi}
 
 -- the bytes of each record
 abbrev pub contents : List Record → List (List ℕ)
@@ -27,8 +27,8 @@ HasTaken (on_isi isi) bridge records = HasTakenFrames isi bridge (contents recor
 
 -- the records of a bridge of SNDUs are packets, and those of one of GSE packets have a header and its CRC-8
 pub record TakesSize (bridge : BridgeState) (size : ℕ) : Type 0 where
-  pub packet : is_some bridge.sndus ≡ true → size ≡ 188
-  pub frame : is_some bridge.sndus ≡ false → 10 ≤ size
+  pub packet : is_of_sndus bridge.units ≡ true → size ≡ 188
+  pub frame : is_of_sndus bridge.units ≡ false → 10 ≤ size
 
 -- it was given these records, and an outlet all their Ethernet frames as service 0, without a fault
 pub record HasGiven (carrier : BridgeCarrier) (now : BridgeState) (old new : List (ℕ × List ℕ) → Type 0) (faults now_faults : ℕ) (records : List Record) : Type 0 where

@@ -11,6 +11,15 @@ use std::marker::Model;
 use ts_packet::parse as parse_packet;
 use ts_record::Record;
 
+/// What is under way, by the carrier.
+#[derive(Drop)]
+enum Units<A: Allocator> {
+    /// Of SNDUs.
+    Sndus(SnduBridge<A>),
+    /// Of PDUs in GSE packets.
+    Pdus(Slots<A>),
+}
+
 /// The Ethernet frames of one PID of a transport stream, or of one ISI of baseband frames.
 ///
 /// It is known by what it was given: contracts see what `HasTakenRecords` and `HasTakenFrames` tie to these.
@@ -20,21 +29,19 @@ pub struct Bridge<A: Allocator> {
     id: Option<u16>,
     /// How many items were taken.
     taken: u64,
-    /// Where it is one of SNDUs.
-    sndus: Option<SnduBridge<A>>,
-    /// Where it is one of GSE packets.
-    slots: Option<Slots<A>>,
+    /// What is under way.
+    units: Units<A>,
 }
 
 impl<A: Allocator> Model for Bridge<A> {
-    ghost use Rattle.std.specs.Prelude.{◌≡◌, ◌≤◌, IfSome, is_some, not};
-    ghost use Rattle.bridge_frame.specs.Bridge.{BridgeState};
+    ghost use Rattle.bridge_frame.specs.Bridge.{BridgeState, FitsUnits};
+    ghost use Rattle.bridge_frame.specs.Units.{under_way};
 
     ghost Value = { BridgeState };
 
-    ghost view = { λ bridge. record { id = bridge.id; taken = bridge.taken; sndus = bridge.sndus; slots = bridge.slots } };
+    ghost view = { λ bridge. record { id = bridge.id; taken = bridge.taken; units = under_way bridge.units } };
 
-    ghost invariant = { λ bridge. IfSome bridge.slots (λ slots. slots.frame_number ≤ bridge.taken) × (is_some bridge.slots ≡ not (is_some bridge.sndus)) };
+    ghost invariant = { λ bridge. FitsUnits bridge.taken (under_way bridge.units) };
 }
 
 impl<A: Allocator> Bridge<A> {
@@ -43,15 +50,14 @@ impl<A: Allocator> Bridge<A> {
     ghost use Rattle.ts_spec.specs.Recording.{Record as ReadRecord};
     ghost use Rattle.ts_record.specs.Reading.{record_seen};
     ghost use Rattle.outlet_spec.specs.Pairs.{pairs_of, Delivers, DeliversFront};
-    ghost use Rattle.bridge_frame.specs.Bridge.{BridgeState, HasSizes, HasTakenRecords, HasTakenFrames, added_on_isi};
+    ghost use Rattle.bridge_frame.specs.Bridge.{BridgeState, is_of_sndus, HasSizes, HasTakenRecords, HasTakenFrames, added_on_isi};
     ghost use Rattle.bridge_frame.specs.Sndus.{added_on_pid};
 
     /// A bridge of SNDUs (`ule`) over a buffer of 32,771 bytes and no slots, or of GSE packets over one of 256 times 65,540 bytes and a slot for each
     /// of 256 Frag IDs. It takes no memory afterwards.
     pub fn over(buffer: Vec<u8, A>, slots: Vec<Slot, A>, ule: bool) -> Bridge<A>
         requires sizes { HasSizes ule (vec_len buffer) (vec_len slots) }
-        ensures sndus { is_some result.sndus ≡ ule }
-        ensures slots { is_some result.slots ≡ not ule }
+        ensures kind { is_of_sndus result.units ≡ ule }
         ensures unselected { result.id ≡ None }
         ensures fresh { result.taken ≡ 0 }
         ensures records { (pid : ℕ) → ule ≡ true → HasTakenRecords pid (record result { id = Some pid }) [] }
@@ -61,15 +67,13 @@ impl<A: Allocator> Bridge<A> {
             Bridge {
                 id: None,
                 taken: 0,
-                sndus: Some(SnduBridge::over(buffer)),
-                slots: None,
+                units: Units::Sndus(SnduBridge::over(buffer)),
             }
         } else {
             Bridge {
                 id: None,
                 taken: 0,
-                sndus: None,
-                slots: Some(Slots::over(buffer, slots)),
+                units: Units::Pdus(Slots::over(buffer, slots)),
             }
         }
     }
@@ -86,7 +90,7 @@ impl<A: Allocator> Bridge<A> {
     ///
     /// Failed: the outlet refused one, and those after it are not offered.
     pub fn step<T: Outlet>(&mut self, item: &Record, outlet: &mut T) -> Result<(), Failed>
-        requires sndus { is_some self.old.sndus ≡ true }
+        requires kind { is_of_sndus self.old.units ≡ true }
         requires selected { is_some self.old.id ≡ true }
         requires few { self.old.taken < 2 ^ 32 }
         requires served { 0 < T.services outlet.old }
@@ -98,8 +102,7 @@ impl<A: Allocator> Bridge<A> {
             → OnErr result (DeliversFront (T.StandsFor outlet.old) (T.StandsFor outlet.new) (T.Refused outlet.new) (pairs_of 0 (added_on_pid pid records (record_seen item.now)))) }
         ensures counted { self.new.taken ≡ self.old.taken + 1 }
         ensures id { self.new.id ≡ self.old.id }
-        ensures kind { is_some self.new.sndus ≡ true }
-        ensures slots { self.new.slots ≡ self.old.slots }
+        ensures kind { is_of_sndus self.new.units ≡ true }
         ensures services { T.services outlet.new ≡ T.services outlet.old }
         ensures cause { HasCause (T.faults outlet.old) (T.faults outlet.new) result }
     {
@@ -113,7 +116,7 @@ impl<A: Allocator> Bridge<A> {
         bytes: &[u8; 188],
         outlet: &mut T,
     ) -> Result<(), Failed>
-        requires sndus { is_some self.old.sndus ≡ true }
+        requires kind { is_of_sndus self.old.units ≡ true }
         requires selected { is_some self.old.id ≡ true }
         requires few { self.old.taken < 2 ^ 32 }
         requires served { 0 < T.services outlet.old }
@@ -125,8 +128,7 @@ impl<A: Allocator> Bridge<A> {
             → OnErr result (DeliversFront (T.StandsFor outlet.old) (T.StandsFor outlet.new) (T.Refused outlet.new) (pairs_of 0 (added_on_pid pid records (record { moment = moment; bytes = bytes.now })))) }
         ensures counted { self.new.taken ≡ self.old.taken + 1 }
         ensures id { self.new.id ≡ self.old.id }
-        ensures kind { is_some self.new.sndus ≡ true }
-        ensures slots { self.new.slots ≡ self.old.slots }
+        ensures kind { is_of_sndus self.new.units ≡ true }
         ensures services { T.services outlet.new ≡ T.services outlet.old }
         ensures cause { HasCause (T.faults outlet.old) (T.faults outlet.new) result }
     {
@@ -142,9 +144,9 @@ impl<A: Allocator> Bridge<A> {
         if self.id != Some(packet.pid) {
             return Ok(());
         }
-        match &mut self.sndus {
-            Some(sndus) => sndus.take(bytes, &packet, moment, outlet),
-            None => Ok(()),
+        match &mut self.units {
+            Units::Sndus(sndus) => sndus.take(bytes, &packet, moment, outlet),
+            Units::Pdus(_) => unreachable!(),
         }
     }
 
@@ -152,7 +154,7 @@ impl<A: Allocator> Bridge<A> {
     ///
     /// Failed: the outlet refused one, and those after it are not offered.
     pub fn step_frame<T: Outlet>(&mut self, frame: &[u8], outlet: &mut T) -> Result<(), Failed>
-        requires pdus { is_some self.old.slots ≡ true }
+        requires kind { is_of_sndus self.old.units ≡ false }
         requires selected { is_some self.old.id ≡ true }
         requires header { 10 ≤ length frame.now }
         requires few { self.old.taken < 2 ^ 32 }
@@ -165,8 +167,7 @@ impl<A: Allocator> Bridge<A> {
             → OnErr result (DeliversFront (T.StandsFor outlet.old) (T.StandsFor outlet.new) (T.Refused outlet.new) (pairs_of 0 (added_on_isi isi frames frame.now))) }
         ensures counted { self.new.taken ≡ self.old.taken + 1 }
         ensures id { self.new.id ≡ self.old.id }
-        ensures kind { is_some self.new.slots ≡ true }
-        ensures sndus { self.new.sndus ≡ self.old.sndus }
+        ensures kind { is_of_sndus self.new.units ≡ false }
         ensures services { T.services outlet.new ≡ T.services outlet.old }
         ensures cause { HasCause (T.faults outlet.old) (T.faults outlet.new) result }
     {
@@ -178,17 +179,19 @@ impl<A: Allocator> Bridge<A> {
         if self.id != Some(u16::from(read.isi)) {
             return Ok(());
         }
-        match &mut self.slots {
-            Some(slots) => take_frame(slots, read.field, outlet),
-            None => Ok(()),
+        match &mut self.units {
+            Units::Sndus(_) => unreachable!(),
+            Units::Pdus(slots) => take_frame(slots, read.field, outlet),
         }
     }
 
     /// Whether it is one of SNDUs, which takes packets; otherwise it takes baseband frames.
     pub(crate) fn takes_packets(&self) -> bool
-        ensures sndus { is_some self.now.sndus ≡ result }
-        ensures slots { is_some self.now.slots ≡ not result }
+        ensures kind { is_of_sndus self.now.units ≡ result }
     {
-        self.sndus.is_some()
+        match self.units {
+            Units::Sndus(_) => true,
+            Units::Pdus(_) => false,
+        }
     }
 }

@@ -1,5 +1,6 @@
 //! GSE packets by hand (TS 102 606-1 clause 4.2) in baseband frames; CRC-8 and CRC-32 were worked out apart from this program.
-ghost use Rattle.std.specs.Prelude.{◌≡◌, ◌+◌, ◌^◌, ◌<◌, true, is_some};
+ghost use Rattle.std.specs.Prelude.{◌≡◌, ◌+◌, ◌^◌, ◌<◌, true, false, is_some};
+ghost use Rattle.bridge_frame.specs.Bridge.{is_of_sndus};
 
 use crate::outlet::{FRAME_TEXT, Noted, empty_slots, text_of, zeros};
 use bridge_frame::Bridge;
@@ -42,10 +43,10 @@ fn take(
     text: Option<&str>,
     outlet: &mut Noted,
 ) -> Result<bool, Fail>
-    requires pdus { is_some bridge.old.slots ≡ true }
+    requires pdus { is_of_sndus bridge.old.units ≡ false }
     requires selected { is_some bridge.old.id ≡ true }
     requires few { bridge.old.taken < 2 ^ 10 }
-    ensures pdus { is_some bridge.new.slots ≡ true }
+    ensures pdus { is_of_sndus bridge.new.units ≡ false }
     ensures selected { is_some bridge.new.id ≡ true }
     ensures few { bridge.new.taken < bridge.old.taken + 2 }
 {
@@ -61,10 +62,10 @@ fn take(
 
 /// Whether a case gives what it must.
 fn is_as_wanted(alloc: Global, bridge: &mut Bridge<Global>, case: &str) -> Result<bool, Fail>
-    requires pdus { is_some bridge.old.slots ≡ true }
+    requires pdus { is_of_sndus bridge.old.units ≡ false }
     requires selected { is_some bridge.old.id ≡ true }
     requires few { bridge.old.taken < 2 ^ 8 }
-    ensures pdus { is_some bridge.new.slots ≡ true }
+    ensures pdus { is_of_sndus bridge.new.units ≡ false }
     ensures selected { is_some bridge.new.id ≡ true }
     ensures few { bridge.new.taken < bridge.old.taken + 4 }
 {

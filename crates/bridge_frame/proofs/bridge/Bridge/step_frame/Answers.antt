@@ -1,4 +1,4 @@
-use Rattle.std.proofs.Common.{◌≡◌, ◌∙◌, ◌+◌, ℕ, List, [], length, true, sym, ap, subst, Some, None, OnOk, OnErr}
+use Rattle.std.proofs.Common.{◌≡◌, ◌∙◌, ◌+◌, ℕ, List, [], length, true, sym, ap, subst, OnOk, OnErr}
 use Rattle.std.specs.Result.{is_ok}
 use Rattle.gse_spec.specs.Frame.{FrameFields, frame_fields}
 use Rattle.gse_spec.specs.Reassembly.{latest_first}
@@ -6,10 +6,10 @@ use Rattle.gse_spec.specs.Received.{is_frame_of, received_gse_packets}
 use Rattle.outlet_spec.specs.Pairs.{pairs_of, Delivers, DeliversFront}
 use Rattle.bb_frame.specs.Views.{fields_in}
 use Rattle.bridge_frame.specs.Bridge.{BridgeState, HasTakenFrames}
+use Rattle.bridge_frame.specs.Units.{under_way}
 use Rattle.bridge_frame.proofs.Records.{none_told, not_selected}
 use Rattle.bridge_frame.proofs.Baseband.{frame_passed, nothing_added, unreadable, elsewhere, here, is_selected, frame_taken, frames_handed, slots_stand}
 use Rattle.bridge_frame.proofs.bridge.Bridge.step_frame.Goals as goal
-use Rattle.bridge_frame.proofs.bridge.Bridge.step_frame.Goals.{in-Some, in-None}
 
 pub returns-in-Err-clause-received : goal.returns-in-Err-clause-received
 returns-in-Err-clause-received g c = λ isi frames taken.
@@ -43,14 +43,9 @@ returns-clause-received g c = λ isi frames taken.
     let of_isi : is_frame_of isi b ≡ true = here isi b (fields_in c.in-Ok.read) (sym c.parse.ensures.only ∙ ap is_ok c.in-Ok.is) c.in-Ok.ensures.read
     (sym c.from.ensures ∙ is_selected c.self.inside.id c.from.result isi (sym c.ne.ensures ∙ c.if-ne.false) has.selected) in
     let field_is : (frame_fields b).field ≡ field = ap (λ (f : FrameFields). f.field) (sym c.in-Ok.ensures.read) in
-    elim c.match-self.branch [
-      | in-Some w ↦
-          let stands = slots_stand isi frames b field of_isi field_is _ w.in-Some.slots w.in-Some.is has in
-          rw w.self-inside-is
-          (frame_taken isi frames b field of_isi field_is _ w.in-Some.slots w.in-Some.is has w.take_frame.new.slots (c.self.inside.taken + 1) w.take_frame.ensures.frame_number
-          (w.take_frame.ensures.taken (length frames) (latest_first [] (received_gse_packets isi frames)) stands))
-      | in-None w ↦ let wrong : None ≡ Some has.state = sym w.in-None.is ∙ has.slots_are in absurd (cc)
-    ]
+    let stands = slots_stand isi frames b field of_isi field_is _ c.in-Pdus.slots (ap under_way c.in-Pdus.is) has in
+    (frame_taken isi frames b field of_isi field_is _ c.in-Pdus.slots (ap under_way c.in-Pdus.is) has c.take_frame.new.slots (c.self.inside.taken + 1) c.take_frame.ensures.frame_number
+    (c.take_frame.ensures.taken (length frames) (latest_first [] (received_gse_packets isi frames)) stands))
 
 pub returns-clause-written : goal.returns-clause-written
 returns-clause-written g c = λ isi frames taken.
@@ -60,14 +55,9 @@ returns-clause-written g c = λ isi frames taken.
     let of_isi : is_frame_of isi b ≡ true = here isi b (fields_in c.in-Ok.read) (sym c.parse.ensures.only ∙ ap is_ok c.in-Ok.is) c.in-Ok.ensures.read
     (sym c.from.ensures ∙ is_selected c.self.inside.id c.from.result isi (sym c.ne.ensures ∙ c.if-ne.false) has.selected) in
     let field_is : (frame_fields b).field ≡ field = ap (λ (f : FrameFields). f.field) (sym c.in-Ok.ensures.read) in
-    elim c.match-self.branch [
-      | in-Some w ↦
-          let hands = w.take_frame.ensures.hands (length frames) (latest_first [] (received_gse_packets isi frames)) (slots_stand isi frames b field of_isi field_is _ w.in-Some.slots w.in-Some.is has) in
-          rw (w.outlet-is, w.result-is)
-          (subst (λ (t : List (List ℕ)). OnOk w.take_frame.result (Delivers (g.T.Outlet.StandsFor c.args.outlet.now) (g.T.Outlet.StandsFor w.take_frame.new.outlet) (pairs_of 0 t)))
-          (frames_handed isi frames b field of_isi field_is _ w.in-Some.slots w.in-Some.is has) hands.delivers.told)
-      | in-None w ↦ let wrong : None ≡ Some has.state = sym w.in-None.is ∙ has.slots_are in absurd (cc)
-    ]
+    let hands = c.take_frame.ensures.hands (length frames) (latest_first [] (received_gse_packets isi frames)) (slots_stand isi frames b field of_isi field_is _ c.in-Pdus.slots (ap under_way c.in-Pdus.is) has) in
+    (subst (λ (t : List (List ℕ)). OnOk c.take_frame.result (Delivers (g.T.Outlet.StandsFor c.args.outlet.now) (g.T.Outlet.StandsFor c.take_frame.new.outlet) (pairs_of 0 t)))
+    (frames_handed isi frames b field of_isi field_is _ c.in-Pdus.slots (ap under_way c.in-Pdus.is) has) hands.delivers.told)
 
 pub returns-clause-failed : goal.returns-clause-failed
 returns-clause-failed g c = λ isi frames taken.
@@ -77,11 +67,6 @@ returns-clause-failed g c = λ isi frames taken.
     let of_isi : is_frame_of isi b ≡ true = here isi b (fields_in c.in-Ok.read) (sym c.parse.ensures.only ∙ ap is_ok c.in-Ok.is) c.in-Ok.ensures.read
     (sym c.from.ensures ∙ is_selected c.self.inside.id c.from.result isi (sym c.ne.ensures ∙ c.if-ne.false) has.selected) in
     let field_is : (frame_fields b).field ≡ field = ap (λ (f : FrameFields). f.field) (sym c.in-Ok.ensures.read) in
-    elim c.match-self.branch [
-      | in-Some w ↦
-          let hands = w.take_frame.ensures.hands (length frames) (latest_first [] (received_gse_packets isi frames)) (slots_stand isi frames b field of_isi field_is _ w.in-Some.slots w.in-Some.is has) in
-          rw (w.outlet-is, w.result-is)
-          (subst (λ (t : List (List ℕ)). OnErr w.take_frame.result (DeliversFront (g.T.Outlet.StandsFor c.args.outlet.now) (g.T.Outlet.StandsFor w.take_frame.new.outlet) (g.T.Outlet.Refused w.take_frame.new.outlet) (pairs_of 0 t)))
-          (frames_handed isi frames b field of_isi field_is _ w.in-Some.slots w.in-Some.is has) hands.delivers.failed)
-      | in-None w ↦ let wrong : None ≡ Some has.state = sym w.in-None.is ∙ has.slots_are in absurd (cc)
-    ]
+    let hands = c.take_frame.ensures.hands (length frames) (latest_first [] (received_gse_packets isi frames)) (slots_stand isi frames b field of_isi field_is _ c.in-Pdus.slots (ap under_way c.in-Pdus.is) has) in
+    (subst (λ (t : List (List ℕ)). OnErr c.take_frame.result (DeliversFront (g.T.Outlet.StandsFor c.args.outlet.now) (g.T.Outlet.StandsFor c.take_frame.new.outlet) (g.T.Outlet.Refused c.take_frame.new.outlet) (pairs_of 0 t)))
+    (frames_handed isi frames b field of_isi field_is _ c.in-Pdus.slots (ap under_way c.in-Pdus.is) has) hands.delivers.failed)
