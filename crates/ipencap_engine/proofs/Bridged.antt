@@ -1,15 +1,14 @@
 -- Runs of `bridge`.
-use Rattle.std.proofs.Common.{◌≡◌, ◌⊎◌, inl, inr, ℕ, true, false, List, [], refl, ap, ◌∙◌, Option, None, Some, length}
+use Rattle.std.proofs.Common.{◌≡◌, ◌⊎◌, inl, inr, ℕ, true, false, List, [], refl, ap, ◌∙◌, None, Some, length}
 use Rattle.ipe_io.specs.Told.{InputTold, OutputTold, ShelfTold, RackTold}
 use Rattle.ipe_io.proofs.Told.{stays-refl}
 use Rattle.pcap_file.specs.declared.faults.CaptureFault.{CaptureFault}
-use Rattle.plan_spec.specs.Plan.{PlanFields}
 use Rattle.bridge_spec.specs.Frames.{BridgeCarrier}
 use Rattle.bridge_spec.specs.Sending.{frames_to_carry, too_short_count, too_long_count}
 use Rattle.capture_intake.specs.declared.ends.CaptureEnd.TheVariants as ends
 use Rattle.bridge_command.specs.Bridging.{Bridges, bridged_stream}
 use Rattle.bridge_command.specs.Tally.{IsBridgeTally}
-use Rattle.bridge_command.specs.Lines.{bridge_line}
+use Rattle.bridge_command.specs.Lines.{bridge_tally_line}
 use Rattle.bridge_command.specs.declared.ends.BridgeTally.{BridgeTally}
 use Rattle.send_command.specs.Lines.{fault_line}
 use Rattle.receive_command.proofs.Adding.{adds_none}
@@ -17,7 +16,7 @@ use Rattle.command_words.specs.declared.carrier.Carrier.{Carrier}
 use Rattle.ipencap_engine.specs.Statuses.{status_line}
 use Rattle.ipencap_engine.specs.World.{World, world, Object, the_shelf, the_input, the_output, the_rack}
 use Rattle.ipencap_engine.specs.Jobs.{to_bridge, bridge_carrier, may_use}
-use Rattle.ipencap_engine.specs.Made.{bridging_line, status_of_capture}
+use Rattle.ipencap_engine.specs.Made.{bridge_line, status_of_capture}
 use Rattle.ipencap_engine.specs.Stands.{in_memory}
 use Rattle.ipencap_engine.specs.Runs.{Runs}
 use Rattle.ipencap_engine.specs.declared.status.Status.{Status}
@@ -27,12 +26,12 @@ use Rattle.ipencap_engine.proofs.Settings.{unjudged, keeps_same, without_files}
 
 -- the numbers of a tally are its line
 numbers_are : (carrier : BridgeCarrier) (captured : List (List ℕ)) (tally : BridgeTally) → IsBridgeTally carrier captured tally
-    → bridge_line tally
-    ≡ bridge_line (record { offered = length (frames_to_carry carrier captured); too_short = too_short_count captured; too_long = too_long_count carrier captured })
+    → bridge_tally_line tally
+    ≡ bridge_tally_line (record { offered = length (frames_to_carry carrier captured); too_short = too_short_count captured; too_long = too_long_count carrier captured })
 numbers_are carrier captured tally is =
-    ap (λ (n : ℕ). bridge_line (record { offered = n; too_short = tally.too_short; too_long = tally.too_long })) is.offered
-    ∙ ap (λ (n : ℕ). bridge_line (record { offered = length (frames_to_carry carrier captured); too_short = n; too_long = tally.too_long })) is.too_short
-    ∙ ap (λ (n : ℕ). bridge_line (record { offered = length (frames_to_carry carrier captured); too_short = too_short_count captured; too_long = n })) is.too_long
+    ap (λ (n : ℕ). bridge_tally_line (record { offered = n; too_short = tally.too_short; too_long = tally.too_long })) is.offered
+    ∙ ap (λ (n : ℕ). bridge_tally_line (record { offered = length (frames_to_carry carrier captured); too_short = n; too_long = tally.too_long })) is.too_short
+    ∙ ap (λ (n : ℕ). bridge_tally_line (record { offered = length (frames_to_carry carrier captured); too_short = too_short_count captured; too_long = n })) is.too_long
 
 module _ (on : Carrier) (shelf : ShelfTold) (input taken : InputTold) (output held : OutputTold) (rack : RackTold) (same : Object → Type 0)
     (of_shelf : same the_shelf) (of_rack : same the_rack) (Silent : Type 0) (silent : Silent → same the_output) where
@@ -54,9 +53,9 @@ module _ (on : Carrier) (shelf : ShelfTold) (input taken : InputTold) (output he
   used end reads writes the_rack f = of_rack
 
   pub bridge_done : (tally : BridgeTally) → Bridges carrier (ends.Done tally) input taken output held Silent
-      → Runs (to_bridge on) Done (bridge_line tally) before after same
+      → Runs (to_bridge on) Done (bridge_tally_line tally) before after same
   bridge_done tally all =
-      without_files (to_bridge on) Done (bridge_line tally) before after same refl refl
+      without_files (to_bridge on) Done (bridge_tally_line tally) before after same refl refl
       (unjudged (to_bridge on) Done before same refl (λ e. absurd (cc))) (used Done refl (inr refl))
       (record { shelf = keeps_same (to_bridge on) shelf; input = all.input_kept (λ e. absurd (cc)); output = all.output_kept (λ e. absurd (cc)); rack = refl }) (
         all.read refl,
@@ -64,7 +63,7 @@ module _ (on : Carrier) (shelf : ShelfTold) (input taken : InputTold) (output he
         λ bytes told. let s = all.stands bytes told in (s.captured, s.told),
       )
       (λ plan bytes is told. let s = all.stands bytes told in record {
-        made = record { files = []; output = bridged_stream carrier s.captured; line = bridging_line carrier bytes s.captured None; status = Done };
+        made = record { files = []; output = bridged_stream carrier s.captured; line = bridge_line carrier bytes s.captured None; status = Done };
         makes = record { captured = s.captured; fault = None; told = s.told; made_is = refl };
         files = adds_none rack.files;
         output = s.written;
@@ -82,7 +81,7 @@ module _ (on : Carrier) (shelf : ShelfTold) (input taken : InputTold) (output he
       (record { shelf = keeps_same (to_bridge on) shelf; input = all.input_kept (λ e. absurd (cc)); output = all.output_kept (λ e. absurd (cc)); rack = refl })
       tt
       (λ plan bytes is told. let s = all.stands bytes told in record {
-        made = record { files = []; output = bridged_stream carrier s.captured; line = bridging_line carrier bytes s.captured (Some fault); status = Capture };
+        made = record { files = []; output = bridged_stream carrier s.captured; line = bridge_line carrier bytes s.captured (Some fault); status = Capture };
         makes = record { captured = s.captured; fault = Some fault; told = s.told; made_is = refl };
         files = adds_none rack.files;
         output = s.written;
@@ -105,7 +104,7 @@ module _ (on : Carrier) (shelf : ShelfTold) (input taken : InputTold) (output he
       (record { shelf = keeps_same (to_bridge on) shelf; input = all.input_kept (λ e. absurd (cc)); output = all.sink refl; rack = refl })
       (record { bytes = all.reads.bytes; takes = all.reads.takes; ahead = all.reads.ahead; shows = tt })
       (λ plan bytes is told. let s = all.stands bytes told in record {
-        made = record { files = []; output = bridged_stream carrier s.captured; line = bridging_line carrier bytes s.captured s.fault; status = status_of_capture s.fault };
+        made = record { files = []; output = bridged_stream carrier s.captured; line = bridge_line carrier bytes s.captured s.fault; status = status_of_capture s.fault };
         makes = record { captured = s.captured; fault = s.fault; told = s.told; made_is = refl };
         files = adds_none rack.files;
         count = s.count;

@@ -1,6 +1,6 @@
 -- Ethernet frames that are received: what arrived of those sent, whatever others carry; and what stands of them in the file.
-use Rattle.std.proofs.Common.{◌≡◌, ◌≢◌, ◌⊎◌, inl, inr, ℕ, true, List, [], ◌∷◌, refl, sym, subst, Option}
-use Rattle.wire_spec.specs.Content.{File, Stays}
+use Rattle.std.proofs.Common.{◌≡◌, ◌≢◌, inl, ℕ, true, List, [], ◌∷◌, refl, sym, subst}
+use Rattle.wire_spec.specs.Content.{Stays}
 use Rattle.ipe_io.specs.Told.{RackTold}
 use Rattle.ipe_io.proofs.Told.{stays-refl}
 use Rattle.ts_spec.specs.Recording.{plain, records_of}

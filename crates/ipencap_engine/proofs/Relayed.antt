@@ -1,40 +1,35 @@
 -- Runs of `relay` that have both plans.
-use Rattle.std.proofs.Common.{◌≡◌, ◌≢◌, ◌⊎◌, inl, inr, ℕ, ◌*◌, ◌<◌, ◌≤◌, true, false, List, [], All, refl, ap, sym, subst, ◌∙◌, arith, Option, None, Some}
+use Rattle.std.proofs.Common.{◌≡◌, ◌⊎◌, inl, inr, ℕ, ◌*◌, ◌≤◌, true, false, List, [], All, refl, ap, subst, arith, Some}
 use Rattle.wire_spec.specs.Bytes.{AreBytes}
-use Rattle.wire_spec.specs.Causes.{Rose}
 use Rattle.wire_spec.specs.Lists.{joined}
-use Rattle.wire_spec.specs.Content.{Stays}
-use Rattle.ipe_io.specs.Counts.{IsFlushed}
 use Rattle.ipe_io.specs.Told.{InputTold, OutputTold, ShelfTold, RackTold}
 use Rattle.ipe_io.proofs.Told.{stays-refl}
 use Rattle.plan_spec.specs.Plan.{PlanFields}
 use Rattle.plan_spec.specs.Offered.{offered_in}
 use Rattle.plan_spec.specs.Wholes.{is_whole_plan}
 use Rattle.carrier_spec.specs.Stream.{piece_size, IsSentStream}
-use Rattle.recording_spec.specs.Relayed.{relayed, as_records}
+use Rattle.recording_spec.specs.Relayed.{as_records}
 use Rattle.settings_load.specs.Settings.{IsAcceptedFile}
 use Rattle.send_command.specs.Lines.{tally_line}
-use Rattle.send_command.specs.Tally.{IsTally}
-use Rattle.send_command.specs.Writing.{WritesAll, WritesFront}
 use Rattle.send_command.specs.declared.ends.Tally.{Tally}
 use Rattle.receive_command.specs.Reading.{most_records}
-use Rattle.receive_command.specs.Receives.{TakesAll, TakesFront, TakesMost}
+use Rattle.receive_command.specs.Receives.{TakesAll, TakesMost}
 use Rattle.receive_command.proofs.Adding.{adds_none}
 use Rattle.relay_core.specs.Gathering.{FitsCapture}
-use Rattle.relay_command.specs.Gathered.{IsReadToEnd, FailsToRead, HasTooMany, at_most, within, after as after_end}
-use Rattle.relay_command.specs.Relaying.{LacksMemory, Receives, Relays, RelaysAll, RelaysFront}
+use Rattle.relay_command.specs.Gathered.{FailsToRead, HasTooMany, at_most, within, after as after_end}
+use Rattle.relay_command.specs.Relaying.{RelayLacksMemory, Receives, Relays}
 use Rattle.relay_command.specs.declared.ends.RelayEnd.TheVariants as ends
 use Rattle.ipencap_engine.specs.Statuses.{status_line}
 use Rattle.ipencap_engine.specs.World.{World, world, Object, the_shelf, the_input, the_output, the_rack}
 use Rattle.ipencap_engine.specs.Jobs.{to_relay, may_use, IsPlanOf}
-use Rattle.ipencap_engine.specs.Settings.{JudgesSettings, IsAnswer, GivesPlan, GivesOuter, IsRefusedBy, in_first, in_outer}
+use Rattle.ipencap_engine.specs.Settings.{GivesPlan, GivesOuter, IsRefusedBy, in_first, in_outer}
 use Rattle.ipencap_engine.specs.Counts.{KeepsShelf}
 use Rattle.ipencap_engine.specs.Made.{Made, MakesRelayed, IsRelayOf, numbers_line}
 use Rattle.ipencap_engine.specs.Reads.{TakesPieces, ReadsAll}
 use Rattle.ipencap_engine.specs.Stands.{Stands, in_memory}
 use Rattle.ipencap_engine.specs.Runs.{Runs}
 use Rattle.ipencap_engine.specs.declared.status.Status.{Status}
-use Rattle.ipencap_engine.specs.declared.status.Status.TheVariants.{Done, Settings, SourceFault, SinkFault, OutOfMemory, TooLong}
+use Rattle.ipencap_engine.specs.declared.status.Status.TheVariants.{Done, SourceFault, SinkFault, OutOfMemory, TooLong}
 use Rattle.ipencap_engine.proofs.Plans.{IsFileOf, RefusesNone, told_of, told_name, gives_plan, given_is}
 use Rattle.ipencap_engine.proofs.Received.{read_cut}
 use Rattle.ipencap_engine.proofs.Sent.{numbers_are}
@@ -200,5 +195,5 @@ module _ (first second : List ℕ) (inner outer : PlanFields) (whole : is_whole_
       (used OutOfMemory refl refl (inl (of_output (silent all.unchanged))))
       (record { shelf = shelf; input = all.input_kept (λ e. absurd (cc)); output = all.output_kept (λ e. absurd (cc)); rack = refl })
       tt
-      (λ plan bytes is told. subst (λ (q : PlanFields). LacksMemory q input taken) (one_inner plan is) all.stands)
+      (λ plan bytes is told. subst (λ (q : PlanFields). RelayLacksMemory q input taken) (one_inner plan is) all.stands)
       (λ plan is e. in_memory (λ files. absurd (cc)) refl (stays-refl rack.files)) refl

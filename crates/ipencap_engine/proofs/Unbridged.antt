@@ -1,5 +1,5 @@
 -- Runs of `unbridge`.
-use Rattle.std.proofs.Common.{◌≡◌, ◌≢◌, ◌⊎◌, inl, inr, ℕ, ◌+◌, true, false, List, [], ◌∷◌, refl, sym, subst, Option, None, Some, Result, Ok, Err}
+use Rattle.std.proofs.Common.{◌≡◌, ◌≢◌, ◌⊎◌, inl, inr, ℕ, true, false, List, [], ◌∷◌, refl, subst, Option, None, Some, Result, Ok, Err}
 use Rattle.std.specs.Bool.{⊤}
 use Rattle.wire_spec.specs.Lists.{IsCut}
 use Rattle.wire_spec.specs.Content.{File, AddsFile}
@@ -16,10 +16,9 @@ use Rattle.unbridge_command.proofs.Prefixes.{bridge_part}
 use Rattle.command_words.specs.declared.carrier.Carrier.{Carrier}
 use Rattle.ipencap_engine.specs.Statuses.{status_line, status_of_fault}
 use Rattle.ipencap_engine.specs.World.{World, world, Object, the_shelf, the_input, the_output, the_rack}
-use Rattle.ipencap_engine.specs.Jobs.{Job, Intake, a_recording, an_ethernet_recording, to_unbridge, bridge_carrier, may_end, may_use}
+use Rattle.ipencap_engine.specs.Jobs.{a_recording, an_ethernet_recording, to_unbridge, bridge_carrier, may_end, may_use}
 use Rattle.ipencap_engine.specs.Counts.{CountsFaults}
 use Rattle.ipencap_engine.specs.Reads.{ReadsFrames}
-use Rattle.ipencap_engine.specs.Laws.{TellsRecording, TellsFrames}
 use Rattle.ipencap_engine.specs.Stands.{Stands, LacksMemory, in_memory}
 use Rattle.ipencap_engine.specs.Lines.{IsLine}
 use Rattle.ipencap_engine.specs.Runs.{Runs}

@@ -11,7 +11,7 @@ use Rattle.ipencap_engine.specs.Statuses.{status_line}
 use Rattle.ipencap_engine.specs.World.{World}
 use Rattle.capture_intake.specs.Wanted.{is_ethernet}
 use Rattle.capture_intake.specs.Wanted.{ShowsFault as ShowsFaultIn}
-use Rattle.bridge_command.specs.Lines.{bridge_line}
+use Rattle.bridge_command.specs.Lines.{bridge_tally_line}
 use Rattle.bridge_command.specs.declared.ends.BridgeTally.{BridgeTally}
 use Rattle.ipencap_engine.specs.Jobs.{Job, Intake, no_input, a_capture, a_recording, a_relayed, an_ethernet_capture, an_ethernet_recording, row, TellsSettings}
 use Rattle.ipencap_engine.specs.Settings.{IsRefusalOf}
@@ -25,7 +25,7 @@ IsDoneLine no_input line = line ≡ []
 IsDoneLine a_capture line = (tally : Tally) × (line ≡ tally_line tally)
 IsDoneLine a_recording line = line ≡ []
 IsDoneLine a_relayed line = (tally : Tally) × (line ≡ tally_line tally)
-IsDoneLine an_ethernet_capture line = (tally : BridgeTally) × (line ≡ bridge_line tally)
+IsDoneLine an_ethernet_capture line = (tally : BridgeTally) × (line ≡ bridge_tally_line tally)
 IsDoneLine (an_ethernet_recording carrier) line = line ≡ []
 
 -- that of refused settings says why the first file of them is refused that is

@@ -9,7 +9,7 @@ use Rattle.send_command.specs.Writing.{WritesAll, WritesFront}
 use Rattle.send_command.specs.declared.ends.Tally.{Tally}
 use Rattle.recording_spec.specs.Relayed.{as_records}
 use Rattle.relay_command.specs.Gathered.{FailsToRead, HasTooMany}
-use Rattle.relay_command.specs.Relaying.{Receives, LacksMemory, Relays}
+use Rattle.relay_command.specs.Relaying.{Receives, RelayLacksMemory, Relays}
 use Rattle.relay_command.specs.declared.ends.RelayEnd.TheVariants as ends
 
 module _ (inner outer : PlanFields) (input now : InputTold) (output : OutputTold) (Silent : Type 0) where
@@ -36,7 +36,7 @@ module _ (inner outer : PlanFields) (input now : InputTold) (output : OutputTold
   }
 
   module _ (written : OutputTold) (kept : now.faults ≡ input.faults) where
-    pub lacks_memory : LacksMemory inner input now → written.faults ≡ output.faults → Silent → Relays ends.OutOfMemory inner outer input now output written Silent
+    pub lacks_memory : RelayLacksMemory inner input now → written.faults ≡ output.faults → Silent → Relays ends.OutOfMemory inner outer input now output written Silent
     lacks_memory lacks same silent = record {
       stands = lacks;
       flushed = λ is. absurd (cc);

@@ -11,9 +11,9 @@ use Rattle.datagram_routing.specs.Offering.{IsOffered, HoldDatagrams}
 use Rattle.datagram_routing.specs.declared.offered.Offered.{Offered}
 use Rattle.ts_mux.specs.Sending.{IsUnderPlan}
 use Rattle.recording_spec.specs.Relayed.{as_records, relayed}
-use Rattle.relay_core.specs.Gathering.{GatherState, records_of}
+use Rattle.relay_core.specs.Gathering.{GatherState, delivered_records}
 use Rattle.relay_command.specs.Gathered.{GathersAll}
-use Rattle.relay_command.specs.Relaying.{ReceivesInto}
+use Rattle.relay_command.specs.Relaying.{GathersInto}
 
 are_held : (list : List (List ℕ)) → All IsDatagram list → HoldDatagrams (as_records list)
 are_held list are = All-map (λ (o : Option (List ℕ)). IfSome o IsDatagram) (λ (d : List ℕ). Some d) list are
@@ -21,14 +21,14 @@ are_held list are = All-map (λ (o : Option (List ℕ)). IfSome o IsDatagram) (�
 -- what a recording delivers are datagrams, and these are offered as they are
 module _ (plan outer : PlanFields) (input now : InputTold) (gather : GatherState) (all : GathersAll plan outer input now gather)
     (delivered : (inner : PlanFields) (pieces : List (List ℕ)) → All IsDatagram (relayed inner pieces))
-    (are : (datagrams : List (List ℕ)) → All IsDatagram datagrams → records_of datagrams ≡ as_records datagrams) where
+    (are : (datagrams : List (List ℕ)) → All IsDatagram datagrams → delivered_records datagrams ≡ as_records datagrams) where
   are_datagrams : All IsDatagram all.datagrams
   are_datagrams = subst (λ (datagrams : List (List ℕ)). All IsDatagram datagrams) (sym all.gathers.datagrams_are) (delivered plan all.gathers.pieces)
 
   offers : IsOffered outer (as_records all.datagrams) gather.offered
   offers = subst (λ (records : Records). IsOffered outer records gather.offered) (are all.datagrams are_datagrams) all.gathered.offers
 
-  pub received_into : ReceivesInto plan outer input now gather.offered
+  pub received_into : GathersInto plan outer input now gather.offered
   received_into = record {
     datagrams = all.datagrams;
     receives = record { gathers = all.gathers; fits = all.gathered.fits; of_bytes = all.gathered.of_bytes };

@@ -23,16 +23,16 @@ pub record Receives (plan : PlanFields) (input now : InputTold) (datagrams : Lis
   pub of_bytes : All AreBytes datagrams
 
 -- they were offered under the outer plan, as the records of a capture
-pub record ReceivesInto (inner outer : PlanFields) (input now : InputTold) (offered : Offered) : Type 0 where
+pub record GathersInto (inner outer : PlanFields) (input now : InputTold) (offered : Offered) : Type 0 where
   pub datagrams : List (List ℕ)
   pub receives : Receives inner input now datagrams
   pub offers : IsOffered outer (as_records datagrams) offered
 
 -- memory ran out: before the input was read, at a datagram with which the limits are not passed, or after all datagrams were gathered
-pub data LacksMemory (plan : PlanFields) (input now : InputTold) : Type 0 where
-  unread : now ≡ input → LacksMemory plan input now
-  at_datagram : LacksForDatagram plan input now → LacksMemory plan input now
-  gathered : (datagrams : List (List ℕ)) → Receives plan input now datagrams → LacksMemory plan input now
+pub data RelayLacksMemory (plan : PlanFields) (input now : InputTold) : Type 0 where
+  unread : now ≡ input → RelayLacksMemory plan input now
+  at_datagram : LacksForDatagram plan input now → RelayLacksMemory plan input now
+  gathered : (datagrams : List (List ℕ)) → Receives plan input now datagrams → RelayLacksMemory plan input now
 
 -- the whole stream of them was written, as of a capture's records, and these are the numbers
 pub record RelaysAll (inner outer : PlanFields) (input now : InputTold) (tally : Tally) (old new : Option (List ℕ)) : Type 0 where
@@ -52,7 +52,7 @@ Stands (ends.Done tally) inner outer input now old new = RelaysAll inner outer i
 Stands ends.SinkFault inner outer input now old new = RelaysFront inner outer input now old new
 Stands ends.SourceFault inner outer input now old new = FailsToRead inner input now
 Stands ends.TooLong inner outer input now old new = HasTooMany inner input now
-Stands ends.OutOfMemory inner outer input now old new = LacksMemory inner input now
+Stands ends.OutOfMemory inner outer input now old new = RelayLacksMemory inner input now
 
 -- writing was begun
 abbrev pub is_begun : RelayEnd → Bool

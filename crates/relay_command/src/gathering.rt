@@ -8,7 +8,7 @@ ghost use Rattle.recording_reader.specs.Any.{form_in, size_in, content_in, count
 ghost use Rattle.receive_command.specs.Writing.{IsGiven, IsFormOf};
 ghost use Rattle.relay_core.specs.Gathering.{HasGathered};
 ghost use Rattle.relay_command.specs.Gathered.{FailsToRead, HasTooMany, GathersPieces};
-ghost use Rattle.relay_command.specs.Relaying.{ReceivesInto, LacksMemory};
+ghost use Rattle.relay_command.specs.Relaying.{GathersInto, RelayLacksMemory};
 
 use crate::ends::GatherEnd;
 use bumpalo::Bump;
@@ -32,11 +32,11 @@ pub(crate) fn gather_recording<I: Source>(
     outer: &Plan,
     input: &mut I,
 ) -> Result<Offered, GatherEnd>
-    ensures gathers { IfOk result (λ offered. ReceivesInto (plan_fields inner.now) (plan_fields outer.now) (I.told input.old) (I.told input.new) offered) }
+    ensures gathers { IfOk result (λ offered. GathersInto (plan_fields inner.now) (plan_fields outer.now) (I.told input.old) (I.told input.new) offered) }
     ensures under { IfOk result (λ offered. IsUnderPlan (plan_fields outer.now) offered) }
     ensures source { IsErrOf result GatherEnd.Source → FailsToRead (plan_fields inner.now) (I.told input.old) (I.told input.new) }
     ensures too_long { IsErrOf result GatherEnd.TooLong → HasTooMany (plan_fields inner.now) (I.told input.old) (I.told input.new) }
-    ensures memory { IsErrOf result GatherEnd.OutOfMemory → LacksMemory (plan_fields inner.now) (I.told input.old) (I.told input.new) }
+    ensures memory { IsErrOf result GatherEnd.OutOfMemory → RelayLacksMemory (plan_fields inner.now) (I.told input.old) (I.told input.new) }
     ensures kept { ¬ IsErrOf result GatherEnd.Source → (I.told input.new).faults ≡ (I.told input.old).faults }
 {
     gather_under::<I, Brand>(alloc, inner, outer, input)
@@ -50,11 +50,11 @@ fn gather_under<I: Source, P: OuterPlan>(
     input: &mut I,
 ) -> Result<Offered, GatherEnd>
     requires outer { plan_fields outer.now ≡ P.outer }
-    ensures gathers { IfOk result (λ offered. ReceivesInto (plan_fields inner.now) P.outer (I.told input.old) (I.told input.new) offered) }
+    ensures gathers { IfOk result (λ offered. GathersInto (plan_fields inner.now) P.outer (I.told input.old) (I.told input.new) offered) }
     ensures under { IfOk result (λ offered. IsUnderPlan P.outer offered) }
     ensures source { IsErrOf result GatherEnd.Source → FailsToRead (plan_fields inner.now) (I.told input.old) (I.told input.new) }
     ensures too_long { IsErrOf result GatherEnd.TooLong → HasTooMany (plan_fields inner.now) (I.told input.old) (I.told input.new) }
-    ensures memory { IsErrOf result GatherEnd.OutOfMemory → LacksMemory (plan_fields inner.now) (I.told input.old) (I.told input.new) }
+    ensures memory { IsErrOf result GatherEnd.OutOfMemory → RelayLacksMemory (plan_fields inner.now) (I.told input.old) (I.told input.new) }
     ensures kept { ¬ IsErrOf result GatherEnd.Source → (I.told input.new).faults ≡ (I.told input.old).faults }
 {
     delivered_datagrams_are_datagrams();

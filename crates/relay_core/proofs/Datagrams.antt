@@ -6,7 +6,7 @@ use Rattle.std.proofs.lemmas.List.{take_all}
 use Rattle.std.proofs.lemmas.List.Elements.{All-head, All-tail}
 use Rattle.wire_spec.specs.Datagram.{IsDatagram, front_length}
 use Rattle.ip_datagram.proofs.Fronts.{front_length-from_front}
-use Rattle.relay_core.specs.Gathering.{record_with, record_of, records_of}
+use Rattle.relay_core.specs.Gathering.{record_with, record_of, delivered_records}
 
 -- a datagram is its own front
 front_is_all : (datagram : List ℕ) → IsDatagram datagram → front_length datagram ≡ Some (length datagram)
@@ -21,7 +21,7 @@ record_of-datagram datagram is =
     ap (λ (front : Option ℕ). record_with front datagram) (front_is_all datagram is)
     ∙ ap (λ (same : Bool). cond same (Some datagram) None) (eq-eqb (length datagram) (length datagram) refl)
 
-pub records_of-datagrams : (datagrams : List (List ℕ)) → All IsDatagram datagrams → records_of datagrams ≡ map (λ (datagram : List ℕ). Some datagram) datagrams
-records_of-datagrams [] all = refl
-records_of-datagrams (d ∷ datagrams) all =
-    ap₂ (λ (r : Option (List ℕ)) (rs : List (Option (List ℕ))). r ∷ rs) (record_of-datagram d (All-head IsDatagram d datagrams all)) (records_of-datagrams datagrams (All-tail IsDatagram d datagrams all))
+pub delivered_records-datagrams : (datagrams : List (List ℕ)) → All IsDatagram datagrams → delivered_records datagrams ≡ map (λ (datagram : List ℕ). Some datagram) datagrams
+delivered_records-datagrams [] all = refl
+delivered_records-datagrams (d ∷ datagrams) all =
+    ap₂ (λ (r : Option (List ℕ)) (rs : List (Option (List ℕ))). r ∷ rs) (record_of-datagram d (All-head IsDatagram d datagrams all)) (delivered_records-datagrams datagrams (All-tail IsDatagram d datagrams all))

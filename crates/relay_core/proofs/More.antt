@@ -10,20 +10,20 @@ use Rattle.plan_spec.specs.Plan.{PlanFields}
 use Rattle.plan_spec.specs.Offered.{Records}
 use Rattle.datagram_routing.specs.Offering.{IsOffered}
 use Rattle.datagram_routing.specs.declared.offered.Offered.{Offered}
-use Rattle.relay_core.specs.Gathering.{record_of, records_of, IsFrom}
+use Rattle.relay_core.specs.Gathering.{record_of, delivered_records, HasOffered}
 
 -- it is offered as its record, within the limits
 pub one_more : (plan : PlanFields) (old new : Offered) (count size : ℕ) (datagram bytes : List ℕ) (offered : Option (List ℕ))
     → bytes ≡ datagram → AreBytes bytes → offered ≡ record_of bytes → count + 1 ≤ most_records → size + length datagram ≤ most_bytes
     → ((records : Records) → IsOffered plan records old → IsOffered plan (records ++ offered ∷ []) new)
-    → (datagrams : List (List ℕ)) → IsFrom plan old count size datagrams → IsFrom plan new (count + 1) (size + length datagram) (datagrams ++ datagram ∷ [])
+    → (datagrams : List (List ℕ)) → HasOffered plan old count size datagrams → HasOffered plan new (count + 1) (size + length datagram) (datagrams ++ datagram ∷ [])
 one_more plan old new count size datagram bytes offered same are read few small offers datagrams from =
     let longer : length (datagrams ++ datagram ∷ []) ≡ length datagrams + 1 = length_push datagrams datagram in
     let larger : bytes_in (datagrams ++ datagram ∷ []) ≡ bytes_in datagrams + bytes_in (datagram ∷ []) = sum_by-append (λ (b : List ℕ). length b) datagrams (datagram ∷ []) in
     record {
       offers = subst (λ (records : Records). IsOffered plan records new)
-          (ap (λ (r : Option (List ℕ)). records_of datagrams ++ r ∷ []) (read ∙ ap record_of same) ∙ sym (map-append record_of datagrams (datagram ∷ [])))
-          (offers (records_of datagrams) from.offers);
+          (ap (λ (r : Option (List ℕ)). delivered_records datagrams ++ r ∷ []) (read ∙ ap record_of same) ∙ sym (map-append record_of datagrams (datagram ∷ [])))
+          (offers (delivered_records datagrams) from.offers);
       count_is = omega (arith, from.count_is, longer);
       size_is = omega (arith, from.size_is, larger);
       fits = record {

@@ -22,8 +22,8 @@ abbrev pub record_of : List ℕ → Option (List ℕ)
 record_of bytes = record_with (front_length bytes) bytes
 
 -- delivered datagrams as records, one after another
-abbrev pub records_of : List (List ℕ) → Records
-records_of datagrams = map record_of datagrams
+abbrev pub delivered_records : List (List ℕ) → Records
+delivered_records datagrams = map record_of datagrams
 
 -- what was offered, how many datagrams and bytes were delivered for it, why the last refused datagram was refused, and how often one was
 pub record GatherState : Type 0 where
@@ -39,21 +39,21 @@ pub record FitsCapture (datagrams : List (List ℕ)) : Type 0 where
   pub size : bytes_in datagrams ≤ most_bytes
 
 -- these datagrams were offered under the plan, in order; they are as many, of as many bytes, within the limits, and bytes
-pub record IsFrom (plan : PlanFields) (offer : Offered) (count size : ℕ) (datagrams : List (List ℕ)) : Type 0 where
-  pub offers : IsOffered plan (records_of datagrams) offer
+pub record HasOffered (plan : PlanFields) (offer : Offered) (count size : ℕ) (datagrams : List (List ℕ)) : Type 0 where
+  pub offers : IsOffered plan (delivered_records datagrams) offer
   pub count_is : count ≡ length datagrams
   pub size_is : size ≡ bytes_in datagrams
   pub fits : FitsCapture datagrams
   pub of_bytes : All AreBytes datagrams
 
 -- some datagrams were
-pub record IsFromSome (plan : PlanFields) (offer : Offered) (count size : ℕ) : Type 0 where
+pub record HasOfferedSome (plan : PlanFields) (offer : Offered) (count size : ℕ) : Type 0 where
   pub datagrams : List (List ℕ)
-  pub from : IsFrom plan offer count size datagrams
+  pub from : HasOffered plan offer count size datagrams
 
 -- what gathers was given these datagrams
 abbrev pub HasGathered : PlanFields → GatherState → List (List ℕ) → Type 0
-HasGathered plan gather datagrams = IsFrom plan gather.offered gather.count gather.size datagrams
+HasGathered plan gather datagrams = HasOffered plan gather.offered gather.count gather.size datagrams
 
 -- the datagrams of these pairs were gathered, in order, within the limits
 abbrev pub IsGathered : PlanFields → GatherState → List (ℕ × List ℕ) → Type 0

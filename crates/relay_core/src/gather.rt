@@ -61,13 +61,13 @@ pub struct Gather<'p, P: OuterPlan> {
 impl<'p, P: OuterPlan> Model for Gather<'p, P> {
     ghost use Rattle.std.specs.Prelude.{◌≡◌};
     ghost use Rattle.plan.specs.PlanView.{plan_fields};
-    ghost use Rattle.relay_core.specs.Gathering.{GatherState, IsFromSome};
+    ghost use Rattle.relay_core.specs.Gathering.{GatherState, HasOfferedSome};
 
     ghost Value = { GatherState };
 
     ghost view = { λ g. record { offered = g.offered; count = g.count; size = g.size; cause = g.cause; faults = g.faults } };
 
-    ghost invariant = { λ g. (plan_fields g.plan.now ≡ P.outer) × IsFromSome P.outer g.offered g.count g.size };
+    ghost invariant = { λ g. (plan_fields g.plan.now ≡ P.outer) × HasOfferedSome P.outer g.offered g.count g.size };
 }
 
 impl<'p, P: OuterPlan> Gather<'p, P> {

@@ -2,7 +2,7 @@ use Rattle.std.proofs.Common.{◌≡◌, List, ℕ, [], ◌∷◌, ◌++◌, cod
 use Rattle.std.specs.Io.KnownBytes.{Appends}
 use Rattle.std.proofs.KnownBytes.{Appends-trans}
 use Rattle.std.proofs.lemmas.Result.{err_from_is_err_and}
-use Rattle.bridge_command.specs.Lines.{bridge_line}
+use Rattle.bridge_command.specs.Lines.{bridge_tally_line}
 use Rattle.bridge_command.specs.declared.ends.BridgeTally.{BridgeTally}
 use Rattle.bridge_command.proofs.Puts.{puts_then, front_then, front_of_longer}
 use Rattle.bridge_command.proofs.lines.tell_bridge_tally.Goals as goal
@@ -29,18 +29,18 @@ two_are tally = append_assoc (one tally) (codes ", too short ") (decimal tally.t
 three_are : (tally : BridgeTally) → three tally ≡ two tally ++ third tally
 three_are tally = append_assoc (two tally) (codes ", too long ") (decimal tally.too_long)
 
-all_are : (tally : BridgeTally) → bridge_line tally ≡ three tally ++ 10 ∷ []
-unfolding bridge_line
+all_are : (tally : BridgeTally) → bridge_tally_line tally ≡ three tally ++ 10 ∷ []
+unfolding bridge_tally_line
 all_are tally = refl
 
 -- a front of what stands up to a number is one of the line
-of_three : (tally : BridgeTally) (a b : Option (List ℕ)) → (n : ℕ) × Appends a b (take n (three tally)) → (n : ℕ) × Appends a b (take n (bridge_line tally))
-of_three tally a b h = front_of_longer a b (three tally) (10 ∷ []) (bridge_line tally) (all_are tally) h
+of_three : (tally : BridgeTally) (a b : Option (List ℕ)) → (n : ℕ) × Appends a b (take n (three tally)) → (n : ℕ) × Appends a b (take n (bridge_tally_line tally))
+of_three tally a b h = front_of_longer a b (three tally) (10 ∷ []) (bridge_tally_line tally) (all_are tally) h
 
-of_two : (tally : BridgeTally) (a b : Option (List ℕ)) → (n : ℕ) × Appends a b (take n (two tally)) → (n : ℕ) × Appends a b (take n (bridge_line tally))
+of_two : (tally : BridgeTally) (a b : Option (List ℕ)) → (n : ℕ) × Appends a b (take n (two tally)) → (n : ℕ) × Appends a b (take n (bridge_tally_line tally))
 of_two tally a b h = of_three tally a b (front_of_longer a b (two tally) (third tally) (three tally) (three_are tally) h)
 
-of_one : (tally : BridgeTally) (a b : Option (List ℕ)) → (n : ℕ) × Appends a b (take n (one tally)) → (n : ℕ) × Appends a b (take n (bridge_line tally))
+of_one : (tally : BridgeTally) (a b : Option (List ℕ)) → (n : ℕ) × Appends a b (take n (one tally)) → (n : ℕ) × Appends a b (take n (bridge_tally_line tally))
 of_one tally a b h = of_two tally a b (front_of_longer a b (one tally) (second tally) (two tally) (two_are tally) h)
 
 -- what was written up to a number
@@ -78,4 +78,4 @@ returns-clause-written g c =
     let all = up_to_three c.args.tally.now (g.E.Sink.told c.args.complaints.now).held (g.E.Sink.told c.put_number-2.new.complaints).held (g.E.Sink.told c.put_number-3.new.complaints).held
     both c.in_ok-put_number-3.ensures.written in
     puts_then c.put_all.result (g.E.Sink.told c.args.complaints.now).held (g.E.Sink.told c.put_number-3.new.complaints).held (g.E.Sink.told c.put_all.new.sink).held
-    (three c.args.tally.now) (10 ∷ []) (bridge_line c.args.tally.now) (all_are c.args.tally.now) all c.put_all.ensures.written
+    (three c.args.tally.now) (10 ∷ []) (bridge_tally_line c.args.tally.now) (all_are c.args.tally.now) all c.put_all.ensures.written

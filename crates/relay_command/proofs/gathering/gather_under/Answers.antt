@@ -5,7 +5,7 @@ use Rattle.receive_command.proofs.Plans.{services_count}
 use Rattle.receive_command.proofs.Begun.{is_fresh, has_room, is_ready}
 use Rattle.datagram_routing.specs.declared.offered.Offered.{Offered}
 use Rattle.ts_mux.specs.Sending.{IsUnderPlan}
-use Rattle.relay_command.specs.Relaying.{ReceivesInto, at_datagram}
+use Rattle.relay_command.specs.Relaying.{GathersInto, at_datagram}
 use Rattle.relay_command.proofs.Receiving.{too_many, lacks}
 use Rattle.relay_command.proofs.AsRecords.{received_into, under_plan}
 use Rattle.relay_command.proofs.gathering.gather_under.Goals as goal
@@ -39,7 +39,7 @@ pub returns-in-Ok-gather_pieces-clause-gathers : goal.returns-in-Ok-gather_piece
 returns-in-Ok-gather_pieces-clause-gathers g c =
     let inner : PlanFields = plan_fields c.args.inner.now in
     let outer : PlanFields = g.P.OuterPlan.outer in
-    subst (λ (offered : Offered). ReceivesInto inner outer (g.I.Source.told c.args.input.now) (g.I.Source.told c.gather_pieces.new.input) offered) (sym c.into_offered.ensures.read)
+    subst (λ (offered : Offered). GathersInto inner outer (g.I.Source.told c.args.input.now) (g.I.Source.told c.gather_pieces.new.input) offered) (sym c.into_offered.ensures.read)
     (received_into inner outer (g.I.Source.told c.args.input.now) (g.I.Source.told c.gather_pieces.new.input) c.gather_pieces.new.gather c.in-Ok-gather_pieces.ensures.gathers.ends
     c.delivered_datagrams_are_datagrams.ensures.are c.datagrams_are_offered_as_they_are.ensures.are)
 
