@@ -6,6 +6,8 @@
 #[cfg(test)]
 mod chains;
 #[cfg(test)]
+mod classes;
+#[cfg(test)]
 mod fragments;
 #[cfg(test)]
 mod frames;

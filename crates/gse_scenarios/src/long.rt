@@ -216,7 +216,7 @@ fn goes_out_in(
     parts: &[Part<'_>],
 ) -> Result<(), Fail> {
     let frames = frames_of(alloc, datagram, parts)?;
-    goes_out(alloc, case, &IN_300, &[*datagram], &frames)
+    goes_out(alloc, case, &IN_300, &[*datagram], 0, &frames)
 }
 
 /// Compares what comes of what is left of the frames of both.

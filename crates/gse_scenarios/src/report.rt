@@ -167,26 +167,28 @@ pub fn comes(
     leaves(alloc, case, form, "receive", recording, &left)
 }
 
-/// The line that is reported where so many datagrams are sent.
-fn line_of(alloc: Global, count: usize) -> Result<String, OutOfMemory> {
+/// The line that is reported where so many of these datagrams are unrouted.
+fn line_of(alloc: Global, datagrams: &[Datagram], unrouted: usize) -> Result<String, OutOfMemory> {
+    let offered = datagrams.len().saturating_sub(unrouted);
     let mut line = String::new(alloc);
     write!(
         &mut line,
-        "ipencap: offered {count}, not IP 0, unrouted 0, too long 0\n"
+        "ipencap: offered {offered}, not IP 0, unrouted {unrouted}, too long 0\n"
     )?;
     Ok(line)
 }
 
-/// Sends datagrams, and compares the stream and the reported line.
+/// Sends datagrams, of which so many are unrouted, and compares the stream and the reported line.
 pub fn goes_out(
     alloc: Global,
     case: &str,
     form: &Form<'_>,
     datagrams: &[Datagram],
+    unrouted: usize,
     stream: &[u8],
 ) -> Result<(), Fail> {
     let capture = capture_of(alloc, datagrams)?;
-    let line = line_of(alloc, datagrams.len())?;
+    let line = line_of(alloc, datagrams, unrouted)?;
     let left = Left {
         output: stream,
         flushed: stream.len(),

@@ -96,7 +96,7 @@ fn stream(alloc: Global) -> Result<Vec<u8>, Fail> {
 fn all_go_out(alloc: Global, form: &Form<'_>) -> Result<(), Fail> {
     let offered = offered(alloc)?;
     let stream = stream(alloc)?;
-    goes_out(alloc, "sixteen services", form, &offered, &stream)
+    goes_out(alloc, "sixteen services", form, &offered, 0, &stream)
 }
 
 /// One frame of each service, and so on past those that have none left.

@@ -1,0 +1,233 @@
+//! 800 bytes, and then 40 that are urgent, in frames of 300: what goes out, and what comes of it.
+//!
+//! The urgent datagram is received first. An independent program worked out each CRC-8 and the CRC-32.
+use crate::made::{Made, put_frame};
+use crate::report::{Due, Form, Numbers, ServiceDue, comes, goes_out};
+use std::alloc::{AllocError as OutOfMemory, Global};
+use std::test::Fail;
+use test_recordings::Harm::{self, Drop};
+use test_recordings::{Datagram, damaged, datagram_of};
+
+const BOTH: &str = "carrier = \"bb\"
+frame_bytes = 300
+[[service]]
+name = \"both\"
+kind = \"gse\"
+isi = 1
+rules = [\"239.2.0.0/16\", \"239.3.0.0/16\"]
+urgent = [\"239.3.0.0/16\", \"239.5.0.0/16\"]
+";
+
+/// A service without urgent rules.
+const OTHER: &str = "[[service]]
+name = \"other\"
+kind = \"gse\"
+isi = 2
+rules = [\"239.4.0.0/16\"]
+";
+
+const FORM: Form = Form {
+    settings: &[BOTH],
+    size: 300,
+};
+
+const FORM_OF_TWO: Form = Form {
+    settings: &[BOTH, OTHER],
+    size: 300,
+};
+
+const FILE: Datagram = Datagram {
+    size: 800,
+    to: [239, 2, 0, 1],
+};
+
+const CALL: Datagram = Datagram {
+    size: 40,
+    to: [239, 3, 0, 1],
+};
+
+/// A datagram that an urgent rule matches, and no other.
+const STRAY: Datagram = Datagram {
+    size: 40,
+    to: [239, 5, 0, 1],
+};
+
+/// A datagram of the other service, which a frame has alone.
+const PAGE: Datagram = Datagram {
+    size: 280,
+    to: [239, 4, 0, 1],
+};
+
+const PAGE_HEAD: [u8; 10] = [0x50, 2, 0, 0, 9, 0x10, 0, 0, 0, 0x1D];
+
+const PAGE_COMPLETE: [u8; 10] = [0xC1, 0x20, 8, 0, 1, 0, 0x5E, 4, 0, 1];
+
+/// S, Frag ID 0, Total Length 808, Protocol Type and label.
+const START: [u8; 13] = [0x81, 0x20, 0, 3, 0x28, 8, 0, 1, 0, 0x5E, 2, 0, 1];
+
+/// S and E, Protocol Type and label.
+const COMPLETE: [u8; 10] = [0xC0, 0x30, 8, 0, 1, 0, 0x5E, 3, 0, 1];
+
+/// Middle fragments with 237 and 285 bytes, and a last one with one.
+const MIDDLE: [u8; 3] = [0x30, 0xEE, 0];
+
+const NEXT: [u8; 3] = [0x31, 0x1E, 0];
+
+const LAST: [u8; 3] = [0x70, 0x06, 0];
+
+/// The CRC-32 of the long datagram.
+const SUM: [u8; 4] = [0xE2, 0xF0, 0xE6, 0x23];
+
+/// Headers with DFL 2320, 2304 and 64 bits.
+const FULL: [u8; 10] = [0x50, 1, 0, 0, 9, 0x10, 0, 0, 0, 0xD8];
+
+const SHORTER: [u8; 10] = [0x50, 1, 0, 0, 9, 0, 0, 0, 0, 0x76];
+
+const SHORTEST: [u8; 10] = [0x50, 1, 0, 0, 0, 0x40, 0, 0, 0, 0x9C];
+
+/// Appends a frame whose data field has these pieces.
+fn put_pieces(
+    alloc: Global,
+    into: &mut Vec<u8>,
+    head: [u8; 10],
+    packet: &[u8],
+    bytes: &[u8],
+    next: &[u8],
+    more: &[u8],
+) -> Result<(), OutOfMemory> {
+    let made = Made {
+        head,
+        pieces: &[packet, bytes, next, more],
+        times: 1,
+    };
+    put_frame(alloc, into, &made, FORM.size)
+}
+
+/// The four frames.
+fn stream(alloc: Global) -> Result<Vec<u8>, Fail> {
+    let file = datagram_of(alloc, &FILE)?;
+    let call = datagram_of(alloc, &CALL)?;
+    let first = file.get(..277).ok_or("no such bytes")?;
+    let second = file.get(277..514).ok_or("no such bytes")?;
+    let third = file.get(514..799).ok_or("no such bytes")?;
+    let last = file.get(799..).ok_or("no such bytes")?;
+    let mut frames = Vec::new(alloc);
+    put_pieces(alloc, &mut frames, FULL, &START, first, &[], &[])?;
+    put_pieces(alloc, &mut frames, FULL, &COMPLETE, &call, &MIDDLE, second)?;
+    put_pieces(alloc, &mut frames, SHORTER, &NEXT, third, &[], &[])?;
+    put_pieces(alloc, &mut frames, SHORTEST, &LAST, last, &SUM, &[])?;
+    Ok(frames)
+}
+
+/// What happens to the frames, and what comes of it.
+#[derive(Clone, Copy)]
+struct Loss<'a> {
+    name: &'a str,
+    harms: &'a [Harm],
+    records: u64,
+    numbers: Numbers,
+    given: &'a [Datagram],
+}
+
+static LOSSES: [Loss; 3] = [
+    Loss {
+        name: "nothing",
+        harms: &[],
+        records: 4,
+        numbers: Numbers {
+            heard: 4,
+            units: 2,
+            ..Numbers::NONE
+        },
+        given: &[CALL, FILE],
+    },
+    Loss {
+        name: "the frame with the urgent datagram",
+        harms: &[Drop { first: 1, last: 1 }],
+        records: 3,
+        numbers: Numbers {
+            heard: 3,
+            bad_length: 1,
+            ..Numbers::NONE
+        },
+        given: &[],
+    },
+    Loss {
+        name: "the first frame",
+        harms: &[Drop { first: 0, last: 0 }],
+        records: 3,
+        numbers: Numbers {
+            heard: 3,
+            units: 1,
+            delimited: 3,
+            ..Numbers::NONE
+        },
+        given: &[CALL],
+    },
+];
+
+/// Compares what comes of what is left of the frames.
+fn comes_of(alloc: Global, stream: &[u8], loss: &Loss<'_>) -> Result<(), Fail> {
+    let service = ServiceDue {
+        name: "both",
+        file: "both.pcap",
+        numbers: loss.numbers,
+        given: loss.given,
+    };
+    let due = Due {
+        records: loss.records,
+        tail_bytes: 0,
+        unreadable: 0,
+        other: 0,
+        services: &[service],
+    };
+    let recording = damaged(alloc, stream, FORM.size, loss.harms)?;
+    comes(alloc, loss.name, &FORM, &recording, &due)
+}
+
+/// The urgent datagram is whole in the second frame, before the rest of the other.
+#[test]
+fn an_urgent_datagram_does_not_wait_for_the_rest(rt: HostRuntime) -> Result<(), Fail> {
+    let alloc = rt.alloc();
+    let stream = stream(alloc)?;
+    goes_out(alloc, "800 and 40 bytes", &FORM, &[FILE, CALL], 0, &stream)
+}
+
+/// The frames of two services in rotation: the second has one frame.
+fn stream_of_two(alloc: Global) -> Result<Vec<u8>, Fail> {
+    let both = stream(alloc)?;
+    let page = datagram_of(alloc, &PAGE)?;
+    let first = both.get(..FORM.size).ok_or("no frame")?;
+    let others = both.get(FORM.size..).ok_or("no frame")?;
+    let mut frames = Vec::from_slice(alloc, first)?;
+    put_pieces(
+        alloc,
+        &mut frames,
+        PAGE_HEAD,
+        &PAGE_COMPLETE,
+        &page,
+        &[],
+        &[],
+    )?;
+    frames.extend_from_slice(others)?;
+    Ok(frames)
+}
+
+/// The frames of a service with two classes and of one without go out in rotation. An urgent rule brings no datagram.
+#[test]
+fn a_service_with_classes_goes_out_beside_another(rt: HostRuntime) -> Result<(), Fail> {
+    let alloc = rt.alloc();
+    let stream = stream_of_two(alloc)?;
+    let datagrams = [FILE, STRAY, CALL, PAGE];
+    goes_out(alloc, "two services", &FORM_OF_TWO, &datagrams, 1, &stream)
+}
+
+/// Each of the two is given where all its frames came, the urgent one first.
+#[test]
+fn both_classes_are_received_over_losses(rt: HostRuntime) -> Result<(), Fail> {
+    let stream = stream(rt.alloc())?;
+    for loss in &LOSSES {
+        comes_of(rt.alloc(), &stream, loss)?;
+    }
+    Ok(())
+}
