@@ -166,8 +166,13 @@ has_pid_in plan k pid is version = by_pid (pid_in plan version k) refl (ap is_so
     by_pid None e some = absurd (cc)
     by_pid (Some own) e some = (own, e)
 
+-- what goes with each version, on one PID after another, is that of all versions
+pub items_have_all : {X : Type 0} (plan : PlanFields) (items : ℕ → List X) (k pid : ℕ) → is_whole_plan plan ≡ true → k < length plan.services → pid_of (kind_at plan k) ≡ Some pid
+    → flat_map (λ its. flat_map (λ version. cond (has_pid (pid_in plan version k) its) (items version) []) (versions plan)) (pids_in plan k) ≡ flat_map items (versions plan)
+unfolding pids_in
+items_have_all plan items k pid whole known is =
+    all_on (λ version. pid_in plan version k) (has_pid_in plan k pid is) items (length plan.changes + 1) (pids_not_twice plan whole k known)
+
 pub pids_have_all : (plan : PlanFields) (datagrams : ℕ → ℕ → List (List ℕ)) (k pid : ℕ) → is_whole_plan plan ≡ true → k < length plan.services → pid_of (kind_at plan k) ≡ Some pid
     → flat_map (datagrams_on plan datagrams k) (pids_in plan k) ≡ flat_map (λ version. datagrams version k) (versions plan)
-unfolding pids_in
-pids_have_all plan datagrams k pid whole known is =
-    all_on (λ version. pid_in plan version k) (has_pid_in plan k pid is) (λ version. datagrams version k) (length plan.changes + 1) (pids_not_twice plan whole k known)
+pids_have_all plan datagrams k pid whole known is = items_have_all plan (λ version. datagrams version k) k pid whole known is

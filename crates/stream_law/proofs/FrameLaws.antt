@@ -7,8 +7,6 @@ use Rattle.wire_spec.specs.Lists.{joined}
 use Rattle.ts_spec.specs.Form.{IsUnit}
 use Rattle.section_spec.specs.Section.{section_form}
 use Rattle.section_spec.specs.Mpe.{IsRows}
-use Rattle.slice_spec.specs.Sections.{indexed}
-use Rattle.frame_spec.specs.Carried.{CarriesInFrames}
 use Rattle.sent_frame_law.specs.Frames.{IsSendable, CanSend}
 use Rattle.plan_spec.specs.Bytes.{IsMac}
 use Rattle.stream_spec.specs.Units.{units_of_frames}
@@ -55,12 +53,3 @@ module _ (rows : ℕ) where
         → All (IsUnit section_form) (units_of_frames rows columns unicast first frames))
         → (first : ℕ) → All (IsUnit section_form) (units_of_frames rows columns unicast first frames)
     frames_units law first = law rows columns first unicast frames can_send (all_some frames are) (all_fit frames are)
-
-    -- and they carry the datagrams
-    pub frames_carry : ((rows columns first : ℕ) (unicast : List ℕ) (frames : List (List (List ℕ))) (moments : ℕ → ℕ)
-        → CanSend rows columns unicast (flat_map (λ (frame : List (List ℕ)). frame) frames) → All (λ (frame : List (List ℕ)). 0 < length frame) frames
-        → All (λ (frame : List (List ℕ)). length (joined frame) ≤ 191 * rows) frames
-        → CarriesInFrames indexed rows first (units_of_frames rows columns unicast first frames) moments (flat_map (λ (frame : List (List ℕ)). frame) frames))
-        → (first : ℕ) (moments : ℕ → ℕ)
-        → CarriesInFrames indexed rows first (units_of_frames rows columns unicast first frames) moments (flat_map (λ (frame : List (List ℕ)). frame) frames)
-    frames_carry law first moments = law rows columns first unicast frames moments can_send (all_some frames are) (all_fit frames are)

@@ -2,7 +2,7 @@
 use Rattle.std.proofs.Common.{◌≡◌, ℕ, zero, suc, ◌+◌, ◌<◌, Bool, true, false, cond, List, [], ◌∷◌, ◌++◌, length, refl, sym, ap, ap₂, subst, ◌∙◌, arith, Option, Some}
 use Rattle.std.specs.Prelude.{flat_map}
 use Rattle.std.specs.List.{range_with_len}
-use Rattle.std.proofs.lemmas.List.{append-nil}
+use Rattle.std.proofs.lemmas.List.{append-nil, length-append}
 use Rattle.std.proofs.lemmas.Grind.{flat_map-append}
 use Rattle.section_spec.specs.Mpe.{IsRows}
 use Rattle.plan_spec.specs.Changes.{has_pid}
@@ -23,6 +23,10 @@ module _ (pid_at : ℕ → Option ℕ) (all : (v : ℕ) → (pid : ℕ) × (pid_
 
   abbrev number_of : ℕ → ℕ
   number_of v = items_before pid_at all (λ u. datagrams_by_frame rows (lists u)) v
+
+  -- the numbers of the frames on the PID in a version
+  abbrev pub numbers_on : ℕ → List ℕ
+  numbers_on v = cond (has_pid (pid_at v) pid) (range_with_len (number_of v) (length (datagrams_by_frame rows (lists v)))) []
 
   -- the units on the PID of a version
   abbrev pub units_in : ℕ → List (List ℕ)
@@ -59,6 +63,26 @@ module _ (pid_at : ℕ → Option ℕ) (all : (v : ℕ) → (pid : ℕ) × (pid_
             append-nil (units_of_frames rows columns unicast first (frames_on n))
             ∙ ap (units_of_frames rows columns unicast first) (sym (append-nil (frames_on n)))
 
+    numbers_go_on : (n : ℕ) → ((v : ℕ) → v < n → has_pid (pid_at v) pid ≡ true → number_of v ≡ first + length (frames_on v))
+        → flat_map numbers_on (range_with_len 0 n) ≡ range_with_len first (length (frames_on n))
+    numbers_go_on zero each = refl
+    numbers_go_on (suc n) each =
+        ap (flat_map numbers_on) (next n)
+        ∙ flat_map-append numbers_on (range_with_len 0 n) (n ∷ [])
+        ∙ ap₂ (λ (a b : List ℕ). a ++ b) (numbers_go_on n (λ v less. each v (omega (arith, less)))) (append-nil (numbers_on n))
+        ∙ by_pid (has_pid (pid_at n) pid) refl
+        ∙ sym (ap (λ (l : List (List (List ℕ))). range_with_len first (length l)) (frames_next n))
+      where
+        by_pid : (own : Bool) → has_pid (pid_at n) pid ≡ own
+            → range_with_len first (length (frames_on n)) ++ cond own (range_with_len (number_of n) (length (datagrams_by_frame rows (lists n)))) []
+            ≡ range_with_len first (length (frames_on n ++ cond own (datagrams_by_frame rows (lists n)) []))
+        by_pid true e =
+            sym (ap (range_with_len first) (length-append (frames_on n) (datagrams_by_frame rows (lists n)))
+            ∙ range_append first (length (frames_on n)) (length (datagrams_by_frame rows (lists n))) (number_of n) (each n (omega arith) e))
+        by_pid false e =
+            append-nil (range_with_len first (length (frames_on n)))
+            ∙ ap (λ (l : List (List (List ℕ))). range_with_len first (length l)) (sym (append-nil (frames_on n)))
+
   -- the datagrams on the PID
   pub framed_on : (n : ℕ) → flat_map (λ (frame : List (List ℕ)). frame) (frames_on n) ≡ flat_map (λ v. cond (has_pid (pid_at v) pid) (lists v) []) (range_with_len 0 n)
   framed_on zero = refl
@@ -88,8 +112,10 @@ module _ (pid_at : ℕ → Option ℕ) (all : (v : ℕ) → (pid : ℕ) × (pid_
   -- their units are those of frames with numbers that go on
   pub units_are_numbered : (n : ℕ) → twice (pids pid_at all (λ u. datagrams_by_frame rows (lists u)) n) ≡ false
       → (first : ℕ) × (flat_map units_in (range_with_len 0 n) ≡ units_of_frames rows columns unicast first (frames_on n))
+      × (flat_map numbers_on (range_with_len 0 n) ≡ range_with_len first (length (frames_on n)))
   units_are_numbered n once = of_first (goes_on pid_at all (λ u. datagrams_by_frame rows (lists u)) n pid once)
     where
       of_first : (first : ℕ) × ((v : ℕ) → v < n → has_pid (pid_at v) pid ≡ true → number_of v ≡ first + length (frames_on v))
           → (first : ℕ) × (flat_map units_in (range_with_len 0 n) ≡ units_of_frames rows columns unicast first (frames_on n))
-      of_first (first, each) = (first, units_go_on first n each)
+          × (flat_map numbers_on (range_with_len 0 n) ≡ range_with_len first (length (frames_on n)))
+      of_first (first, each) = (first, units_go_on first n each, numbers_go_on first n each)

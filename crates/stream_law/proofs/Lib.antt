@@ -14,6 +14,8 @@ pub mod BurstTimes
 pub mod Arrived
 pub mod SlicedFrames
 pub mod Announced
+pub mod TimesOver
+pub mod NumberedFrames
 pub mod Sliced
 pub mod SlicedArrivals
 pub mod Apart

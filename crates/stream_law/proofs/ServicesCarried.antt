@@ -1,5 +1,5 @@
 -- A stream carries on each PID of a service the datagrams of the versions that give it this PID.
-use Rattle.std.proofs.Common.{◌≡◌, ◌⊎◌, inl, inr, ℕ, zero, suc, ◌+◌, ◌%◌, ◌^◌, ◌<◌, ◌≤◌, Bool, true, false, cond, get_or, List, [], ◌∷◌, ◌++◌, length, map, refl, sym, ap, ap₂, subst, ◌∙◌, arith, Option, Some, None}
+use Rattle.std.proofs.Common.{◌≡◌, ◌⊎◌, inl, inr, ℕ, zero, suc, ◌+◌, ◌/◌, ◌%◌, ◌^◌, ◌<◌, ◌≤◌, Bool, true, false, cond, get_or, List, [], ◌∷◌, ◌++◌, length, map, refl, sym, ap, ap₂, subst, ◌∙◌, arith, Option, Some, None}
 use Rattle.std.specs.Prelude.{flat_map, sum_by, slice_index_or, is_some}
 use Rattle.std.specs.List.{list_all, range_with_len}
 use Rattle.std.proofs.lemmas.Bool.{and_parts, cases_lt}
@@ -14,8 +14,11 @@ use Rattle.carriage_spec.specs.Carried.{packets_sent}
 use Rattle.section_spec.specs.Mpe.{IsRows}
 use Rattle.section_spec.specs.Section.{section_form}
 use Rattle.slice_spec.specs.Moments.{ten}
-use Rattle.slice_spec.specs.Sections.{indexed, sliced}
-use Rattle.frame_spec.specs.Sections.{FrameSection}
+use Rattle.slice_spec.specs.Sections.{SectionTime, indexed, sliced}
+use Rattle.slice_spec.specs.Bursts.{Burst, times_of as times_of_bursts}
+use Rattle.slice_law.specs.Cycles.{bursts_from}
+use Rattle.carriage_law.proofs.Member.{Member, contains_member}
+use Rattle.frame_spec.specs.Sections.{FrameSection, TimedSection, times_of}
 use Rattle.frame_spec.specs.Frame.{AreSentFrames}
 use Rattle.frame_spec.specs.Sender.{frame_of}
 use Rattle.sent_frame_law.proofs.Carried.{all_timed}
@@ -28,9 +31,10 @@ use Rattle.plan_law.proofs.Kept.{length-services_in}
 use Rattle.stream_spec.specs.Units.{FrameSchedule, unit_of, units_with_delta, datagrams_by_frame, units_of_frames, datagrams_by_burst, units_by_burst, packetized_apart, frame_count, units_of_kind, packets_of_kind}
 use Rattle.stream_spec.specs.Services.{kind_at, form_of_kind, carried_by_unit, IsPidOf, datagrams_on, AreCarried, Carries}
 use Rattle.stream_spec.specs.Parts.{PartFields, service_packets}
-use Rattle.stream_spec.specs.Stream.{frame_count_in, frame_count_before, schedule_of, packet_count, shares_pid, packet_count_on, earlier, part_of, IsPartCount}
+use Rattle.stream_spec.specs.Stream.{frame_count_in, frame_count_before, has_frames_after, schedule_of, packet_count, shares_pid, packet_count_on, earlier, part_of, IsPartCount}
 use Rattle.plan_spec.specs.Bytes.{IsMac, AreOfBytes}
 use Rattle.stream_law.specs.Words.{packets_on, FitsWindow, is_single}
+use Rattle.stream_law.specs.Times.{TimesOfService, frames_carried, AreTimedOverPids}
 use Rattle.stream_law.proofs.Ranges.{flat_map_same, sum_same, sum_next}
 use Rattle.stream_law.proofs.Packets.{GoOn, none_go_on}
 use Rattle.stream_law.proofs.KindPackets.{kind_go_on, length-packets_of_kind}
@@ -44,13 +48,15 @@ use Rattle.stream_law.proofs.KindRanges.{HasFrames, kind_has_frames}
 use Rattle.stream_law.proofs.Frames.{AreFramed, IsFrameOf, AreFrames}
 use Rattle.stream_law.proofs.FramesCarried.{frames_on, units_in, framed_on, frames_are, units_are_numbered}
 use Rattle.stream_law.proofs.Numbered.{items_before}
-use Rattle.stream_law.proofs.AllPids.{has_pid_in}
+use Rattle.stream_law.proofs.AllPids.{has_pid_in, items_have_all}
+use Rattle.stream_law.proofs.TimesOver.{AreNumbered, numbers_in, indexed_over}
+use Rattle.stream_law.proofs.NumberedFrames.{sections_by_number, numbered_are}
 use Rattle.stream_law.proofs.Begun.{packet_of_place, packet_is}
 use Rattle.stream_law.proofs.Valued.{IsAt, IsValued, none_valued, all_valued}
 use Rattle.stream_law.proofs.BurstValues.{AreUnits, all_packet_moments, all_section_moments}
-use Rattle.stream_law.proofs.BurstTimes.{Agree}
+use Rattle.stream_law.proofs.BurstTimes.{Agree, places_of}
 use Rattle.stream_law.proofs.SlicedFrames.{AllRead, AreOfFrames}
-use Rattle.stream_law.proofs.Sliced.{valued_in, in_frames as in_frames_of}
+use Rattle.stream_law.proofs.Sliced.{valued_in, frames_sent, times_sent, over_all_pids, in_frames as in_frames_of}
 
 -- each kind of the list has a PID
 kind_is : (ks : List KindFields) (k : ℕ) → list_all (λ kind. is_some (pid_of kind)) ks ≡ true → k < length ks → is_some (pid_of (get_or ks k (mpe 0))) ≡ true
@@ -118,6 +124,37 @@ module _ (plan : PlanFields) (datagrams : ℕ → ℕ → List (List ℕ)) (slot
 
   abbrev on : ℕ → ℕ → ℕ → List PacketFields
   on k pid version = packets_on plan datagrams slots k pid version
+
+  -- The times of frames on a PID, by kind: of those of each version with it the numbers, or with time slicing the times of its bursts.
+
+  abbrev bursts_in : ℕ → ℕ → ℕ → WindowFields → ℕ → List Burst
+  bursts_in k rows columns window v =
+      bursts_from (sum_by (λ u. slots u / plan.cycle) (earlier v) + 0)
+      (map (places_of rows columns (get_or (map (λ (service : ServiceFields). service.unicast) plan.services) k []) (schedule k v) window)
+      (datagrams_by_burst rows columns window.length (datagrams v k)))
+
+  abbrev times_in : ℕ → ℕ → ℕ → WindowFields → ℕ → List (List SectionTime)
+  times_in k rows columns window v =
+      times_of_bursts (record { form = plan.recording; rate = plan.packet_rate; cycle = plan.cycle; start = window.start; length = window.length })
+      (has_frames_after plan datagrams k v) (bursts_in k rows columns window v)
+
+  abbrev count_in : ℕ → ℕ → ℕ → ℕ
+  count_in k rows v = length (datagrams_by_frame rows (datagrams v k))
+
+  abbrev HaveTimes : KindFields → ℕ → ℕ → List (List SectionTime) → Type 0
+  HaveTimes (ule own address packing) k pid times = Unit {0}
+  HaveTimes (mpe own) k pid times = Unit {0}
+  HaveTimes (fec own rows columns None) k pid times =
+      AreNumbered (flat_map (λ v. cond (has_pid (pid_in plan v k) pid) (numbers_in (count_in k rows) v) []) (versions plan)) times
+  HaveTimes (fec own rows columns (Some window)) k pid times =
+      times ≡ flat_map (λ v. cond (has_pid (pid_in plan v k) pid) (times_in k rows columns window v) []) (versions plan)
+  HaveTimes (gse isi address) k pid times = Unit {0}
+
+  -- the units of a PID carry its datagrams, and these frames, which have their times
+  record CarriesWith (of : KindFields) (k pid first : ℕ) (moments : ℕ → ℕ) (frames : List (List TimedSection)) : Type 0 where
+    carried : AreCarried plan.recording of first (flat_map (units_on k pid) (versions plan)) moments (datagrams_on plan datagrams k pid)
+    frames_are : frames ≡ frames_carried of plan.recording first (flat_map (units_on k pid) (versions plan)) moments (datagrams_on plan datagrams k pid) carried
+    times : HaveTimes of k pid (map times_of frames)
 
   -- so many packets are on the PID before a version
   abbrev out_before : ℕ → ℕ → ℕ → ℕ
@@ -210,7 +247,8 @@ module _ (plan : PlanFields) (datagrams : ℕ → ℕ → List (List ℕ)) (slot
         → offered ≡ flat_map (carried_by_unit of) (units_of_kind of mac it offered))
         (frames_carry : (mac : List ℕ) → IsMac mac → (rows columns first : ℕ) (frames : List (List (List ℕ))) (moments : ℕ → ℕ) → IsRows rows → 1 ≤ columns → columns ≤ 64
         → AreFrames rows frames
-        → CarriesInFrames indexed rows first (units_of_frames rows columns mac first frames) moments (flat_map (λ (frame : List (List ℕ)). frame) frames))
+        → (c : CarriesInFrames indexed rows first (units_of_frames rows columns mac first frames) moments (flat_map (λ (frame : List (List ℕ)). frame) frames))
+        × (all_timed moments 0 (sections_by_number rows columns mac first frames) ≡ c.sections))
         (whole : is_whole_plan plan ≡ true)
         (of_bytes : AreOfBytes plan) (built : list_all (λ kind. is_some (pid_of kind)) (kinds plan) ≡ true) (taken : (version j : ℕ) → AreTaken (kind_at (plan_in plan version) j) (datagrams version j)) where
       its_mac : (version : ℕ) → version ≤ length plan.changes → IsMac (unicast k version)
@@ -316,46 +354,75 @@ module _ (plan : PlanFields) (datagrams : ℕ → ℕ → List (List ℕ)) (slot
             ∙ ap (λ (of : KindFields). cond (has_pid (pid_in plan version k) pid) (units_of_kind of mac (schedule k version) (datagrams version k)) []) is
             ∙ ap (λ (n : ℕ). cond (has_pid (pid_in plan version k) pid) (units_of_frames rows parity mac n (datagrams_by_frame rows (datagrams version k))) []) (numbers version)
 
-        framed_carried : (first : ℕ)
-            × ((moments : ℕ → ℕ) → CarriesInFrames indexed rows first (flat_map (units_on k pid) (versions plan)) moments (datagrams_on plan datagrams k pid))
+        -- the frames on the PID, and their sections, where the first has this number
+        abbrev frames_here : List (List (List ℕ))
+        frames_here = frames_on pid_at all_have lists rows parity mac pid (length plan.changes + 1)
+
+        abbrev sent_here : ℕ → (ℕ → ℕ) → List (List TimedSection)
+        sent_here first moments = all_timed moments 0 (sections_by_number rows parity mac first frames_here)
+
+        abbrev CarriesHere : ℕ → (ℕ → ℕ) → List (List ℕ) → List (List ℕ) → Type 0
+        CarriesHere first moments us ds = (c : CarriesInFrames indexed rows first us moments ds) × (sent_here first moments ≡ c.sections)
+
+        abbrev UnitsAre : ℕ → Type 0
+        UnitsAre first = flat_map (units_in pid_at all_have lists rows parity mac pid) (versions plan) ≡ units_of_frames rows parity mac first frames_here
+
+        abbrev NumbersAre : ℕ → Type 0
+        NumbersAre first = flat_map (λ v. cond (has_pid (pid_in plan v k) pid) (numbers_in (count_in k rows) v) []) (versions plan) ≡ range_with_len first (length frames_here)
+
+        framed_here : (first : ℕ) → UnitsAre first → NumbersAre first → (moments : ℕ → ℕ) → CarriesWith (fec own rows parity None) k pid first moments (sent_here first moments)
+        framed_here first units_are numbers_are moments = record {
+          carried = there.0;
+          frames_are = there.1;
+          times = subst (λ (ns : List ℕ). AreNumbered ns (map times_of (sent_here first moments))) (sym numbers_are) (numbered_are rows parity mac moments first 0 frames_here);
+        }
+          where
+            there : CarriesHere first moments (flat_map (units_on k pid) (versions plan)) (datagrams_on plan datagrams k pid)
+            there =
+                subst (λ (us : List (List ℕ)). CarriesHere first moments us (datagrams_on plan datagrams k pid))
+                (sym (flat_map_same (units_on k pid) (units_in pid_at all_have lists rows parity mac pid) 0 (length plan.changes + 1) (λ version less. in_version version) ∙ units_are))
+                (subst (λ (ds : List (List ℕ)). CarriesHere first moments (units_of_frames rows parity mac first frames_here) ds)
+                (framed_on pid_at all_have lists rows parity mac pid (length plan.changes + 1))
+                (frames_carry mac own_mac rows parity first frames_here moments has.0 has.1 has.2
+                (frames_are pid_at all_have lists rows parity mac pid has.0 framed (length plan.changes + 1))))
+
+        framed_carried : (first : ℕ) × (frames : (ℕ → ℕ) → List (List TimedSection)) × ((moments : ℕ → ℕ) → CarriesWith (fec own rows parity None) k pid first moments (frames moments))
         unfolding pids_in
         framed_carried = of_first (units_are_numbered pid_at all_have lists rows parity mac pid (length plan.changes + 1) (pids_not_twice plan whole k known))
           where
-            of_first : (first : ℕ)
-                × (flat_map (units_in pid_at all_have lists rows parity mac pid) (versions plan)
-                ≡ units_of_frames rows parity mac first (frames_on pid_at all_have lists rows parity mac pid (length plan.changes + 1)))
-                → (first : ℕ)
-                × ((moments : ℕ → ℕ) → CarriesInFrames indexed rows first (flat_map (units_on k pid) (versions plan)) moments (datagrams_on plan datagrams k pid))
-            of_first (first, same) = (
-              first,
-              λ moments. subst (λ (us : List (List ℕ)). CarriesInFrames indexed rows first us moments (datagrams_on plan datagrams k pid))
-                  (sym (flat_map_same (units_on k pid) (units_in pid_at all_have lists rows parity mac pid) 0 (length plan.changes + 1) (λ version less. in_version version) ∙ same))
-                  (subst (λ (ds : List (List ℕ)). CarriesInFrames indexed rows first
-                  (units_of_frames rows parity mac first (frames_on pid_at all_have lists rows parity mac pid (length plan.changes + 1))) moments ds)
-                  (framed_on pid_at all_have lists rows parity mac pid (length plan.changes + 1))
-                  (frames_carry mac own_mac rows parity first (frames_on pid_at all_have lists rows parity mac pid (length plan.changes + 1)) moments has.0 has.1 has.2
-                  (frames_are pid_at all_have lists rows parity mac pid has.0 framed (length plan.changes + 1)))),
-            )
+            of_first : (first : ℕ) × UnitsAre first × NumbersAre first
+                → (first : ℕ) × (frames : (ℕ → ℕ) → List (List TimedSection)) × ((moments : ℕ → ℕ) → CarriesWith (fec own rows parity None) k pid first moments (frames moments))
+            of_first (first, units_are, numbers_are) = (first, sent_here first, framed_here first units_are numbers_are)
 
       -- Of each kind but that with time slicing.
       carried_as : (of : KindFields) → kind_at plan k ≡ of → sliced_of of ≡ None
-          → (first : ℕ) × ((moments : ℕ → ℕ) → AreCarried plan.recording of first (flat_map (units_on k pid) (versions plan)) moments (datagrams_on plan datagrams k pid))
+          → (first : ℕ) × (frames : (ℕ → ℕ) → List (List TimedSection)) × ((moments : ℕ → ℕ) → CarriesWith of k pid first moments (frames moments))
       carried_as (ule own address packing) is none = (
         0,
-        λ moments. subst (λ (of : KindFields). datagrams_on plan datagrams k pid ≡ flat_map (carried_by_unit of) (flat_map (units_on k pid) (versions plan))) is
-            (single_carried (ap is_single is)),
+        λ moments. [],
+        λ moments. record {
+          carried = subst (λ (of : KindFields). datagrams_on plan datagrams k pid ≡ flat_map (carried_by_unit of) (flat_map (units_on k pid) (versions plan))) is
+              (single_carried (ap is_single is));
+          frames_are = refl;
+          times = tt;
+        },
       )
       carried_as (mpe own) is none = (
         0,
-        λ moments. subst (λ (of : KindFields). datagrams_on plan datagrams k pid ≡ flat_map (carried_by_unit of) (flat_map (units_on k pid) (versions plan))) is
-            (single_carried (ap is_single is)),
+        λ moments. [],
+        λ moments. record {
+          carried = subst (λ (of : KindFields). datagrams_on plan datagrams k pid ≡ flat_map (carried_by_unit of) (flat_map (units_on k pid) (versions plan))) is
+              (single_carried (ap is_single is));
+          frames_are = refl;
+          times = tt;
+        },
       )
       carried_as (fec own rows parity None) is none = framed_carried own rows parity is
       carried_as (fec own rows parity (Some window)) is none = absurd (cc (none))
       carried_as (gse isi address) is none = absurd (cc (is, own_pid))
 
-      pub all_carried : sliced_of (kind_at plan k) ≡ None → (first : ℕ)
-          × ((moments : ℕ → ℕ) → AreCarried plan.recording (kind_at plan k) first (flat_map (units_on k pid) (versions plan)) moments (datagrams_on plan datagrams k pid))
+      all_carried : sliced_of (kind_at plan k) ≡ None
+          → (first : ℕ) × (frames : (ℕ → ℕ) → List (List TimedSection)) × ((moments : ℕ → ℕ) → CarriesWith (kind_at plan k) k pid first moments (frames moments))
       all_carried none = carried_as (kind_at plan k) refl none
 
       -- With time slicing.
@@ -442,13 +509,34 @@ module _ (plan : PlanFields) (datagrams : ℕ → ℕ → List (List ℕ)) (slot
             by_pid true = sym (units_same version)
             by_pid false = refl
 
-        pub sliced_carried : (moments : ℕ → ℕ) → Agree moments 0 (flat_map expected_in (versions plan))
-            → CarriesInFrames (sliced (ten plan.recording)) rows 0 (flat_map (units_on k pid) (versions plan)) moments (datagrams_on plan datagrams k pid)
-        sliced_carried moments agree =
-            subst (λ (us : List (List ℕ)). CarriesInFrames (sliced (ten plan.recording)) rows 0 us moments (datagrams_on plan datagrams k pid))
+        abbrev sliced_frames : (ℕ → ℕ) → List (List TimedSection)
+        sliced_frames moments = frames_sent plan whole datagrams slots each k known own rows columns window is pid fits ranges.0 in_time section_lawful its_mac_here burst_units moments
+
+        sliced_there : (moments : ℕ → ℕ) → Agree moments 0 (flat_map expected_in (versions plan))
+            → (c : CarriesInFrames (sliced (ten plan.recording)) rows 0 (flat_map (units_on k pid) (versions plan)) moments (datagrams_on plan datagrams k pid))
+            × (sliced_frames moments ≡ c.sections)
+        sliced_there moments agree =
+            subst (λ (us : List (List ℕ)). (c : CarriesInFrames (sliced (ten plan.recording)) rows 0 us moments (datagrams_on plan datagrams k pid)) × (sliced_frames moments ≡ c.sections))
             (flat_map_same (λ version. cond (has_pid (pid_in plan version k) pid) (sliced_units version) []) (units_on k pid) 0 (length plan.changes + 1) (λ version less. all_same version))
             (in_frames_of plan whole datagrams slots each k known own rows columns window is pid fits ranges.0 in_time section_lawful its_mac_here burst_units
             (reads its_mac_here mac_is rows columns ranges.0 ranges.1 ranges.2) (are_sent its_mac_here mac_is rows columns ranges.0 ranges.1 ranges.2) moments agree)
+
+        sliced_carried : (frames : (ℕ → ℕ) → List (List TimedSection))
+            × ((moments : ℕ → ℕ) → Agree moments 0 (flat_map expected_in (versions plan)) → CarriesWith (fec own rows columns (Some window)) k pid 0 moments (frames moments))
+        sliced_carried = (
+          sliced_frames,
+          λ moments agree. record {
+            carried = (sliced_there moments agree).0;
+            frames_are = (sliced_there moments agree).1;
+            times = times_sent plan whole datagrams slots each k known own rows columns window is pid fits ranges.0 in_time section_lawful its_mac_here burst_units moments agree;
+          },
+        )
+
+        sliced_over_pids : (frames : ℕ → List (List TimedSection))
+            → ((its : ℕ) → Member (pids_in plan k) its → HaveTimes (fec own rows columns (Some window)) k its (map times_of (frames its)))
+            → TimesOfService plan.recording true (pids_in plan k) frames
+        sliced_over_pids frames each_pid =
+            over_all_pids plan whole datagrams slots each k known own rows columns window is pid fits ranges.0 in_time section_lawful its_mac_here burst_units frames each_pid
 
   module _ (lawful : (of : KindFields) → IsLawful (form_of_kind of))
       (packetized : (mac : List ℕ) → IsMac mac → (of : KindFields) → HasFrames of → (counter : ℕ) (it : FrameSchedule) (offered : List (List ℕ))
@@ -458,7 +546,8 @@ module _ (plan : PlanFields) (datagrams : ℕ → ℕ → List (List ℕ)) (slot
       → offered ≡ flat_map (carried_by_unit of) (units_of_kind of mac it offered))
       (frames_carry : (mac : List ℕ) → IsMac mac → (rows columns first : ℕ) (frames : List (List (List ℕ))) (moments : ℕ → ℕ) → IsRows rows → 1 ≤ columns → columns ≤ 64
       → AreFrames rows frames
-      → CarriesInFrames indexed rows first (units_of_frames rows columns mac first frames) moments (flat_map (λ (frame : List (List ℕ)). frame) frames))
+      → (c : CarriesInFrames indexed rows first (units_of_frames rows columns mac first frames) moments (flat_map (λ (frame : List (List ℕ)). frame) frames))
+      × (all_timed moments 0 (sections_by_number rows columns mac first frames) ≡ c.sections))
       (whole : is_whole_plan plan ≡ true)
       (of_bytes : AreOfBytes plan) (built : list_all (λ kind. is_some (pid_of kind)) (kinds plan) ≡ true) (taken : (version j : ℕ) → AreTaken (kind_at (plan_in plan version) j) (datagrams version j))
       (each : (version : ℕ) → version ≤ length plan.changes → IsPartCount plan datagrams slots version) (fit : (k : ℕ) → FitsWindow plan datagrams k)
@@ -475,14 +564,15 @@ module _ (plan : PlanFields) (datagrams : ℕ → ℕ → List (List ℕ)) (slot
       → map (λ (a : Arrival). a.moment) (arrivals pid sent)
       ≡ flat_map (λ v. cond (has_pid (pid_in plan v k) pid)
       (all_packet_moments rows columns (schedule_of plan datagrams (sum_by slots (earlier v)) k v) window 0 (datagrams_by_burst rows columns window.length (datagrams v k))) []) (versions plan)) where
-    -- where the units begin, the number of the first frame, and that they carry the datagrams; of a number that is no service's they don't matter
+    -- where the units begin, the number of the first frame, the frames, and that the units carry the datagrams and these; of a number that is no service's they don't matter
     record IsFound (k pid : ℕ) : Type 0 where
       begin : ℕ → ℕ
       first : ℕ
+      frames : (ℕ → ℕ) → List (List TimedSection)
       packetizes : IsPidOf plan k pid → Packetizes (form_of_kind (kind_at plan k)) (flat_map (units_on k pid) (versions plan)) (packets_sent pid sent) begin
-      carried : IsPidOf plan k pid → (moments : ℕ → ℕ)
+      carries : IsPidOf plan k pid → (moments : ℕ → ℕ)
           → ((n m : ℕ) → n < length (flat_map (units_on k pid) (versions plan)) → IsIn (packets_sent pid sent) m (begin n) → moments n ≡ (arrival_at (arrivals pid sent) m).moment)
-          → AreCarried plan.recording (kind_at plan k) first (flat_map (units_on k pid) (versions plan)) moments (datagrams_on plan datagrams k pid)
+          → CarriesWith (kind_at plan k) k pid first moments (frames moments)
 
     module _ (k pid : ℕ) (known : k < length plan.services) where
       unsliced_found : sliced_of (kind_at plan k) ≡ None → IsFound k pid
@@ -490,18 +580,20 @@ module _ (plan : PlanFields) (datagrams : ℕ → ℕ → List (List ℕ)) (slot
           (all_carried k known pid lawful packetized carry frames_carry whole of_bytes built taken none)
         where
           by_parts : (begin : ℕ → ℕ) × Packetizes (form_of_kind (kind_at plan k)) (flat_map (units_on k pid) (versions plan)) (flat_map (on k pid) (versions plan)) begin
-              → (first : ℕ) × ((moments : ℕ → ℕ) → AreCarried plan.recording (kind_at plan k) first (flat_map (units_on k pid) (versions plan)) moments (datagrams_on plan datagrams k pid))
+              → (first : ℕ) × (frames : (ℕ → ℕ) → List (List TimedSection)) × ((moments : ℕ → ℕ) → CarriesWith (kind_at plan k) k pid first moments (frames moments))
               → IsFound k pid
-          by_parts (begin, it) (first, it_carries) = record {
+          by_parts (begin, it) (first, frames, it_carries) = record {
             begin = begin;
             first = first;
+            frames = frames;
             packetizes = λ own. subst (λ (ps : List PacketFields). Packetizes (form_of_kind (kind_at plan k)) (flat_map (units_on k pid) (versions plan)) ps begin) (sym (are k pid own)) it;
-            carried = λ own moments begun. it_carries moments;
+            carries = λ own moments begun. it_carries moments;
           }
 
       sliced_found : (own rows columns : ℕ) (window : WindowFields) → kind_at plan k ≡ fec own rows columns (Some window) → IsFound k pid
       sliced_found own rows columns window is =
           by_valued (sliced_valued k known pid lawful packetized carry frames_carry whole of_bytes built taken each (fit k) frame_units reads are_sent section_lawful own rows columns window is)
+          (sliced_carried k known pid lawful packetized carry frames_carry whole of_bytes built taken each (fit k) frame_units reads are_sent section_lawful own rows columns window is)
         where
           values : ℕ → List ℕ
           values v = cond (has_pid (pid_in plan v k) pid)
@@ -511,15 +603,17 @@ module _ (plan : PlanFields) (datagrams : ℕ → ℕ → List (List ℕ)) (slot
           expected v = cond (has_pid (pid_in plan v k) pid)
               (all_section_moments rows columns (schedule_of plan datagrams (sum_by slots (earlier v)) k v) window 0 (datagrams_by_burst rows columns window.length (datagrams v k))) []
 
-          by_valued : IsValued section_form (flat_map (units_on k pid) (versions plan)) (flat_map (on k pid) (versions plan)) (flat_map values (versions plan)) (flat_map expected (versions plan)) → IsFound k pid
-          by_valued it = record {
+          by_valued : IsValued section_form (flat_map (units_on k pid) (versions plan)) (flat_map (on k pid) (versions plan)) (flat_map values (versions plan)) (flat_map expected (versions plan))
+              → (frames : (ℕ → ℕ) → List (List TimedSection))
+              × ((moments : ℕ → ℕ) → Agree moments 0 (flat_map expected (versions plan)) → CarriesWith (fec own rows columns (Some window)) k pid 0 moments (frames moments))
+              → IsFound k pid
+          by_valued it (frames, it_carries) = record {
             begin = it.begin;
             first = 0;
+            frames = frames;
             packetizes = λ its. subst (λ (of : KindFields). Packetizes (form_of_kind of) (flat_map (units_on k pid) (versions plan)) (packets_sent pid sent) it.begin) (sym is)
                 (subst (λ (ps : List PacketFields). Packetizes section_form (flat_map (units_on k pid) (versions plan)) ps it.begin) (sym (are k pid its)) it.packetizes);
-            carried = λ its moments begun. subst (λ (of : KindFields). AreCarried plan.recording of 0 (flat_map (units_on k pid) (versions plan)) moments (datagrams_on plan datagrams k pid)) (sym is)
-                (sliced_carried k known pid lawful packetized carry frames_carry whole of_bytes built taken each (fit k) frame_units reads are_sent section_lawful own rows columns window is
-                moments (agree its moments begun));
+            carries = λ its moments begun. subst (λ (of : KindFields). CarriesWith of k pid 0 moments (frames moments)) (sym is) (it_carries moments (agree its moments begun));
           }
             where
               agree : IsPidOf plan k pid → (moments : ℕ → ℕ)
@@ -551,8 +645,9 @@ module _ (plan : PlanFields) (datagrams : ℕ → ℕ → List (List ℕ)) (slot
         by_place (inr more) = record {
           begin = λ n. 0;
           first = 0;
+          frames = λ moments. [];
           packetizes = λ own. absurd (omega (arith, own.service, more));
-          carried = λ own moments begun. absurd (omega (arith, own.service, more));
+          carries = λ own moments begun. absurd (omega (arith, own.service, more));
         }
 
     -- the moment of the packet in which a unit begins
@@ -561,6 +656,9 @@ module _ (plan : PlanFields) (datagrams : ℕ → ℕ → List (List ℕ)) (slot
 
     begin_there : (k pid n m : ℕ) → IsIn (packets_sent pid sent) m ((found k pid).begin n) → (arrival_at (arrivals pid sent) m).moment ≡ moments_of k pid n
     begin_there k pid n m here = sym (ap (λ (i : ℕ). (arrival_at (arrivals pid sent) i).moment) (packet_is (packets_sent pid sent) m ((found k pid).begin n) here))
+
+    its_carries : (k pid : ℕ) → IsPidOf plan k pid → CarriesWith (kind_at plan k) k pid (found k pid).first (λ n. moments_of k pid n) ((found k pid).frames (λ n. moments_of k pid n))
+    its_carries k pid own = (found k pid).carries own (λ n. moments_of k pid n) (λ n m less here. sym (begin_there k pid n m here))
 
     carries : Carries plan sent (datagrams_on plan datagrams)
     carries = record {
@@ -571,12 +669,44 @@ module _ (plan : PlanFields) (datagrams : ℕ → ℕ → List (List ℕ)) (slot
       before = λ k pid. (found k pid).first;
       packetized = λ k pid own. (found k pid).packetizes own;
       begun = λ k pid n m own less here. begin_there k pid n m here;
-      carried = λ k pid own. (found k pid).carried own (λ n. moments_of k pid n) (λ n m less here. sym (begin_there k pid n m here));
+      carried = λ k pid own. (its_carries k pid own).carried;
     }
 
-    -- one unit for each datagram, where each has its own
+    -- The frames of a service over all its PIDs.
+
+    abbrev frames_of : ℕ → ℕ → List (List TimedSection)
+    frames_of k pid = (found k pid).frames (λ n. moments_of k pid n)
+
+    module _ (k own rows columns : ℕ) (known : k < length plan.services) where
+      times_there : (window : Option WindowFields) → kind_at plan k ≡ fec own rows columns window → (pid : ℕ) → Member (pids_in plan k) pid
+          → HaveTimes (fec own rows columns window) k pid (map times_of (frames_of k pid))
+      times_there window is pid there =
+          subst (λ (of : KindFields). HaveTimes of k pid (map times_of (frames_of k pid))) is
+          (its_carries k pid (record { service = known; own = contains_member (pids_in plan k) pid there })).times
+
+      over_pids : (window : Option WindowFields) → kind_at plan k ≡ fec own rows columns window → TimesOfService plan.recording (is_some window) (pids_in plan k) (frames_of k)
+      over_pids None is = record {
+        timed = indexed_over (count_in k rows) (length plan.changes + 1) (pids_in plan k)
+            (λ pid. flat_map (λ v. cond (has_pid (pid_in plan v k) pid) (numbers_in (count_in k rows) v) []) (versions plan)) (λ pid. map times_of (frames_of k pid))
+            (items_have_all plan (numbers_in (count_in k rows)) k own whole known (ap pid_of is)) (times_there None is);
+        last = λ e. absurd (cc (e));
+      }
+      over_pids (Some window) is =
+          sliced_over_pids k known own lawful packetized carry frames_carry whole of_bytes built taken each (fit k) frame_units reads are_sent section_lawful own rows columns window is
+          (frames_of k) (times_there (Some window) is)
+
+    timed_over_pids : AreTimedOverPids plan sent (datagrams_on plan datagrams) carries
+    unfolding carries
+    timed_over_pids = record {
+      frames = frames_of;
+      frames_are = λ k pid own. (its_carries k pid own).frames_are;
+      times = λ k own rows columns window known is. over_pids k own rows columns known window is;
+    }
+
+    -- one unit for each datagram, where each has its own; and frames are timed over all PIDs of a service
     pub carries_one_each : (it : Carries plan sent (datagrams_on plan datagrams))
         × ((k pid : ℕ) → is_single (kind_at plan k) ≡ true → it.units k pid
         ≡ map (unit_of (kind_at plan k) (get_or (map (λ (service : ServiceFields). service.unicast) plan.services) k [])) (datagrams_on plan datagrams k pid))
+        × AreTimedOverPids plan sent (datagrams_on plan datagrams) it
     unfolding carries
-    carries_one_each = (carries, units_are)
+    carries_one_each = (carries, units_are, timed_over_pids)

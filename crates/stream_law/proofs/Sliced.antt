@@ -1,5 +1,5 @@
 -- A sliced service on one PID: its units begin in packets with known moments, and carry its datagrams in frames that are timed.
-use Rattle.std.proofs.Common.{◌≡◌, ◌⊎◌, inl, inr, ℕ, zero, suc, ◌+◌, ◌-◌, ◌*◌, ◌/◌, ◌%◌, ◌^◌, ◌<◌, ◌≤◌, Bool, true, false, not, ◌&&◌, cond, eqb, ltb, get_or, List, [], ◌∷◌, ◌++◌, length, map, refl, sym, ap, ap₂, subst, ◌∙◌, arith, Option, Some}
+use Rattle.std.proofs.Common.{◌≡◌, ◌⊎◌, inl, inr, ℕ, zero, suc, ◌+◌, ◌-◌, ◌*◌, ◌/◌, ◌%◌, ◌^◌, ◌<◌, ◌≤◌, Bool, true, false, not, ◌&&◌, ◌||◌, cond, eqb, ltb, get_or, List, [], ◌∷◌, ◌++◌, length, map, refl, sym, ap, ap₂, subst, ◌∙◌, arith, Option, Some}
 use Rattle.std.specs.Prelude.{flat_map, sum_by, slice_index, Contains}
 use Rattle.std.specs.List.{range_with_len, list_any}
 use Rattle.std.proofs.lemmas.Bool.{cases_lt, or_left, or_right}
@@ -22,13 +22,13 @@ use Rattle.slice_law.proofs.Timed.{announced_below}
 use Rattle.slice_law.proofs.Rows.{in_a_row}
 use Rattle.window_law.proofs.Checks.{sliceable}
 use Rattle.window_law.proofs.InPlans.{there}
-use Rattle.frame_spec.specs.Sections.{FrameSection, data_section, parity_section, times_of}
+use Rattle.frame_spec.specs.Sections.{FrameSection, data_section, parity_section, TimedSection, times_of}
 use Rattle.frame_spec.specs.Frame.{FrameFields, AreSentFrames}
 use Rattle.frame_spec.specs.Sender.{frame_of, section_of_datagram, section_of_column, section_unit}
 use Rattle.frame_spec.specs.Carried.{CarriesInFrames, sections_of_units}
 use Rattle.sent_frame_law.proofs.Carried.{all_timed}
-use Rattle.plan_spec.specs.Plan.{WindowFields, KindFields, fec, PlanFields, kinds, SlicedFields, sliced_of}
-use Rattle.plan_spec.specs.Changes.{plan_in, pid_in, has_pid, versions}
+use Rattle.plan_spec.specs.Plan.{WindowFields, KindFields, fec, PlanFields, kinds, pid_of, SlicedFields, sliced_of}
+use Rattle.plan_spec.specs.Changes.{plan_in, pid_in, pids_in, has_pid, versions}
 use Rattle.plan_spec.specs.Valid.{is_plan}
 use Rattle.plan_spec.specs.Wholes.{is_whole_plan}
 use Rattle.stream_spec.specs.Units.{FrameSchedule, mac_for, units_with_delta, sized_units, burst_size, packet_of_section, datagrams_by_burst, delta_after, units_by_burst, packetized_apart, frame_count, burst_sizes}
@@ -37,7 +37,9 @@ use Rattle.stream_spec.specs.Windows.{out_before}
 use Rattle.stream_spec.specs.Services.{kind_at, datagrams_on}
 use Rattle.stream_spec.specs.Parts.{PartFields, service_packets, turn_counts, sizes_in, kept_in, slot_in}
 use Rattle.stream_spec.specs.Stream.{frame_count_in, has_frames, has_frames_after, schedule_of, earlier, part_of, has_datagrams, is_last, whole_cycles, IsPartCount}
+use Rattle.carriage_law.proofs.Member.{Member}
 use Rattle.stream_law.specs.Words.{FitsWindow, begun_cycles}
+use Rattle.stream_law.specs.Times.{times_over, TimesOfService}
 use Rattle.stream_law.proofs.Ranges.{sum_next, sum_rises}
 use Rattle.stream_law.proofs.Lasts.{any_at}
 use Rattle.stream_law.proofs.Kept.{kind_of_version, frame_count_kept, sizes_kept, sliced_kept}
@@ -49,7 +51,9 @@ use Rattle.stream_law.proofs.Valued.{IsValued}
 use Rattle.stream_law.proofs.BurstValues.{AreUnits, all_packet_moments, all_section_moments, place_below, AllUnits, bursts_valued}
 use Rattle.stream_law.proofs.BurstTimes.{Agree, agree_front, agree_rest, timed_count, sections_by_burst, units_are_sections, length-all, places_of, length-bursts, delta_is, part_times}
 use Rattle.stream_law.proofs.SlicedFrames.{AllRead, frames_read, AreOfFrames, of_both}
-use Rattle.stream_law.proofs.Announced.{timed_with, bursts_on, times_on, all_times, all_in_windows, cycle_at}
+use Rattle.stream_law.proofs.Announced.{AllBefore, AllFrom, timed_with, bursts_on, times_on, all_times, all_in_windows, cycle_at}
+use Rattle.stream_law.proofs.AllPids.{items_have_all}
+use Rattle.stream_law.proofs.TimesOver.{same_on_pids, times_all, timed_over, last_over}
 
 module _ (plan : PlanFields) (whole : is_whole_plan plan ≡ true) (datagrams : ℕ → ℕ → List (List ℕ)) (slots : ℕ → ℕ)
     (each : (version : ℕ) → version ≤ length plan.changes → IsPartCount plan datagrams slots version) (k : ℕ) (known : k < length plan.services)
@@ -361,19 +365,75 @@ module _ (plan : PlanFields) (whole : is_whole_plan plan ≡ true) (datagrams : 
       let rest : m ≡ length plan.changes - v = omega (arith, e) in
       ap (λ (n : ℕ). list_any (has_frames plan datagrams k) (range_with_len (v + 1) n)) (sym rest) ∙ some_follow m (v + 1) some)
 
+  from_cycle : (v : ℕ) → AllFrom (cycles_before v) (bursts v)
+  from_cycle v i b at = omega (arith, (cycle_at (cycles_before v + 0) (map (places_of rows columns mac (schedule v) window) (frames v)) i b at).0)
+
+  before_cycle : (v : ℕ) → AllBefore (cycles_before v + length (frames v)) (bursts v)
+  before_cycle v i b at = omega (
+    arith,
+    (cycle_at (cycles_before v + 0) (map (places_of rows columns mac (schedule v) window) (frames v)) i b at).0,
+    (cycle_at (cycles_before v + 0) (map (places_of rows columns mac (schedule v) window) (frames v)) i b at).1,
+    length-map (frames v) (places_of rows columns mac (schedule v) window),
+  )
+
   all_windows : AreInWindows its_slicing (flat_map (bursts_on its_slicing on_it goes bursts) (versions plan))
   all_windows =
       all_in_windows its_slicing on_it goes bursts (λ v. cycles_before v) (λ v. length (frames v)) bound
-      (λ v less own_pid. in_windows v (omega (arith, less)))
-      (λ v i b at. omega (arith, (cycle_at (cycles_before v + 0) (map (places_of rows columns mac (schedule v) window) (frames v)) i b at).0))
-      (λ v i b at. omega (
-        arith,
-        (cycle_at (cycles_before v + 0) (map (places_of rows columns mac (schedule v) window) (frames v)) i b at).0,
-        (cycle_at (cycles_before v + 0) (map (places_of rows columns mac (schedule v) window) (frames v)) i b at).1,
-        length-map (frames v) (places_of rows columns mac (schedule v) window),
-      ))
+      (λ v less own_pid. in_windows v (omega (arith, less))) from_cycle before_cycle
       (λ u v less within some. rises u v less (omega (arith, within)) (omega (arith, some, count_of v)))
       (length plan.changes + 1) 0 (omega arith)
+
+  -- The bursts of all versions, over all PIDs.
+
+  abbrev pub times_in : ℕ → List (List SectionTime)
+  times_in v = times_of_bursts its_slicing (goes v) (bursts v)
+
+  some_later : (m b : ℕ) → list_any (has_frames plan datagrams k) (range_with_len b m) ≡ ltb 0 (length (flat_map bursts (range_with_len b m)))
+  some_later zero b = refl
+  some_later (suc m) b =
+      ap₂ (λ (x y : Bool). x || y) (ap (ltb 0) (counts b ∙ sym (count_of b))) (some_later m (b + 1))
+      ∙ either (length (bursts b)) (length (flat_map bursts (range_with_len (b + 1) m)))
+      ∙ ap (ltb 0) (sym (length-append (bursts b) (flat_map bursts (range_with_len (b + 1) m))))
+    where
+      either : (x y : ℕ) → (ltb 0 x || ltb 0 y) ≡ ltb 0 (x + y)
+      either x y = by_tests (ltb 0 x) refl (ltb 0 y) refl (ltb 0 (x + y)) refl
+        where
+          by_tests : (a : Bool) → ltb 0 x ≡ a → (b : Bool) → ltb 0 y ≡ b → (c : Bool) → ltb 0 (x + y) ≡ c → (a || b) ≡ c
+          by_tests true e b e2 true e3 = refl
+          by_tests true e b e2 false e3 = absurd (grind (arith, e, e3))
+          by_tests false e true e2 true e3 = refl
+          by_tests false e true e2 false e3 = absurd (grind (arith, e2, e3))
+          by_tests false e false e2 true e3 = absurd (grind (arith, e, e2, e3))
+          by_tests false e false e2 false e3 = refl
+
+  -- each part tells whether others follow, so that the last of all says that none does
+  all_together : flat_map times_in (versions plan) ≡ times_of_bursts its_slicing false (flat_map bursts (versions plan))
+  all_together =
+      times_all its_slicing goes bursts (length plan.changes + 1) 0
+      (λ v m from e.
+      let rest : length plan.changes - v ≡ m = omega (arith, e) in
+      ap (λ (n : ℕ). list_any (has_frames plan datagrams k) (range_with_len (v + 1) n)) rest ∙ some_later m (v + 1))
+
+  in_all_windows : AreInWindows its_slicing (flat_map bursts (versions plan))
+  in_all_windows =
+      all_in_windows its_slicing (λ v. true) goes bursts (λ v. cycles_before v) (λ v. length (frames v)) bound
+      (λ v less e. in_windows v (omega (arith, less))) from_cycle before_cycle
+      (λ u v less within some. rises u v less (omega (arith, within)) (omega (arith, some, count_of v)))
+      (length plan.changes + 1) 0 (omega arith)
+
+  pub over_all_pids : (on_pids : ℕ → List (List TimedSection))
+      → ((its : ℕ) → Member (pids_in plan k) its → map times_of (on_pids its) ≡ flat_map (λ v. cond (has_pid (pid_in plan v k) its) (times_in v) []) (versions plan))
+      → TimesOfService plan.recording true (pids_in plan k) on_pids
+  over_all_pids on_pids each_pid = record {
+    timed = timed_over its_slicing is_sliceable (flat_map bursts (versions plan)) in_all_windows (times_over (pids_in plan k) on_pids) are;
+    last = λ e i x there. last_over its_slicing is_sliceable (flat_map bursts (versions plan)) in_all_windows (times_over (pids_in plan k) on_pids) are i x there;
+  }
+    where
+      are : times_over (pids_in plan k) on_pids ≡ times_of_bursts its_slicing false (flat_map bursts (versions plan))
+      are =
+          same_on_pids (λ its. map times_of (on_pids its)) (λ its. flat_map (λ v. cond (has_pid (pid_in plan v k) its) (times_in v) []) (versions plan)) (pids_in plan k) each_pid
+          ∙ items_have_all plan times_in k own whole known (ap pid_of is)
+          ∙ all_together
 
   -- Their sections.
 
@@ -486,6 +546,14 @@ module _ (plan : PlanFields) (whole : is_whole_plan plan ≡ true) (datagrams : 
       by_own true = of_version a (omega (arith, le))
       by_own false = tt
 
+  -- the frames that are sent on the PID
+  abbrev pub frames_sent : (ℕ → ℕ) → List (List TimedSection)
+  frames_sent moments = all_timed moments 0 (flat_map sections_on (versions plan))
+
+  pub times_sent : (moments : ℕ → ℕ) → Agree moments 0 (flat_map expected_on (versions plan))
+      → map times_of (frames_sent moments) ≡ flat_map (λ v. cond (has_pid (pid_in plan v k) pid) (times_in v) []) (versions plan)
+  times_sent moments agree = whole_times moments (length plan.changes + 1) 0 0 (omega arith) agree
+
   -- with the laws of frames
   module _ (reads : (fs : List (List (List ℕ))) (sections : List (List FrameSection)) → AreFrames rows fs → AreOfFrames rows columns mac fs sections
       → AllRead rows (flat_map (λ (f : List FrameSection). f) sections))
@@ -501,16 +569,20 @@ module _ (plan : PlanFields) (whole : is_whole_plan plan ≡ true) (datagrams : 
     within = omega arith
 
     pub in_frames : (moments : ℕ → ℕ) → Agree moments 0 (flat_map expected_on (versions plan))
-        → CarriesInFrames (sliced (ten plan.recording)) rows 0 (flat_map units_on (versions plan)) moments (datagrams_on plan datagrams k pid)
-    in_frames moments agree = record {
-      frames = map (frame_of rows columns) all_in;
-      sections = all_timed moments 0 all_sections;
-      are = record {
-        sent = are_sent moments 0 all_in all_sections (all_frames (length plan.changes + 1) 0) (all_of (length plan.changes + 1) 0 within);
-        timed = subst (IsTimed (ten plan.recording)) (sym (whole_times moments (length plan.changes + 1) 0 0 within agree ∙ all_timed_bursts.1))
-            (timed_with its_slicing is_sliceable all_timed_bursts.0 (flat_map (bursts_on its_slicing on_it goes bursts) (versions plan)) all_windows);
-        read = ap (λ (us : List (List ℕ)). sections_of_units rows us moments) (units_are (length plan.changes + 1) 0)
-            ∙ frames_read rows moments all_sections (reads all_in all_sections (all_frames (length plan.changes + 1) 0) (all_of (length plan.changes + 1) 0 within));
-      };
-      datagrams_are = sym (flat_map-map (λ (frame : FrameFields). frame.datagrams) (frame_of rows columns) all_in ∙ all_datagrams (length plan.changes + 1) 0);
-    }
+        → (c : CarriesInFrames (sliced (ten plan.recording)) rows 0 (flat_map units_on (versions plan)) moments (datagrams_on plan datagrams k pid))
+        × (frames_sent moments ≡ c.sections)
+    in_frames moments agree = (
+      record {
+        frames = map (frame_of rows columns) all_in;
+        sections = all_timed moments 0 all_sections;
+        are = record {
+          sent = are_sent moments 0 all_in all_sections (all_frames (length plan.changes + 1) 0) (all_of (length plan.changes + 1) 0 within);
+          timed = subst (IsTimed (ten plan.recording)) (sym (whole_times moments (length plan.changes + 1) 0 0 within agree ∙ all_timed_bursts.1))
+              (timed_with its_slicing is_sliceable all_timed_bursts.0 (flat_map (bursts_on its_slicing on_it goes bursts) (versions plan)) all_windows);
+          read = ap (λ (us : List (List ℕ)). sections_of_units rows us moments) (units_are (length plan.changes + 1) 0)
+              ∙ frames_read rows moments all_sections (reads all_in all_sections (all_frames (length plan.changes + 1) 0) (all_of (length plan.changes + 1) 0 within));
+        };
+        datagrams_are = sym (flat_map-map (λ (frame : FrameFields). frame.datagrams) (frame_of rows columns) all_in ∙ all_datagrams (length plan.changes + 1) 0);
+      },
+      refl,
+    )

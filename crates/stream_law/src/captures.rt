@@ -11,6 +11,7 @@ ghost use Rattle.stream_spec.specs.Stream.{IsStream};
 ghost use Rattle.stream_spec.specs.Services.{datagrams_on, Carries};
 ghost use Rattle.plan_spec.specs.Bytes.{AreOfBytes};
 ghost use Rattle.stream_law.specs.Words.{IsByteDatagram, IsWithinLimits};
+ghost use Rattle.stream_law.specs.Times.{AreTimedOverPids};
 ghost use Rattle.stream_law.specs.Captures.{given_by};
 
 use crate::carried::a_stream_carries_what_was_offered;
@@ -27,12 +28,13 @@ pub fn a_capture_gives_datagrams()
 }
 
 /// For all settings that are accepted, without GSE packets, and all captures:
-/// the stream carries what was offered, by service and PID.
+/// the stream carries what was offered, by service and PID, and frames are timed over all PIDs of a service.
 pub fn a_capture_is_carried()
     ensures carries { (plan : PlanFields) → is_whole_plan plan ≡ true → AreOfBytes plan
         → (capture : List ℕ) (told : List (List ℕ)) (fault : Option CaptureFault) → AreBytes capture → Tells capture told fault
         → (records : List (List ℕ)) → IsStream plan (offered_in plan (given_by capture told)) records
-        → Carries plan (records_of plan.recording records) (datagrams_on plan (offered_in plan (given_by capture told))) }
+        → (carries : Carries plan (records_of plan.recording records) (datagrams_on plan (offered_in plan (given_by capture told))))
+        × AreTimedOverPids plan (records_of plan.recording records) (datagrams_on plan (offered_in plan (given_by capture told))) carries }
 {
     a_capture_gives_datagrams();
     a_stream_carries_what_was_offered();

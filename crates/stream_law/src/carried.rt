@@ -9,6 +9,7 @@ ghost use Rattle.stream_spec.specs.Stream.{IsStream};
 ghost use Rattle.stream_spec.specs.Services.{kind_at, datagrams_on, Carries};
 ghost use Rattle.plan_spec.specs.Bytes.{AreOfBytes};
 ghost use Rattle.stream_law.specs.Words.{IsByteDatagram, IsWithinLimits};
+ghost use Rattle.stream_law.specs.Times.{AreTimedOverPids};
 
 use crate::stream::{records_have_moments, the_packets_of_a_service_are_on_its_pid};
 use mpe_section::{a_written_datagram_section_reads_back, an_address_or_parameters_can_be_written};
@@ -20,15 +21,17 @@ use ts_packet::{null_packet_is_read, written_packets_are_read};
 use ule_unit::{a_written_sndu_reads_back, sndus_are_lawful, sndus_are_units};
 use unit_stream::packetized_units_are_carried;
 
-/// The stream of a plan carries what was offered, by service and PID: in SNDUs, in datagram_sections, or in MPE-FEC frames, whose delta_t
-/// says with time slicing when the next burst begins.
+/// The stream of a plan carries what was offered, by service and PID: in SNDUs, in datagram_sections, or in MPE-FEC frames. Over all PIDs of a
+/// service its frames are numbered from 0 on; or with time slicing delta_t says when the next burst begins, on whatever PID, and is 0 in the
+/// last one alone.
 ///
 /// For all settings that are accepted, without GSE packets, all that a capture can give, and each form of recording.
 pub fn a_stream_carries_what_was_offered()
     ensures carries { (plan : PlanFields) → is_whole_plan plan ≡ true → AreOfBytes plan
         → (gives : List (Option (List ℕ))) → All IsByteDatagram (datagrams_of gives) → IsWithinLimits (datagrams_of gives)
         → (records : List (List ℕ)) → IsStream plan (offered_in plan gives) records
-        → Carries plan (records_of plan.recording records) (datagrams_on plan (offered_in plan gives)) }
+        → (carries : Carries plan (records_of plan.recording records) (datagrams_on plan (offered_in plan gives)))
+        × AreTimedOverPids plan (records_of plan.recording records) (datagrams_on plan (offered_in plan gives)) carries }
 {
     records_have_moments();
     the_packets_of_a_service_are_on_its_pid();

@@ -11,6 +11,7 @@ mod slots;
 mod standing;
 mod stream;
 mod table;
+mod times;
 
 pub use appended::packetizations_go_on;
 pub use captures::{a_capture_gives_datagrams, a_capture_is_carried};
@@ -31,3 +32,4 @@ pub use table::{
     a_cycle_carries_the_table, a_stream_carries_the_table, a_table_goes_out_in_each_cycle,
     the_table_of_a_plan_can_be_written, the_table_reads_back_to_the_rules,
 };
+pub use times::frames_that_move_are_timed_together;

@@ -9,7 +9,8 @@ use Rattle.plan_spec.specs.Offered.{offered_in}
 use Rattle.stream_spec.specs.Services.{form_of_kind}
 use Rattle.stream_law.proofs.Units.{units_packetized, units_carry}
 use Rattle.stream_law.proofs.Versions.{taken_in_version}
-use Rattle.stream_law.proofs.FrameLaws.{frames_units, frames_carry}
+use Rattle.stream_law.proofs.FrameLaws.{frames_units}
+use Rattle.stream_law.proofs.NumberedFrames.{numbered_carry}
 use Rattle.stream_law.proofs.Fitting.{offered_fit}
 use Rattle.stream_law.proofs.SlicedFrames.{frame_units, all_read, all_sent}
 use Rattle.stream_law.proofs.SlicedArrivals.{packets_arrive}
@@ -25,7 +26,7 @@ lawful sndus sections (gse isi address) = sections
 pub returns : goal.returns
 returns c = record {
   carries = λ plan whole of_bytes gives are limits records stream.
-      (carries_one_each plan (offered_in plan gives) stream.slots (lawful c.sndus_are_lawful.ensures.lawful c.sections_are_lawful.ensures.lawful)
+      let found = carries_one_each plan (offered_in plan gives) stream.slots (lawful c.sndus_are_lawful.ensures.lawful c.sections_are_lawful.ensures.lawful)
       (λ mac is. units_packetized c.packetized_units_are_carried.ensures c.sndus_are_lawful.ensures.lawful c.sndus_are_units.ensures.units
       c.a_written_sndu_reads_back.ensures.sndu c.a_written_sndu_reads_back.ensures.read
       c.sections_are_lawful.ensures.lawful c.a_written_datagram_section_reads_back.ensures.unit c.a_written_datagram_section_reads_back.ensures.read
@@ -36,7 +37,9 @@ returns c = record {
       c.sections_are_lawful.ensures.lawful c.a_written_datagram_section_reads_back.ensures.unit c.a_written_datagram_section_reads_back.ensures.read
       c.an_address_or_parameters_can_be_written.ensures.address mac is)
       (λ mac is rows columns first frames moments is_rows least most each.
-      frames_carry rows columns mac is is_rows least most frames each c.frames_carry_their_datagrams.ensures.carried first moments)
+      numbered_carry rows columns mac
+      (all_read c.a_unit_reads_as_its_section.ensures.within rows columns is_rows least most mac is)
+      (all_sent c.a_frame_of_datagrams_is_one.ensures.sent rows columns is_rows least most mac is) first frames moments each)
       whole of_bytes stream.defined (λ version k. taken_in_version plan version gives k are) stream.each (offered_fit plan whole gives are)
       (λ mac is rows columns is_rows least most. frame_units c.a_unit_reads_as_its_section.ensures.unit rows columns is_rows least most mac is)
       (λ mac is rows columns is_rows least most. all_read c.a_unit_reads_as_its_section.ensures.within rows columns is_rows least most mac is)
@@ -48,5 +51,6 @@ returns c = record {
       ap (λ rs. map (λ (a : Arrival). a.moment) (arrivals pid (records_of plan.recording rs))) stream.records_are
       ∙ packets_arrive plan (offered_in plan gives) stream.slots c.written_packets_are_read.ensures.readable c.written_packets_are_read.ensures.fields c.null_packet_is_read.ensures.fields
       whole stream.each (c.records_have_moments.ensures.moments plan whole of_bytes gives are limits records stream) k pid own_pid rows columns window own is
-      (offered_fit plan whole gives are k))).0;
+      (offered_fit plan whole gives are k)) in
+      (found.0, found.2);
 }
