@@ -1,7 +1,7 @@
 -- From the heads of files to their captures.
-use Rattle.std.proofs.Common.{◌≡◌, inl, inr, ℕ, suc, zero, ◌+◌, ◌-◌, ◌<◌, ◌≤◌, Bool, true, false, List, [], ◌∷◌, ◌++◌, length, take, drop, get_or, refl, ap, ap₂, sym, ◌∙◌, subst, arith, length-append, length-drop, Option, None, Some, IfSome}
+use Rattle.std.proofs.Common.{◌≡◌, inl, inr, ℕ, suc, zero, ◌+◌, ◌-◌, ◌<◌, Bool, true, false, List, [], ◌∷◌, ◌++◌, length, map, take, drop, get_or, refl, ap, ap₂, sym, ◌∙◌, subst, arith, length-append, Option, None, Some, IfSome}
 use Rattle.std.specs.List.{slice_get}
-use Rattle.std.proofs.lemmas.List.{append-nil, drop_all, take_all, length-take, get_or-append-add, get_or-take, get_or-drop, ext_get_or, get_or_append_left}
+use Rattle.std.proofs.lemmas.List.{append-nil, drop_all, take_all, take_at, drop_at, take-map, get_or-append_right, ext_get_or, get_or_append_left}
 use Rattle.std.proofs.lemmas.Option.{slice_get_within, slice_get_cases}
 use Rattle.std.proofs.lemmas.Bool.{cases_lt}
 use Rattle.wire_spec.specs.Content.{File, grown, flushed_file, no_file}
@@ -9,36 +9,9 @@ use Rattle.plan_spec.specs.Plan.{ServiceFields}
 use Rattle.pcap_file.specs.Capture.{capture_head}
 use Rattle.receive_command.specs.Growth.{GrowEach, Grow, records_at, records_and}
 use Rattle.receive_command.specs.Files.{file_with, files_from, head_of, capture_of_pairs, capture_and, AddsFiles, AddsCaptures, AddsFlushed}
-use Rattle.receive_command.specs.Flushes.{FlushEach, Flush}
+use Rattle.receive_command.specs.Flushes.{flushed_front, Flush}
 use Rattle.receive_command.proofs.Grown.{grown_nil}
 use Rattle.receive_command.proofs.Pairs.{none_before, text_before, records_from, text_from}
-
--- files that are as told at each place, before the added ones and from there on
-same_files : (olds news files : List File) (first : ℕ) → length olds ≡ first → length news ≡ first + length files
-    → ((at : ℕ) → at < first → get_or news at no_file ≡ get_or olds at no_file)
-    → ((k : ℕ) → k < length files → get_or news (first + k) no_file ≡ get_or files k no_file)
-    → news ≡ olds ++ files
-same_files olds news files first size all before behind =
-    ext_get_or no_file news (olds ++ files) (omega (arith, all, size, length-append olds files))
-    (λ at lt. elim (cases_lt at first) [
-      | inl low ↦ before at low ∙ sym (get_or_append_left olds files no_file at (omega (arith, low, size)))
-      | inr high ↦
-          let k : ℕ = at - first in
-          let e : first + k ≡ at = omega (arith, high) in
-          subst (λ (i : ℕ). get_or news i no_file ≡ get_or (olds ++ files) i no_file) e
-          (behind k (omega (arith, lt, all, e))
-          ∙ sym (subst (λ (n : ℕ). get_or (olds ++ files) (n + k) no_file ≡ get_or files k no_file) size (get_or-append-add olds files k no_file)))
-    ])
-
--- what stands before the added files, and the added ones
-old_at : (olds news files : List File) (first at : ℕ) → length olds ≡ first → news ≡ olds ++ files → at < first → get_or news at no_file ≡ get_or olds at no_file
-old_at olds news files first at size added low =
-    ap (λ (s : List File). get_or s at no_file) added ∙ get_or_append_left olds files no_file at (omega (arith, low, size))
-
-new_at : (olds news files : List File) (first k : ℕ) → length olds ≡ first → news ≡ olds ++ files → get_or news (first + k) no_file ≡ get_or files k no_file
-new_at olds news files first k size added =
-    ap (λ (s : List File). get_or s (first + k) no_file) added
-    ∙ subst (λ (n : ℕ). get_or (olds ++ files) (n + k) no_file ≡ get_or files k no_file) size (get_or-append-add olds files k no_file)
 
 -- the files of services by number
 pub length-files_from : (b : Bool) (k : ℕ) (text : ℕ → List ℕ) (services : List ServiceFields) → length (files_from b k text services) ≡ length services
@@ -82,19 +55,25 @@ heads_grown : (services : List ServiceFields) (olds heads news : List File) (fir
 heads_grown services olds heads news first text size added grew none =
     let whole : ℕ → List ℕ = λ k. capture_head ++ text (first + k) in
     let begun : List File = files_from false 0 head_of services in
+    let all : List File = files_from false 0 whole services in
     let many : length heads ≡ first + length services = omega (arith, ap length added, size, length-append olds begun, length-files_from false 0 head_of services) in
-    let all : length (files_from false 0 whole services) ≡ length services = length-files_from false 0 whole services in
-    same_files olds news (files_from false 0 whole services) first size (omega (arith, grew.size, many, all))
-    (λ at low.
-    grew.each at (omega (arith, low, many)) ∙ ap (λ (t : List ℕ). grown (get_or heads at no_file) t) (none at low) ∙ grown_nil (get_or heads at no_file)
-    ∙ old_at olds heads begun first at size added low)
-    (λ k lt.
-    elim (slice_get_cases services k).1 [
-      | inl found ↦
-          grew.each (first + k) (omega (arith, many, lt, all))
-          ∙ ap (λ (f : File). grown f (text (first + k))) (new_at olds heads begun first k size added ∙ numbered_at false head_of services k found.0 found.2)
-          ∙ sym (numbered_at false whole services k found.0 found.2)
-      | inr past ↦ absurd (omega (arith, past.0, lt, all))
+    ext_get_or no_file news (olds ++ all) (omega (arith, grew.size, many, size, length-append olds all, length-files_from false 0 whole services))
+    (λ at lt.
+    let within : at < length heads = omega (arith, lt, grew.size) in
+    let was : get_or heads at no_file ≡ get_or (olds ++ begun) at no_file = ap (λ (s : List File). get_or s at no_file) added in
+    elim (cases_lt at first) [
+      | inl low ↦
+          grew.each at within ∙ ap (grown (get_or heads at no_file)) (none at low) ∙ grown_nil (get_or heads at no_file) ∙ was
+          ∙ get_or_append_left olds begun no_file at (omega (arith, low, size)) ∙ sym (get_or_append_left olds all no_file at (omega (arith, low, size)))
+      | inr high ↦
+          let here : first + (at - first) ≡ at = omega (arith, high) in
+          elim (slice_get_cases services (at - first)).1 [
+            | inl found ↦
+                grew.each at within
+                ∙ ap₂ grown (was ∙ get_or-append_right olds begun first at no_file size high ∙ numbered_at false head_of services (at - first) found.0 found.2) (ap text (sym here))
+                ∙ sym (get_or-append_right olds all first at no_file size high ∙ numbered_at false whole services (at - first) found.0 found.2)
+            | inr past ↦ absurd (omega (arith, past.0, high, within, many))
+          ]
     ])
 
 pub added_grown : (services : List ServiceFields) (a b c : Option (List File)) (first : ℕ) (text own : ℕ → List ℕ) → IfSome a (λ told. length told ≡ first)
@@ -135,67 +114,30 @@ captures_of_pairs services pairs text a b are added =
 
 -- Flushed.
 
-flushed_at : (text : ℕ → List ℕ) (services : List ServiceFields) (olds mids news : List File) (first count k : ℕ) (service : ServiceFields) → length olds ≡ first
-    → mids ≡ olds ++ files_from false 0 text services → FlushEach mids news first (first + count) → k < length services → slice_get services k ≡ Some service
-    → (length mids ≡ first + length services)
-    → (k < count → get_or news (first + k) no_file ≡ file_with true service.name (text k)) × (count ≤ k → get_or news (first + k) no_file ≡ file_with false service.name (text k))
-flushed_at text services olds mids news first count k service size added flushed within there many =
-    let was : get_or mids (first + k) no_file ≡ file_with false service.name (text k) =
-    new_at olds mids (files_from false 0 text services) first k size added ∙ numbered_at false text services k service there in (
-      λ low. flushed.each (first + k) (omega (arith, many, within)) (omega arith) (omega (arith, low)) ∙ ap flushed_file was,
-      λ high. flushed.others (first + k) (omega (arith, many, within)) (inr (omega (arith, high))) ∙ was,
-    )
+all_flushed : (from : ℕ) (text : ℕ → List ℕ) (services : List ServiceFields) → map flushed_file (files_from false from text services) ≡ files_from true from text services
+all_flushed from text [] = refl
+all_flushed from text (service ∷ services) = ap (λ (fs : List File). file_with true service.name (text from) ∷ fs) (all_flushed (from + 1) text services)
 
-flushed_files : (text : ℕ → List ℕ) (services : List ServiceFields) (olds mids news : List File) (first count : ℕ) → length olds ≡ first → count ≤ length services
-    → mids ≡ olds ++ files_from false 0 text services → FlushEach mids news first (first + count)
-    → news ≡ olds ++ (take count (files_from true 0 text services) ++ drop count (files_from false 0 text services))
-flushed_files text services olds mids news first count size few added flushed =
-    let done : List File = files_from true 0 text services in
-    let left : List File = files_from false 0 text services in
-    let done_all : length done ≡ length services = length-files_from true 0 text services in
-    let left_all : length left ≡ length services = length-files_from false 0 text services in
-    let many : length mids ≡ first + length services = omega (arith, ap length added, size, length-append olds left, left_all) in
-    let done_size : length (take count done) ≡ count = omega (arith, length-take count done, done_all, few) in
-    let all : length (take count done ++ drop count left) ≡ length services =
-    omega (arith, length-append (take count done) (drop count left), done_size, length-drop count left, left_all, few) in
-    same_files olds news (take count done ++ drop count left) first size (omega (arith, flushed.size, many, all))
-    (λ at low. flushed.others at (omega (arith, low, many)) (inl low) ∙ old_at olds mids left first at size added low)
-    (λ k lt.
-    elim (slice_get_cases services k).1 [
-      | inl found ↦
-          let is = flushed_at text services olds mids news first count k found.0 size added flushed (omega (arith, lt, all)) found.2 many in
-          elim (cases_lt k count) [
-            | inl low ↦
-                is.0 low ∙ sym (numbered_at true text services k found.0 found.2)
-                ∙ sym (get_or_append_left (take count done) (drop count left) no_file k (omega (arith, low, done_size)) ∙ get_or-take count done k no_file low)
-            | inr high ↦
-                let i : ℕ = k - count in
-                let e : count + i ≡ k = omega (arith, high) in
-                is.1 high ∙ sym (numbered_at false text services k found.0 found.2)
-                ∙ sym (subst (λ (j : ℕ). get_or (take count done ++ drop count left) j no_file ≡ get_or left j no_file) e
-                (subst (λ (n : ℕ). get_or (take count done ++ drop count left) (n + i) no_file ≡ get_or left (count + i) no_file) done_size
-                (get_or-append-add (take count done) (drop count left) i no_file ∙ get_or-drop count left i no_file)))
-          ]
-      | inr past ↦ absurd (omega (arith, past.0, lt, all))
-    ])
-
-pub captures_flushed_to : (text : ℕ → List ℕ) (services : List ServiceFields) (a b c : Option (List File)) (first count : ℕ) → IfSome a (λ told. length told ≡ first) → count ≤ length services
-    → AddsCaptures false text services a b → Flush b c first (first + count) → AddsFlushed count text services a c
-captures_flushed_to text services None b c first count size few added flushed = tt
-captures_flushed_to text services (Some olds) None c first count size few added flushed = absurd added
-captures_flushed_to text services (Some olds) (Some mids) None first count size few added flushed = absurd flushed
-captures_flushed_to text services (Some olds) (Some mids) (Some news) first count size few added flushed = flushed_files text services olds mids news first count size few added flushed
+pub captures_flushed_to : (text : ℕ → List ℕ) (services : List ServiceFields) (a b c : Option (List File)) (first count : ℕ) → IfSome a (λ told. length told ≡ first)
+    → AddsCaptures false text services a b → Flush b c first count → AddsFlushed count text services a c
+captures_flushed_to text services None b c first count size added flushed = tt
+captures_flushed_to text services (Some olds) None c first count size added flushed = absurd added
+captures_flushed_to text services (Some olds) (Some mids) None first count size added flushed = absurd flushed
+captures_flushed_to text services (Some olds) (Some mids) (Some news) first count size added flushed =
+    let files : List File = files_from false 0 text services in
+    flushed.files
+    ∙ ap₂ (λ (front rest : List File). front ++ flushed_front count rest) (ap (take first) added ∙ take_at olds files first size) (ap (drop first) added ∙ drop_at olds files first size)
+    ∙ ap (λ (done : List File). olds ++ (done ++ drop count files)) (sym (take-map flushed_file count files) ∙ ap (take count) (all_flushed 0 text services))
 
 -- all of them
-all_flushed : (text : ℕ → List ℕ) (services : List ServiceFields)
+none_left : (text : ℕ → List ℕ) (services : List ServiceFields)
     → take (length services) (files_from true 0 text services) ++ drop (length services) (files_from false 0 text services) ≡ files_from true 0 text services
-all_flushed text services =
+none_left text services =
     ap₂ (λ (x y : List File). x ++ y) (take_all (length services) (files_from true 0 text services) (omega (arith, length-files_from true 0 text services)))
     (drop_all (length services) (files_from false 0 text services) (omega (arith, length-files_from false 0 text services)))
     ∙ append-nil (files_from true 0 text services)
 
 pub captures_flushed : (text : ℕ → List ℕ) (services : List ServiceFields) (a b c : Option (List File)) (first : ℕ) → IfSome a (λ told. length told ≡ first)
-    → AddsCaptures false text services a b → Flush b c first (first + length services) → AddsCaptures true text services a c
+    → AddsCaptures false text services a b → Flush b c first (length services) → AddsCaptures true text services a c
 captures_flushed text services a b c first size added flushed =
-    subst (λ (fs : List File). AddsFiles a c fs) (all_flushed text services)
-    (captures_flushed_to text services a b c first (length services) size (omega arith) added flushed)
+    subst (λ (fs : List File). AddsFiles a c fs) (none_left text services) (captures_flushed_to text services a b c first (length services) size added flushed)

@@ -1,7 +1,8 @@
 -- The receiver and the pieces of a plan, before the first piece.
-use Rattle.std.proofs.Common.{◌≡◌, ◌⊎◌, inl, inr, ℕ, ◌<◌, ◌≤◌, ◌^◌, Bool, true, false, List, [], length, refl, ap, sym, ◌∙◌, subst, arith, Option, None, Some}
+use Rattle.std.proofs.Common.{◌≡◌, ◌⊎◌, inl, inr, ℕ, ◌≤◌, true, false, List, [], length, refl, ap, sym, subst, arith, Option, None, Some}
 use Rattle.std.specs.Prelude.{is_some}
 use Rattle.std.specs.Option.{unwrap_or}
+use Rattle.std.proofs.lemmas.Bool.{cases_Bool}
 use Rattle.ts_spec.specs.Recording.{Record}
 use Rattle.plan_spec.specs.Plan.{PlanFields, is_baseband}
 use Rattle.plan_spec.specs.Wholes.{is_whole_plan}
@@ -11,7 +12,7 @@ use Rattle.demux_core.specs.Carried.{IsReady, TakesSize}
 use Rattle.demux_core.specs.declared.receiver.ByCarrier.{ByCarrier}
 use Rattle.demux_core.specs.declared.receiver.ByCarrier.TheVariants.{Packets, Frames}
 use Rattle.receive_command.specs.Writing.{IsGivenOn, IsGiven}
-use Rattle.receive_command.proofs.Pieces.{records_none}
+use Rattle.recording_reader.proofs.Next.{records_none}
 
 -- a receiver of the plan that was given nothing
 given_none : (carrier : Option ℕ) (plan : PlanFields) (receiver : ByCarrier) → plan.frame_bytes ≡ carrier
@@ -33,14 +34,10 @@ counted_none plan (Packets receiver) (inr given) = absurd given
 counted_none plan (Frames receiver) (inl given) = absurd given
 counted_none plan (Frames receiver) (inr given) = ap (λ n. n.records) given.stream
 
-by_case : (b : Bool) {P Q : Type 0} → (b ≡ false → P) → (b ≡ true → Q) → P ⊎ Q
-by_case true p q = inr (q refl)
-by_case false p q = inl (p refl)
-
 pub has_room : (plan : PlanFields) (receiver : ByCarrier)
     → (is_baseband plan ≡ false → HasReceivedPackets false plan [] receiver) → (is_baseband plan ≡ true → HasReceivedFrames plan [] receiver)
     → (stream_of receiver).records ≡ 0
-has_room plan receiver packets frames = counted_none plan receiver (by_case (is_baseband plan) packets frames)
+has_room plan receiver packets frames = counted_none plan receiver (elim (cases_Bool (is_baseband plan)) [ inl baseband ↦ inr (frames baseband) | inr other ↦ inl (packets other) ])
 
 -- and takes the pieces of the plan
 takes_size : (carrier : Option ℕ) (plan : PlanFields) (receiver : ByCarrier) → plan.frame_bytes ≡ carrier → is_whole_plan plan ≡ true → IsGivenOn carrier false plan [] receiver

@@ -1,5 +1,5 @@
 -- The captures of a recording, from what one reading wrote behind the heads, and from the flush.
-use Rattle.std.proofs.Common.{◌≡◌, ◌⊎◌, inl, inr, ℕ, ◌+◌, ◌*◌, ◌^◌, ◌<◌, ◌≤◌, false, true, List, [], ◌∷◌, ◌++◌, length, take, refl, ap, sym, ◌∙◌, subst, arith, Option, IfSome, Result, Ok, Err}
+use Rattle.std.proofs.Common.{◌≡◌, inl, inr, ℕ, ◌+◌, ◌*◌, ◌^◌, ◌<◌, ◌≤◌, false, List, [], ◌∷◌, ◌++◌, length, take, refl, ap, sym, ◌∙◌, subst, arith, Option, IfSome, Result, Ok, Err}
 use Rattle.std.proofs.Math.Nat.{mul-le-mul_left}
 use Rattle.std.proofs.lemmas.List.{length_push}
 use Rattle.wire_spec.specs.Causes.{Rose, raised}
@@ -19,13 +19,13 @@ use Rattle.receive_command.specs.declared.faults.ReceiveFault.TheVariants as fau
 use Rattle.carrier_spec.specs.Stream.{piece_size}
 use Rattle.recording_spec.specs.Pieces.{told_pairs, pairs_of_end}
 use Rattle.receive_command.specs.Faults.{fault_of_reading, fault_of_adding}
-use Rattle.receive_command.specs.Growth.{Grow, records_at}
-use Rattle.receive_command.specs.Files.{AddsCaptures, AddsHeadsPart, head_of, delivered_capture}
+use Rattle.receive_command.specs.Growth.{Grow, records_at, records_and}
+use Rattle.receive_command.specs.Files.{AddsCaptures, AddsHeadsPart, head_of, delivered_capture, capture_of_pairs, capture_and}
 use Rattle.receive_command.specs.Flushes.{Flush}
 use Rattle.receive_command.specs.Reading.{HasRead}
 use Rattle.receive_command.specs.Ends.{in_heads, in_piece, at_end, in_flush}
 use Rattle.receive_command.specs.Writing.{WritesPieces}
-use Rattle.receive_command.specs.Receives.{HasHeads, Blames, TakesAll, TakesFront, TakesMost, Captures}
+use Rattle.receive_command.specs.Receives.{HasHeads, Blames, TakesMost, Captures}
 use Rattle.receive_command.proofs.Pieces.{below_product}
 use Rattle.receive_command.proofs.Pairs.{capture_of_delivered}
 use Rattle.receive_command.proofs.Assembly.{pairs_grown, pairs_and_grown, captures_of_pairs, captures_flushed, captures_flushed_to}
@@ -41,27 +41,8 @@ stays result own before now other same = record { rose = λ is. absurd (other is
 rises : (own : ReceiveFault) (before now : ℕ) → Rose before now → Blames {T = ℕ} (Err own) own before now
 rises own before now rose = record { rose = λ is. rose; kept = λ not. absurd (not refl) }
 
--- No file was added whole, or not all.
+-- No file was added whole, or not all, by the fault of the one that could not be added.
 
-heads_failed : (plan : PlanFields) (input : InputTold) (rack now_rack : RackTold) (receiver : ByCarrier) (Unread : Type 0)
-    → raised input.taken 0 ≡ input.taken → (count : ℕ) × AddsHeadsPart plan.services count rack.files now_rack.files → Rose rack.faults now_rack.faults
-    → Captures (Err fault.Rack) plan input input rack now_rack receiver Unread
-heads_failed plan input rack now_rack receiver Unread none stop rose = record {
-  ends = (in_heads (record { unread = refl; count = stop.0; files = stop.1 }), record { count = 0; most = omega arith; taken = sym none });
-  input_faults = stays _ _ _ _ (λ is. absurd (cc)) refl;
-  rack_faults = rises _ _ _ rose;
-}
-
-heads_unmade : (plan : PlanFields) (input : InputTold) (rack now_rack : RackTold) (receiver : ByCarrier) (Unread : Type 0)
-    → Unread → HasHeads plan rack now_rack → now_rack.faults ≡ rack.faults
-    → Captures (Err fault.OutOfMemory) plan input input rack now_rack receiver Unread
-heads_unmade plan input rack now_rack receiver Unread unread heads kept = record {
-  ends = (unread, heads);
-  input_faults = stays _ _ _ _ (λ is. absurd (cc)) refl;
-  rack_faults = stays _ _ _ _ (λ is. absurd (cc)) kept;
-}
-
--- by the fault of a file that could not be added
 abbrev unadded : AddFault → Result ℕ AddFault
 unadded e = Err e
 
@@ -71,35 +52,18 @@ pub heads_stopped : (e : AddFault) (plan : PlanFields) (input : InputTold) (rack
     → (unadded e ≡ Err add.OutOfMemory → HasHeads plan rack now_rack)
     → HasAddCause rack.faults now_rack.faults (unadded e)
     → Captures (Err (fault_of_adding e)) plan input input rack now_rack receiver Unread
-heads_stopped add.Failed plan input rack now_rack receiver Unread none unread part heads cause =
-    heads_failed plan input rack now_rack receiver Unread none (part refl) (cause.failed refl)
-heads_stopped add.OutOfMemory plan input rack now_rack receiver Unread none unread part heads cause =
-    heads_unmade plan input rack now_rack receiver Unread unread (heads refl) (cause.kept (λ e. absurd (cc)))
-
--- The heads of all are there.
-
--- how many bytes were taken, of fewer pieces than the most
-record Taken (plan : PlanFields) (input now : InputTold) : Type 0 where
-  pub count : ℕ
-  pub fewer : count < piece_size plan * 2 ^ 32
-  pub taken : now.taken ≡ raised input.taken count
-
-taken_of : (plan : PlanFields) (input now : InputTold) (pieces : List (List ℕ)) (behind : List ℕ) → length pieces < 2 ^ 32 → length behind < piece_size plan
-    → now.taken ≡ raised input.taken (piece_size plan * length pieces + length behind) → Taken plan input now
-taken_of plan input now pieces behind few short taken = record {
-  count = piece_size plan * length pieces + length behind;
-  fewer = below_product (piece_size plan) (length pieces) (length behind) few short;
-  taken = taken;
+heads_stopped add.Failed plan input rack now_rack receiver Unread none unread part heads cause = record {
+  ends = (in_heads (record { unread = refl; count = (part refl).0; files = (part refl).1 }), record { count = 0; most = omega arith; taken = sym none });
+  input_faults = stays _ _ _ _ (λ is. absurd (cc)) refl;
+  rack_faults = rises _ _ _ (cause.failed refl);
+}
+heads_stopped add.OutOfMemory plan input rack now_rack receiver Unread none unread part heads cause = record {
+  ends = (unread, heads refl);
+  input_faults = stays _ _ _ _ (λ is. absurd (cc)) refl;
+  rack_faults = stays _ _ _ _ (λ is. absurd (cc)) (cause.kept (λ e. absurd (cc)));
 }
 
-taken_all : (plan : PlanFields) (input now : InputTold) → now.ended ≡ true → Taken plan input now → TakesAll plan input now
-taken_all plan input now ended some = record { ended = ended; count = some.count; fewer = some.fewer; taken = some.taken }
-
-taken_front : (plan : PlanFields) (input now : InputTold) → (input.ended ≡ false → now.ended ≡ false) → Taken plan input now → TakesFront plan input now
-taken_front plan input now going some = record { going = going; count = some.count; fewer = some.fewer; taken = some.taken }
-
-taken_most : (plan : PlanFields) (input now : InputTold) → Taken plan input now → TakesMost plan input now
-taken_most plan input now some = record { count = some.count; most = omega (arith, some.fewer); taken = some.taken }
+-- The heads of all are there.
 
 none_behind : (size before taken : ℕ) (pieces : List (List ℕ)) (behind : List ℕ) → behind ≡ [] → taken ≡ raised before (size * length pieces + length behind)
     → taken ≡ raised before (size * length pieces)
@@ -108,39 +72,49 @@ none_behind size before taken pieces behind none is =
 
 module _ (plan : PlanFields) (first : ℕ) (input now : InputTold) (rack heads mid : RackTold) (receiver : ByCarrier) (Unread : Type 0)
     (size : IfSome rack.files (λ told. length told ≡ first)) (added : AddsCaptures false head_of plan.services rack.files heads.files) (kept : heads.faults ≡ rack.faults) where
-  captured_front : WritesPieces (Err read.Source) plan first input now heads mid receiver → Captures (Err fault.Source) plan input now rack mid receiver Unread
-  captured_front wrote = record {
+  -- how many bytes were taken, of fewer pieces than the most
+  takes_most : {answer : Result ℕ ReadFault} (wrote : WritesPieces answer plan first input now heads mid receiver) → length wrote.pieces < 2 ^ 32 → TakesMost plan input now
+  takes_most wrote few = record {
+    count = piece_size plan * length wrote.pieces + length wrote.behind;
+    most = omega (arith, below_product (piece_size plan) (length wrote.pieces) (length wrote.behind) few wrote.read.short);
+    taken = wrote.taken;
+  }
+
+  grown_by : (pairs : List (ℕ × List ℕ)) → Grow heads.files mid.files (records_at first pairs) → AddsCaptures false (capture_of_pairs pairs) plan.services rack.files mid.files
+  grown_by pairs grew = pairs_grown plan.services pairs rack.files heads.files mid.files first size added grew
+
+  grown_part : (pairs : List (ℕ × List ℕ)) (service : ℕ) (text : List ℕ) → Grow heads.files mid.files (records_and first service text pairs)
+      → AddsCaptures false (capture_and service text pairs) plan.services rack.files mid.files
+  grown_part pairs service text grew = pairs_and_grown plan.services service text pairs rack.files heads.files mid.files first size added grew
+
+  pub captured_part : (e : ReadFault) → WritesPieces (Err e) plan first input now heads mid receiver → Captures (Err (fault_of_reading e)) plan input now rack mid receiver Unread
+  captured_part read.Source wrote = record {
     ends = (
+      record { pieces = wrote.pieces; behind = wrote.behind; read = wrote.read; fewer = wrote.ends.0; files = grown_by (told_pairs plan wrote.pieces) wrote.ends.4 },
       record {
-        pieces = wrote.pieces;
-        behind = wrote.behind;
-        read = wrote.read;
-        fewer = wrote.ends.0;
-        files = pairs_grown plan.services (told_pairs plan wrote.pieces) rack.files heads.files mid.files first size added wrote.ends.4;
+        going = wrote.ends.1;
+        count = piece_size plan * length wrote.pieces + length wrote.behind;
+        fewer = below_product (piece_size plan) (length wrote.pieces) (length wrote.behind) wrote.ends.0 wrote.read.short;
+        taken = wrote.taken;
       },
-      taken_front plan input now wrote.ends.1 (taken_of plan input now wrote.pieces wrote.behind wrote.ends.0 wrote.read.short wrote.taken),
     );
     input_faults = rises _ _ _ wrote.ends.2;
     rack_faults = stays _ _ _ _ (λ is. absurd (cc)) (wrote.ends.3 ∙ kept);
   }
-
-  captured_to_limit : WritesPieces (Err read.TooLong) plan first input now heads mid receiver → Captures (Err fault.TooLong) plan input now rack mid receiver Unread
-  captured_to_limit wrote = record {
+  captured_part read.TooLong wrote = record {
     ends = (
       record {
         pieces = wrote.pieces;
         read = subst (λ (b : List ℕ). HasRead (piece_size plan) input.left now.left wrote.pieces b) wrote.ends.0 wrote.read;
         limit = wrote.ends.1;
-        files = pairs_grown plan.services (told_pairs plan wrote.pieces) rack.files heads.files mid.files first size added wrote.ends.4;
+        files = grown_by (told_pairs plan wrote.pieces) wrote.ends.4;
       },
       none_behind (piece_size plan) input.taken now.taken wrote.pieces wrote.behind wrote.ends.0 wrote.taken ∙ ap (λ (n : ℕ). raised input.taken (piece_size plan * n)) wrote.ends.1,
     );
     input_faults = stays _ _ _ _ (λ is. absurd (cc)) wrote.ends.2;
     rack_faults = stays _ _ _ _ (λ is. absurd (cc)) (wrote.ends.3 ∙ kept);
   }
-
-  captured_in_files : WritesPieces (Err read.Taker) plan first input now heads mid receiver → Captures (Err fault.Rack) plan input now rack mid receiver Unread
-  captured_in_files wrote = record {
+  captured_part read.Taker wrote = record {
     ends = elim wrote.ends.2 [
       | inl last ↦
           let stop = last.2 in
@@ -158,8 +132,7 @@ module _ (plan : PlanFields) (first : ℕ) (input now : InputTold) (rack heads m
               pairs = stop.pairs;
               count = stop.count;
               less = stop.less;
-              files = pairs_and_grown plan.services stop.service (take stop.count (capture_record stop.datagram)) (told_pairs plan stop.pieces ++ stop.front)
-                  rack.files heads.files mid.files first size added stop.files;
+              files = grown_part (told_pairs plan stop.pieces ++ stop.front) stop.service (take stop.count (capture_record stop.datagram)) stop.files;
             }),
             record {
               count = piece_size plan * length wrote.pieces;
@@ -182,20 +155,14 @@ module _ (plan : PlanFields) (first : ℕ) (input now : InputTold) (rack heads m
               pairs = stop.pairs;
               count = stop.count;
               less = stop.less;
-              files = pairs_and_grown plan.services stop.service (take stop.count (capture_record stop.datagram)) (told_pairs plan wrote.pieces ++ stop.front)
-                  rack.files heads.files mid.files first size added stop.files;
+              files = grown_part (told_pairs plan wrote.pieces ++ stop.front) stop.service (take stop.count (capture_record stop.datagram)) stop.files;
             }),
-            taken_most plan input now (taken_of plan input now wrote.pieces wrote.behind end.0 wrote.read.short wrote.taken),
+            takes_most wrote end.0,
           )
     ];
     input_faults = stays _ _ _ _ (λ is. absurd (cc)) wrote.ends.0;
     rack_faults = rises _ _ _ (wrote.ends.1 ∙ ap (λ (n : ℕ). raised n 1) kept);
   }
-
-  pub captured_part : (e : ReadFault) → WritesPieces (Err e) plan first input now heads mid receiver → Captures (Err (fault_of_reading e)) plan input now rack mid receiver Unread
-  captured_part read.Source wrote = captured_front wrote
-  captured_part read.TooLong wrote = captured_to_limit wrote
-  captured_part read.Taker wrote = captured_in_files wrote
 
   -- and the flush
   module _ (now_rack : RackTold) (tail services : ℕ) (right : has_wrong_change plan ≡ false) (many : services ≡ length plan.services)
@@ -205,9 +172,9 @@ module _ (plan : PlanFields) (first : ℕ) (input now : InputTold) (rack heads m
         let told : List (ℕ × List ℕ) = told_pairs plan wrote.pieces in
         let last : List (ℕ × List ℕ) = pairs_of_end plan wrote.pieces in
         captures_of_pairs plan.services (told ++ last) (delivered_capture plan wrote.pieces) rack.files mid.files (capture_of_delivered plan right wrote.pieces)
-        (pairs_grown plan.services (told ++ last) rack.files heads.files mid.files first size added wrote.ends.7)
+        (grown_by (told ++ last) wrote.ends.7)
 
-    pub captured_whole : heads.count ≡ rack.count + length plan.services → now_rack.count ≡ mid.count → Flush mid.files now_rack.files first (first + services)
+    pub captured_whole : heads.count ≡ rack.count + length plan.services → now_rack.count ≡ mid.count → Flush mid.files now_rack.files first services
         → now_rack.faults ≡ mid.faults → Captures (Ok tail) plan input now rack now_rack receiver Unread
     captured_whole all kept_all flushed same = record {
       ends = (
@@ -219,19 +186,24 @@ module _ (plan : PlanFields) (first : ℕ) (input now : InputTold) (rack heads m
             fewer = wrote.ends.1;
             at_end = wrote.ends.2;
             files = captures_flushed (delivered_capture plan wrote.pieces) plan.services rack.files mid.files now_rack.files first size whole_files
-                (subst (λ (n : ℕ). Flush mid.files now_rack.files first (first + n)) many flushed);
+                (subst (λ (n : ℕ). Flush mid.files now_rack.files first n) many flushed);
           };
           tail_is = wrote.ends.0;
           received = wrote.ends.8;
         },
         kept_all ∙ (wrote.ends.6 ∙ all),
-        taken_all plan input now wrote.ends.3 (taken_of plan input now wrote.pieces wrote.behind wrote.ends.1 wrote.read.short wrote.taken),
+        record {
+          ended = wrote.ends.3;
+          count = piece_size plan * length wrote.pieces + length wrote.behind;
+          fewer = below_product (piece_size plan) (length wrote.pieces) (length wrote.behind) wrote.ends.1 wrote.read.short;
+          taken = wrote.taken;
+        },
       );
       input_faults = stays _ _ _ _ (λ is. absurd (cc)) wrote.ends.4;
       rack_faults = stays _ _ _ _ (λ is. absurd (cc)) (same ∙ (wrote.ends.5 ∙ kept));
     }
 
-    pub captured_in_flush : (count : ℕ) × (count < services) × Flush mid.files now_rack.files first (first + count) → Rose mid.faults now_rack.faults
+    pub captured_in_flush : (count : ℕ) × (count < services) × Flush mid.files now_rack.files first count → Rose mid.faults now_rack.faults
         → Captures (Err fault.Rack) plan input now rack now_rack receiver Unread
     captured_in_flush stop rose =
         record {
@@ -244,9 +216,9 @@ module _ (plan : PlanFields) (first : ℕ) (input now : InputTold) (rack heads m
               at_end = wrote.ends.2;
               count = stop.0;
               less = omega (arith, stop.1, many);
-              files = captures_flushed_to (delivered_capture plan wrote.pieces) plan.services rack.files mid.files now_rack.files first stop.0 size (omega (arith, stop.1, many)) whole_files stop.2;
+              files = captures_flushed_to (delivered_capture plan wrote.pieces) plan.services rack.files mid.files now_rack.files first stop.0 size whole_files stop.2;
             }),
-            taken_most plan input now (taken_of plan input now wrote.pieces wrote.behind wrote.ends.1 wrote.read.short wrote.taken),
+            takes_most wrote wrote.ends.1,
           );
           input_faults = stays _ _ _ _ (λ is. absurd (cc)) wrote.ends.4;
           rack_faults = rises _ _ _ (rose ∙ ap (λ (n : ℕ). raised n 1) (wrote.ends.5 ∙ kept));

@@ -13,19 +13,13 @@ plan_of_frames (Packets receiver) plan frames has = absurd has
 plan_of_frames (Frames receiver) plan frames has = has.plan_is
 
 -- what it answers of packets, and of frames
-answered_on : {X : Type 0} (carrier : Option ℕ) (ended : Bool) (plan : PlanFields) (pieces : List (List ℕ)) (receiver : ByCarrier) (answer of_packets of_frames : X)
-    → plan.frame_bytes ≡ carrier → IsGivenOn carrier ended plan pieces receiver
-    → (HasReceivedPackets ended plan (records_in plan pieces) receiver → answer ≡ of_packets)
-    → (HasReceivedFrames plan pieces receiver → is_baseband (plan_of receiver) ≡ true → answer ≡ of_frames)
-    → answer ≡ by_carrier carrier of_packets of_frames
-answered_on None ended plan pieces receiver answer of_packets of_frames is given packets frames = packets given
-answered_on (Some bytes) ended plan pieces receiver answer of_packets of_frames is given packets frames =
-    frames given (ap is_baseband (plan_of_frames receiver plan pieces given) ∙ ap is_some is)
-
 pub answered : {X : Type 0} (ended : Bool) (plan : PlanFields) (pieces : List (List ℕ)) (receiver : ByCarrier) (answer of_packets of_frames : X)
     → IsGiven ended plan pieces receiver
     → (HasReceivedPackets ended plan (records_in plan pieces) receiver → answer ≡ of_packets)
     → (HasReceivedFrames plan pieces receiver → is_baseband (plan_of receiver) ≡ true → answer ≡ of_frames)
     → answer ≡ by_carrier plan.frame_bytes of_packets of_frames
-answered ended plan pieces receiver answer of_packets of_frames given packets frames =
-    answered_on plan.frame_bytes ended plan pieces receiver answer of_packets of_frames refl given packets frames
+answered ended plan pieces receiver answer of_packets of_frames given packets frames = on plan.frame_bytes refl given
+  where
+    on : (carrier : Option ℕ) → plan.frame_bytes ≡ carrier → IsGivenOn carrier ended plan pieces receiver → answer ≡ by_carrier carrier of_packets of_frames
+    on None is has = packets has
+    on (Some bytes) is has = frames has (ap is_baseband (plan_of_frames receiver plan pieces has) ∙ ap is_some is)

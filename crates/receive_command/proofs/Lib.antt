@@ -1,6 +1,5 @@
 pub mod CameUp
 pub mod Texts
-pub mod Heads
 pub mod Grown
 pub mod Outlets
 pub mod Adding

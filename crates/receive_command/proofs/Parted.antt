@@ -1,9 +1,8 @@
 -- However a reception stops, each file is a prefix of a capture: of what the pieces read tell, or, where the input was read to its end, of what
 -- they deliver.
-use Rattle.std.proofs.Common.{◌≡◌, inl, inr, ℕ, suc, ◌+◌, ◌<◌, ◌≤◌, ◌==◌, Bool, true, false, cond, List, [], ◌∷◌, ◌++◌, length, take, drop, refl, ap, sym, ◌∙◌, subst, arith, append_assoc, Option}
+use Rattle.std.proofs.Common.{◌≡◌, inl, inr, ℕ, ◌+◌, ◌<◌, ◌==◌, Bool, true, false, cond, List, [], ◌∷◌, ◌++◌, length, take, drop, refl, ap, sym, ◌∙◌, subst, arith, append_assoc, Option}
 use Rattle.std.specs.Io.KnownBytes.{Consumes, IsAtEnd}
-use Rattle.std.proofs.lemmas.List.{take-append-le}
-use Rattle.std.proofs.Math.Seq.{take-append-add}
+use Rattle.std.proofs.lemmas.List.{take-append-drop}
 use Rattle.wire_spec.specs.Content.{File}
 use Rattle.plan_spec.specs.Plan.{ServiceFields, PlanFields}
 use Rattle.plan_spec.specs.Changes.{has_wrong_change}
@@ -11,10 +10,10 @@ use Rattle.carrier_spec.specs.Stream.{piece_size}
 use Rattle.pcap_file.specs.Capture.{capture_head, capture_record}
 use Rattle.recording_spec.specs.Pieces.{told_pairs, pairs_of_end, told_of}
 use Rattle.receive_command.specs.Growth.{records_at, text_in}
-use Rattle.receive_command.specs.Files.{file_with, files_from, head_of, told_capture, delivered_capture, capture_of_pairs, capture_and, AreParts, AddsParts, AddsHeadsPart, AddsCaptures}
+use Rattle.receive_command.specs.Files.{file_with, files_from, head_of, told_capture, delivered_capture, capture_of_pairs, capture_and, AddsParts, AddsHeadsPart, AddsCaptures}
 use Rattle.receive_command.specs.Reading.{HasRead}
 use Rattle.receive_command.specs.Ends.{EndsFront, EndsAtLimit, StopsInPiece, StopsAtEnd, EndsInFiles, in_heads, in_piece, at_end, in_flush}
-use Rattle.receive_command.proofs.Parts.{parts_whole, parts_front, parts_next, flushed_parts, heads_are_parts}
+use Rattle.receive_command.proofs.Parts.{parts_whole, parts_front, parts_next, flushed_parts, parts_go_on, heads_are_parts}
 use Rattle.receive_command.proofs.Pieces.{consumes_none, last_pairs}
 use Rattle.receive_command.proofs.Assembly.{captures_of_pairs}
 use Rattle.receive_command.proofs.Grown.{records-append}
@@ -89,57 +88,42 @@ parts_of_heads_part services count a b heads = elim heads.files [
   }
 ]
 
--- Stopped in a piece.
+-- Stopped at a pair.
 
 -- in the file of its service a prefix of the record, in the others nothing
-text_cut : (own : Bool) (count : ℕ) (text rest : List ℕ) → count ≤ length text → cond own (take count text) [] ≡ take (cond own count 0) (cond own text [] ++ rest)
-text_cut true count text rest few = sym (take-append-le count text rest few)
-text_cut false count text [] few = refl
-text_cut false count text (x ∷ rest) few = refl
+text_goes_on : (own : Bool) (count : ℕ) (text : List ℕ) → (more : List ℕ) × (cond own text [] ≡ cond own (take count text) [] ++ more)
+text_goes_on true count text = (drop count text, sym (take-append-drop count text))
+text_goes_on false count text = ([], refl)
 
-capture_cut : (head before cut after : List ℕ) (n : ℕ) → cut ≡ take n after → head ++ (before ++ cut) ≡ take (length head + (length before + n)) (head ++ (before ++ after))
-capture_cut head before cut after n same =
-    ap (λ (t : List ℕ). head ++ (before ++ t)) same
-    ∙ sym (take-append-add head (before ++ after) (length before + n) ∙ ap (λ (t : List ℕ). head ++ t) (take-append-add before after n))
-
--- the text of a file is a prefix of the one with all pairs
-pairs_cut : (service count : ℕ) (datagram : List ℕ) (before rest : List (ℕ × List ℕ)) (k : ℕ) → count ≤ length (capture_record datagram)
-    → (n : ℕ) × (capture_and service (take count (capture_record datagram)) before k ≡ take n (capture_head ++ records_at 0 (before ++ (service, datagram) ∷ rest) k))
-pairs_cut service count datagram before rest k few =
-    let own : Bool = 0 + service == k in
-    let n : ℕ = length capture_head + (length (records_at 0 before k) + cond own count 0) in (
-      n,
-      capture_cut capture_head (records_at 0 before k) (text_in 0 service (take count (capture_record datagram)) k) (records_at 0 ((service, datagram) ∷ rest) k) (cond own count 0)
-          (text_cut own count (capture_record datagram) (records_at 0 rest k) few)
-          ∙ ap (λ (t : List ℕ). take n (capture_head ++ t)) (records-append 0 before ((service, datagram) ∷ rest) k),
+-- the text of a file goes on in the one with all pairs
+pair_goes_on : (service count : ℕ) (datagram : List ℕ) (before rest : List (ℕ × List ℕ)) (k : ℕ)
+    → (more : List ℕ) × (capture_of_pairs (before ++ (service, datagram) ∷ rest) k ≡ capture_and service (take count (capture_record datagram)) before k ++ more)
+pair_goes_on service count datagram before rest k =
+    let one = text_goes_on (0 + service == k) count (capture_record datagram) in
+    let left : List ℕ = records_at 0 before k in
+    let cut : List ℕ = text_in 0 service (take count (capture_record datagram)) k in
+    let right : List ℕ = records_at 0 rest k in (
+      one.0 ++ right,
+      ap (λ (t : List ℕ). capture_head ++ t) (sym (records-append 0 before ((service, datagram) ∷ rest) k) ∙ ap (λ (t : List ℕ). left ++ (t ++ right)) one.1
+          ∙ ap (λ (t : List ℕ). left ++ t) (append_assoc cut one.0 right) ∙ sym (append_assoc left cut (one.0 ++ right)))
+          ∙ sym (append_assoc capture_head (left ++ cut) (one.0 ++ right)),
     )
 
--- files by the numbers of their services, each a part of a text
-numbered_parts : (from : ℕ) (text own : ℕ → List ℕ) (services : List ServiceFields)
-    → ((i : ℕ) → i < length services → (n : ℕ) × (own (from + i) ≡ take n (text (from + i)))) → AreParts from text services (files_from false from own services)
-numbered_parts from text own [] each = tt
-numbered_parts from text own (service ∷ services) each =
-    let first : from + 0 ≡ from = omega arith in
-    let now : (n : ℕ) × (own from ≡ take n (text from)) = subst (λ (m : ℕ). (n : ℕ) × (own m ≡ take n (text m))) first (each 0 (omega arith)) in (
-      record { name_is = refl; count = now.0; bytes = now.1 },
-      numbered_parts (from + 1) text own services (λ i low.
-          let on : from + suc i ≡ from + 1 + i = omega arith in
-          subst (λ (m : ℕ). (n : ℕ) × (own m ≡ take n (text m))) on (each (suc i) (omega (arith, low)))),
-    )
-
-record_parts : (services : List ServiceFields) (pairs before : List (ℕ × List ℕ)) (service : ℕ) (datagram : List ℕ) (rest : List (ℕ × List ℕ)) (count : ℕ) (text : ℕ → List ℕ)
-    → ((k : ℕ) → k < length services → capture_of_pairs pairs k ≡ text k) → pairs ≡ before ++ (service, datagram) ∷ rest → count < length (capture_record datagram)
-    → AreParts 0 text services (files_from false 0 (capture_and service (take count (capture_record datagram)) before) services)
-record_parts services pairs before service datagram rest count text are all less =
-    numbered_parts 0 text (capture_and service (take count (capture_record datagram)) before) services
-    (λ k low.
-    let cut = pairs_cut service count datagram before rest (0 + k) (omega (arith, less)) in
-    let here : k ≡ 0 + k = omega arith in (
-      cut.0,
-      cut.1
-          ∙ ap (λ (ps : List (ℕ × List ℕ)). take cut.0 (capture_of_pairs ps (0 + k))) (sym all)
-          ∙ ap (take cut.0) (ap (capture_of_pairs pairs) (sym here) ∙ are k low ∙ ap text here),
+-- so each file has a part of its text, by what the captures of the services among all pairs are
+pair_parts : (services : List ServiceFields) (pairs told front : List (ℕ × List ℕ)) (service : ℕ) (datagram : List ℕ) (rest : List (ℕ × List ℕ)) (count : ℕ) (text : ℕ → List ℕ)
+    (old new : Option (List File)) → ((k : ℕ) → k < length services → capture_of_pairs pairs k ≡ text k) → pairs ≡ told ++ (front ++ (service, datagram) ∷ rest)
+    → AddsCaptures false (capture_and service (take count (capture_record datagram)) (told ++ front)) services old new → AddsParts text services old new
+pair_parts services pairs told front service datagram rest count text old new are all added =
+    let cut : ℕ → List ℕ = capture_and service (take count (capture_record datagram)) (told ++ front) in
+    parts_go_on cut text services old new
+    (λ i low.
+    let more = pair_goes_on service count datagram (told ++ front) rest (0 + i) in (
+      more.0,
+      sym (are (0 + i) (omega (arith, low)))
+          ∙ ap (λ (ps : List (ℕ × List ℕ)). capture_of_pairs ps (0 + i)) (all ∙ sym (append_assoc told front ((service, datagram) ∷ rest)))
+          ∙ more.1,
     ))
+    (parts_whole false cut services old new added)
 
 part_in_piece : (plan : PlanFields) → has_wrong_change plan ≡ false → (left now : Option (List ℕ)) (a b : Option (List File)) → StopsInPiece plan left now a b
     → EndsPart plan left now a b
@@ -149,18 +133,9 @@ part_in_piece plan right left now a b stop =
       pieces = pieces;
       behind = [];
       read = stop.read;
-      files = record {
-        files = files_from false 0 (capture_and stop.service (take stop.count (capture_record stop.datagram)) (told ++ stop.front)) plan.services;
-        parts = record_parts plan.services (told_pairs plan pieces) (told ++ stop.front) stop.service stop.datagram stop.rest stop.count (told_capture plan pieces)
-            (capture_of_told plan right pieces)
-            (last_pairs plan stop.pieces stop.piece ∙ ap (λ (ps : List (ℕ × List ℕ)). told ++ ps) stop.pairs
-            ∙ sym (append_assoc told stop.front ((stop.service, stop.datagram) ∷ stop.rest)))
-            stop.less;
-        added = stop.files;
-      };
+      files = pair_parts plan.services (told_pairs plan pieces) told stop.front stop.service stop.datagram stop.rest stop.count (told_capture plan pieces) a b
+          (capture_of_told plan right pieces) (last_pairs plan stop.pieces stop.piece ∙ ap (λ (ps : List (ℕ × List ℕ)). told ++ ps) stop.pairs) stop.files;
     })
-
--- Stopped at the end.
 
 part_at_end : (plan : PlanFields) → has_wrong_change plan ≡ false → (left now : Option (List ℕ)) (a b : Option (List File)) → StopsAtEnd plan left now a b
     → EndsPart plan left now a b
@@ -170,15 +145,8 @@ part_at_end plan right left now a b stop =
       behind = stop.behind;
       read = stop.read;
       at_end = stop.at_end;
-      files = record {
-        files = files_from false 0 (capture_and stop.service (take stop.count (capture_record stop.datagram)) (told ++ stop.front)) plan.services;
-        parts = record_parts plan.services (told ++ pairs_of_end plan stop.pieces) (told ++ stop.front) stop.service stop.datagram stop.rest stop.count
-            (delivered_capture plan stop.pieces) (capture_of_delivered plan right stop.pieces)
-            (ap (λ (ps : List (ℕ × List ℕ)). told ++ ps) stop.pairs
-            ∙ sym (append_assoc told stop.front ((stop.service, stop.datagram) ∷ stop.rest)))
-            stop.less;
-        added = stop.files;
-      };
+      files = pair_parts plan.services (told ++ pairs_of_end plan stop.pieces) told stop.front stop.service stop.datagram stop.rest stop.count (delivered_capture plan stop.pieces) a b
+          (capture_of_delivered plan right stop.pieces) (ap (λ (ps : List (ℕ × List ℕ)). told ++ ps) stop.pairs) stop.files;
     })
 
 -- Stopped anywhere.

@@ -4,10 +4,9 @@ use Rattle.std.specs.List.{flat_map, slice_get}
 use Rattle.std.proofs.lemmas.List.{append-nil, take_all, take-append-le, take_min}
 use Rattle.std.proofs.lemmas.Option.{slice_get_within}
 use Rattle.wire_spec.specs.Content.{File}
-use Rattle.plan_spec.specs.Plan.{ServiceFields, PlanFields}
+use Rattle.plan_spec.specs.Plan.{ServiceFields}
 use Rattle.pcap_file.specs.Capture.{capture_record, capture_text}
-use Rattle.recording_spec.specs.Pieces.{delivered_of}
-use Rattle.receive_command.specs.Files.{file_with, files_from, head_of, delivered_capture, AddsCaptures, AddsHeads, AddsParts, IsPart, AreParts}
+use Rattle.receive_command.specs.Files.{file_with, files_from, head_of, AddsCaptures, AddsHeads, AddsParts, IsPart, AreParts}
 
 -- the whole is a part
 whole_part : (b : Bool) (text name : List ℕ) → IsPart text name (file_with b name text)
@@ -79,18 +78,16 @@ parts_of_longer from text whole (service ∷ services) (file ∷ files) longer p
   parts_of_longer (from + 1) text whole services files (go_on_next from text whole (length services) longer) parts.1,
 )
 
+pub parts_go_on : (text whole : ℕ → List ℕ) (services : List ServiceFields) (old new : Option (List File)) → GoOn 0 text whole (length services)
+    → AddsParts text services old new → AddsParts whole services old new
+parts_go_on text whole services old new longer parts =
+    record { files = parts.files; parts = parts_of_longer 0 text whole services parts.files longer parts.parts; added = parts.added }
+
 -- heads are parts of captures, whatever these have
 pub heads_are_parts : (datagrams : ℕ → List (List ℕ)) (services : List ServiceFields) (old new : Option (List File)) → AddsParts head_of services old new
     → AddsParts (λ k. capture_text (datagrams k)) services old new
-heads_are_parts datagrams services old new parts = record {
-  files = parts.files;
-  parts = parts_of_longer 0 head_of (λ k. capture_text (datagrams k)) services parts.files (λ i low. (flat_map capture_record (datagrams (0 + i)), refl)) parts.parts;
-  added = parts.added;
-}
-
-pub parts_of_heads : (plan : PlanFields) (pieces : List (List ℕ)) (services : List ServiceFields) (old new : Option (List File)) → AddsParts head_of services old new
-    → AddsParts (delivered_capture plan pieces) services old new
-parts_of_heads plan pieces services old new parts = heads_are_parts (λ k. delivered_of plan k pieces) services old new parts
+heads_are_parts datagrams services old new parts =
+    parts_go_on head_of (λ k. capture_text (datagrams k)) services old new (λ i low. (flat_map capture_record (datagrams (0 + i)), refl)) parts
 
 pub parts_of_some : (services : List ServiceFields) (old new : Option (List File)) → AddsHeads services old new → AddsParts head_of services old new
 parts_of_some services old new heads = record {

@@ -1,45 +1,21 @@
 -- The pieces of a recording: how many records they give, and what one piece more gives.
-use Rattle.std.proofs.Common.{◌≡◌, ℕ, suc, ◌+◌, ◌*◌, ◌^◌, ◌<◌, List, [], ◌∷◌, ◌++◌, length, refl, ap, ap₂, sym, ◌∙◌, subst, arith, Option, None, Some}
-use Rattle.std.proofs.lemmas.List.{length-map, map-append}
+use Rattle.std.proofs.Common.{◌≡◌, ℕ, ◌+◌, ◌*◌, ◌^◌, ◌<◌, List, [], ◌∷◌, ◌++◌, length, refl, ap, ap₂, sym, ◌∙◌, subst, Option, None, Some}
+use Rattle.std.proofs.lemmas.List.{map-append}
 use Rattle.std.proofs.Math.Nat.{mul_comm}
 use Rattle.std.proofs.lemmas.Nat.{mul-add-lt}
 use Rattle.std.specs.Io.KnownBytes.{Consumes}
-use Rattle.ts_spec.specs.Recording.{Record, RecordingForm, plain, stamped, m2ts, record_size, plain_record, stamped_record, m2ts_record, m2ts_stamp, moment_behind, m2ts_records, records_of}
+use Rattle.ts_spec.specs.Recording.{Record, RecordingForm, plain, stamped, m2ts, plain_record, stamped_record, m2ts_record, m2ts_stamp, moment_behind, m2ts_records, records_of}
 use Rattle.plan_spec.specs.Plan.{PlanFields}
-use Rattle.ipe_io.specs.declared.faults.Recording.{Recording}
-use Rattle.ipe_io.specs.declared.faults.Recording.TheVariants.{Plain, Stamped, M2ts}
-use Rattle.ts_record.specs.Reading.{form_of as form_read}
-use Rattle.plan.specs.Parts.{form_of as form_planned}
+use Rattle.carriage_law.proofs.Late.{length-records}
 use Rattle.reception_spec.specs.Delivered.{told_pairs as told_pairs_of_records, pairs_of_record}
 use Rattle.reception_law.proofs.DeliveredPairs.{pairs_more}
 use Rattle.bb_reception_spec.specs.Delivered.{delivered_pairs as pairs_of_frames, pairs_of_frame}
 use Rattle.bb_reception_law.proofs.FrameByFrame.{pairs_more as frame_pairs_more}
 use Rattle.recording_spec.specs.Pieces.{by_carrier, records_in, told_pairs, pairs_of_piece}
 
--- the reader's words for a form, and the plan's
-pub same_form : (recording : Recording) → form_read recording ≡ form_planned recording
-same_form Plain = refl
-same_form Stamped = refl
-same_form M2ts = refl
-
 pub consumes_none : (left : Option (List ℕ)) → Consumes left left []
 consumes_none None = tt
 consumes_none (Some bytes) = refl
-
--- as many records as pieces
-m2ts_length : (before : Option ℕ) (pieces : List (List ℕ)) → length (m2ts_records before pieces) ≡ length pieces
-m2ts_length before [] = refl
-m2ts_length before (piece ∷ pieces) = ap suc (m2ts_length (Some (moment_behind before (m2ts_stamp piece))) pieces)
-
-pub records_length : (form : RecordingForm) (pieces : List (List ℕ)) → length (records_of form pieces) ≡ length pieces
-records_length plain pieces = length-map pieces plain_record
-records_length stamped pieces = length-map pieces stamped_record
-records_length m2ts pieces = m2ts_length None pieces
-
-pub records_none : (form : RecordingForm) → records_of form [] ≡ []
-records_none plain = refl
-records_none stamped = refl
-records_none m2ts = refl
 
 -- the records of one piece more
 m2ts_next : (before : Option ℕ) (pieces : List (List ℕ)) (piece : List ℕ)
@@ -65,7 +41,7 @@ last_pairs_on None plan pieces piece =
     let told : List (ℕ × List ℕ) = told_pairs_of_records plan (records_in plan pieces) in
     ap (told_pairs_of_records plan) next.1
     ∙ pairs_more plan (records_in plan pieces) next.0
-    ∙ ap (λ (ps : List (ℕ × List ℕ)). told ++ ps) (ap₂ (λ (records : List Record) (n : ℕ). pairs_of_record plan records n) (sym next.1) (records_length plan.recording pieces))
+    ∙ ap (λ (ps : List (ℕ × List ℕ)). told ++ ps) (ap₂ (λ (records : List Record) (n : ℕ). pairs_of_record plan records n) (sym next.1) (length-records plan.recording pieces))
 last_pairs_on (Some size) plan frames frame = frame_pairs_more plan frames frame
 
 pub last_pairs : (plan : PlanFields) (pieces : List (List ℕ)) (piece : List ℕ)
@@ -75,8 +51,3 @@ last_pairs plan pieces piece = last_pairs_on plan.frame_bytes plan pieces piece
 -- the bytes of fewer than 2^32 pieces
 pub below_product : (size pieces behind : ℕ) → pieces < 2 ^ 32 → behind < size → size * pieces + behind < size * 2 ^ 32
 below_product size pieces behind few short = subst (λ (m : ℕ). m + behind < size * 2 ^ 32) (mul_comm pieces size) (mul-add-lt pieces size behind (2 ^ 32) few short)
-
-pub some_size : (form : RecordingForm) → 0 < record_size form
-some_size plain = omega arith
-some_size stamped = omega arith
-some_size m2ts = omega arith

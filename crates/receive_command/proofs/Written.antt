@@ -1,19 +1,19 @@
 -- One reading of a recording of either carrier into files: what a receiver took and an outlet was given, in the words of the pieces and of the rack.
-use Rattle.std.proofs.Common.{◌≡◌, ◌⊎◌, inl, inr, ℕ, ◌+◌, ◌*◌, ◌<◌, ◌≤◌, Bool, true, false, List, [], ◌∷◌, ◌++◌, length, take, refl, ap, ap₂, sym, ◌∙◌, subst, arith, Option, None, Some, All, Result, Ok, Err, OnOk, OnErr, append_assoc}
+use Rattle.std.proofs.Common.{◌≡◌, ◌⊎◌, inl, inr, ℕ, ◌+◌, ◌*◌, ◌<◌, true, false, List, [], ◌∷◌, ◌++◌, length, refl, ap, ap₂, sym, ◌∙◌, subst, arith, Option, None, Some, All, Result, Ok, Err, OnOk, OnErr}
 use Rattle.std.specs.Bool.{⊤}
 use Rattle.std.specs.Option.{unwrap_or}
-use Rattle.std.proofs.lemmas.List.{append-nil, length_push}
-use Rattle.wire_spec.specs.Causes.{Rose, raised}
-use Rattle.ts_spec.specs.Recording.{Record, RecordingForm, plain, record_size, records_of}
+use Rattle.std.proofs.lemmas.List.{append-nil, length_push, same_from_push}
+use Rattle.wire_spec.specs.Causes.{raised}
+use Rattle.ts_spec.specs.Recording.{Record, RecordingForm, record_size, records_of}
 use Rattle.ipe_io.specs.Told.{InputTold, RackTold}
 use Rattle.plan_spec.specs.Plan.{PlanFields, is_baseband}
 use Rattle.carrier_spec.specs.Stream.{piece_size}
 use Rattle.reception_spec.specs.Delivered.{told_pairs as told_pairs_of_records, pairs_of_record, pairs_of_end as pairs_behind_records}
 use Rattle.bb_reception_spec.specs.Delivered.{delivered_pairs as pairs_of_frames, pairs_of_frame}
 use Rattle.recording_spec.specs.Pieces.{by_carrier, records_in, told_pairs, pairs_of_end}
-use Rattle.pcap_file.specs.Capture.{capture_record}
 use Rattle.outlet_spec.specs.Pairs.{Delivers, DeliversFront}
-use Rattle.bb_demux.specs.Taking.{frames_in, TookFrames, StoppedInFrame}
+use Rattle.outlet_spec.proofs.Pairs.{delivers_then}
+use Rattle.bb_demux.specs.Taking.{TookFrames, StoppedInFrame}
 use Rattle.demux_core.specs.Taking.{TookRecords, StoppedInRecord}
 use Rattle.demux_core.specs.Carriers.{plan_of, HasReceivedPackets, HasReceivedFrames}
 use Rattle.demux_core.specs.Carried.{Took, Stopped as StoppedOn}
@@ -22,25 +22,22 @@ use Rattle.demux_core.specs.declared.receiver.ByCarrier.TheVariants.{Packets, Fr
 use Rattle.recording_reader.specs.declared.fault.ReadFault.{ReadFault}
 use Rattle.recording_reader.specs.declared.fault.ReadFault.TheVariants as fault
 use Rattle.recording_reader.specs.Reading.{Reads}
+use Rattle.recording_reader.proofs.Next.{records_none}
+use Rattle.carriage_law.proofs.Late.{length-records}
+use Rattle.gse_law.proofs.Records.{frames_of_records}
 use Rattle.receive_command.specs.declared.outlet.Progress.{Progress}
-use Rattle.receive_command.specs.declared.outlet.Progress.TheVariants.{Whole, Stopped, Passed}
-use Rattle.receive_command.specs.Growth.{Grow, records_at, records_and}
+use Rattle.receive_command.specs.declared.outlet.Progress.TheVariants.{Whole, Stopped}
 use Rattle.receive_command.specs.Outlets.{RackSeen, StandsFor, Refuses, failures}
 use Rattle.receive_command.specs.Reading.{HasRead}
 use Rattle.receive_command.specs.Writing.{IsGivenOn, IsGiven, IsFormOn, IsFormOf, StopsInLast, StopsBehind, WriteEnds, WritesPieces}
-use Rattle.receive_command.proofs.Pieces.{records_length, records_none, records_next}
+use Rattle.receive_command.proofs.Counted.{plan_of_frames}
+use Rattle.receive_command.proofs.Pieces.{records_next}
 use Rattle.receive_command.proofs.Outlets.{seen, BeginsWith, WritesAll, writes_all, PartOf, part_of}
 
 -- Lists by their last element.
 
 pub init_same : {A : Type 0} (xs ys : List A) (x y : A) → xs ++ x ∷ [] ≡ ys ++ y ∷ [] → xs ≡ ys
-init_same [] [] x y e = refl
-init_same [] (b ∷ ys) x y e = absurd (omega (arith, ap length e, length_push ys y))
-init_same (a ∷ xs) [] x y e = absurd (omega (arith, ap length e, length_push xs x))
-init_same (a ∷ xs) (b ∷ ys) x y e =
-    let heads : a ≡ b = cc in
-    let tails : xs ++ x ∷ [] ≡ ys ++ y ∷ [] = cc in
-    ap₂ (λ h t. h ∷ t) heads (init_same xs ys x y tails)
+init_same xs ys x y e = (same_from_push xs ys x y e).0
 
 pub by_last : {A : Type 0} (xs : List A) → (xs ≡ []) ⊎ ((ys : List A) × (y : A) × (xs ≡ ys ++ y ∷ []))
 by_last [] = inl refl
@@ -48,10 +45,6 @@ by_last (x ∷ xs) = elim (by_last xs) [
   | inl none ↦ inr ([], x, ap (λ l. x ∷ l) none)
   | inr more ↦ inr (x ∷ more.0, more.1, ap (λ l. x ∷ l) more.2)
 ]
-
-frames_are : (frames : List (List ℕ)) → frames_in (records_of plain frames) ≡ frames
-frames_are [] = refl
-frames_are (f ∷ frames) = ap (λ l. f ∷ l) (frames_are frames)
 
 -- The words of pieces, on a carrier.
 
@@ -88,8 +81,8 @@ taken_on (Some bytes) plan (Frames start) (Packets now) old new faults now_fault
 taken_on (Some bytes) plan (Frames start) (Frames now) old new faults now_faults form size pieces fresh fits took =
     let all = subst (λ (f : RecordingForm). TookFrames start now old new faults now_faults (records_of f pieces)) fits.0 took plan fresh in
     record {
-      given = subst (λ (fs : List (List ℕ)). IsGivenOn (Some bytes) false plan fs (Frames now)) (frames_are pieces) all.received;
-      delivers = subst (λ (fs : List (List ℕ)). Delivers old new (told_on (Some bytes) plan fs)) (frames_are pieces) all.delivers;
+      given = subst (λ (fs : List (List ℕ)). IsGivenOn (Some bytes) false plan fs (Frames now)) (frames_of_records pieces) all.received;
+      delivers = subst (λ (fs : List (List ℕ)). Delivers old new (told_on (Some bytes) plan fs)) (frames_of_records pieces) all.delivers;
       kept = all.outlet_faults;
     }
 
@@ -125,7 +118,7 @@ stopped_on None plan (Packets start) (Packets now) old new refused faults now_fa
             service = all.stops.service;
             datagram = all.stops.datagram;
             rest = all.stops.behind;
-            pairs = ap₂ (λ (records : List Record) (n : ℕ). pairs_of_record plan records n) are (sym (records_length plan.recording more.0) ∙ ap length inits) ∙ all.gives;
+            pairs = ap₂ (λ (records : List Record) (n : ℕ). pairs_of_record plan records n) are (sym (length-records plan.recording more.0) ∙ ap length inits) ∙ all.gives;
             delivers = subst (λ (pairs : List (ℕ × List ℕ)). Delivers old new pairs)
                 (all.late ∙ ap (λ (records : List Record). told_pairs_of_records plan records ++ all.front) (sym inits)) all.stops.delivers;
             refuses = all.stops.refuses;
@@ -140,7 +133,7 @@ stopped_on (Some bytes) plan (Frames start) (Frames now) old new refused faults 
     record {
       pieces = all.before;
       piece = all.last;
-      all_are = sym (frames_are pieces) ∙ all.frames_are;
+      all_are = sym (frames_of_records pieces) ∙ all.frames_are;
       front = all.front;
       service = all.stops.service;
       datagram = all.stops.datagram;
@@ -159,15 +152,9 @@ pub record EndedOn {E : Type 0} (result : Result ⊤ E) (carrier : Option ℕ) (
   pub part : OnErr result (DeliversFront old new refused (of_end_on carrier plan pieces))
 
 -- an outlet that is as it was
-pub delivers_nothing : (began : RackSeen) (first now_first : ℕ) (rack now_rack : RackTold) (progress now_progress : Progress) (borrow now_borrow : ℕ)
-    → now_first ≡ first → now_rack ≡ rack → now_progress ≡ progress → now_borrow ≡ borrow
-    → Delivers (StandsFor began (seen first rack) progress borrow) (StandsFor began (seen now_first now_rack) now_progress now_borrow) []
-delivers_nothing began first now_first rack now_rack progress now_progress borrow now_borrow firsts racks progresses borrows = λ before stands.
-    subst (StandsFor began (seen now_first now_rack) now_progress now_borrow) (sym (append-nil before))
-    (subst (λ (n : ℕ). StandsFor began (seen now_first now_rack) now_progress n before) (sym borrows)
-    (subst (λ (p : Progress). StandsFor began (seen now_first now_rack) p borrow before) (sym progresses)
-    (subst (λ (r : RackTold). StandsFor began (seen now_first r) progress borrow before) (sym racks)
-    (subst (λ (n : ℕ). StandsFor began (seen n rack) progress borrow before) (sym firsts) stands))))
+module _ {T : Type 0} (Stands : T → List (ℕ × List ℕ) → Type 0) (old new : T) (same : new ≡ old) where
+  pub delivers_nothing : Delivers (Stands old) (Stands new) []
+  delivers_nothing = λ before stands. subst (λ (o : T). Stands o (before ++ [])) (sym same) (subst (Stands old) (sym (append-nil before)) stands)
 
 module _ {E : Type 0} (Mid New : List (ℕ × List ℕ) → Type 0) (refused : ℕ → List ℕ → Type 0) (result : Result ⊤ E) (start now : ByCarrier)
     (packets : (plan : PlanFields) (records : List Record) → HasReceivedPackets false plan records start → HasReceivedPackets true plan records now)
@@ -176,16 +163,12 @@ module _ {E : Type 0} (Mid New : List (ℕ × List ℕ) → Type 0) (refused : �
     (frames : (plan : PlanFields) (given : List (List ℕ)) → HasReceivedFrames plan given start → HasReceivedFrames plan given now)
     (done : is_baseband (plan_of start) ≡ true → result ≡ Ok tt)
     (unchanged : is_baseband (plan_of start) ≡ true → Delivers Mid New []) where
-  is_of_frames : (start : ByCarrier) (plan : PlanFields) (given : List (List ℕ)) → HasReceivedFrames plan given start → plan_of start ≡ plan
-  is_of_frames (Packets start) plan given has = absurd has
-  is_of_frames (Frames start) plan given has = has.plan_is
-
   pub ended_on : (carrier : Option ℕ) (plan : PlanFields) (form : RecordingForm) (size : ℕ) (pieces : List (List ℕ)) → IsFormOn carrier plan form size → IsGivenOn carrier false plan pieces start
       → EndedOn result carrier plan now Mid New refused pieces
   ended_on None plan form size pieces fits given =
       record { given = packets plan (records_in plan pieces) given; all = written plan (records_in plan pieces) given; part = failed plan (records_in plan pieces) given }
   ended_on (Some bytes) plan form size pieces fits given =
-      let baseband : is_baseband (plan_of start) ≡ true = ap is_baseband (is_of_frames start plan pieces given) ∙ fits.2 in
+      let baseband : is_baseband (plan_of start) ≡ true = ap is_baseband (plan_of_frames start plan pieces given) ∙ fits.2 in
       record {
         given = frames plan pieces given;
         all = subst (λ (r : Result ⊤ E). OnOk r (Delivers Mid New [])) (sym (done baseband)) (unchanged baseband);
@@ -198,20 +181,17 @@ size_on : (carrier : Option ℕ) (plan : PlanFields) (form : RecordingForm) (siz
 size_on None plan form size fits = fits.1
 size_on (Some bytes) plan form size fits = fits.1
 
-size_is : (plan : PlanFields) (form : RecordingForm) (size : ℕ) → IsFormOf plan form size → size ≡ piece_size plan
-size_is plan form size fits = size_on plan.frame_bytes plan form size fits
-
 module _ (plan : PlanFields) (form : RecordingForm) (size : ℕ) (fits : IsFormOf plan form size) (result : Result ℕ ReadFault) (input now : InputTold)
     (Took Stopped : List Record → Type 0) (reads : Reads result form size input now Took Stopped) where
   pub read_on : HasRead (piece_size plan) input.left now.left reads.pieces reads.behind
   read_on = record {
-    each = subst (λ (n : ℕ). All (λ piece. length piece ≡ n) reads.pieces) (size_is plan form size fits) reads.each;
-    short = subst (λ (n : ℕ). length reads.behind < n) (size_is plan form size fits) reads.short;
+    each = subst (λ (n : ℕ). All (λ piece. length piece ≡ n) reads.pieces) (size_on plan.frame_bytes plan form size fits) reads.each;
+    short = subst (λ (n : ℕ). length reads.behind < n) (size_on plan.frame_bytes plan form size fits) reads.short;
     consumed = reads.consumed;
   }
 
   pub taken_of : now.taken ≡ raised input.taken (piece_size plan * length reads.pieces + length reads.behind)
-  taken_of = subst (λ (n : ℕ). now.taken ≡ raised input.taken (n * length reads.pieces + length reads.behind)) (size_is plan form size fits) reads.taken
+  taken_of = subst (λ (n : ℕ). now.taken ≡ raised input.taken (n * length reads.pieces + length reads.behind)) (size_on plan.frame_bytes plan form size fits) reads.taken
 
 module _ (plan : PlanFields) (first : ℕ) (input now : InputTold) (rack had now_rack : RackTold) (began : RackSeen) (now_first : ℕ) (progress : Progress)
     (borrow now_borrow : ℕ) (form : RecordingForm) (size : ℕ) (start mid : ByCarrier) (place : began.first ≡ first) (same : BeginsWith began rack)
@@ -225,11 +205,23 @@ module _ (plan : PlanFields) (first : ℕ) (input now : InputTold) (rack had now
   abbrev Refused : ℕ → List ℕ → Type 0
   Refused = Refuses began (seen now_first had) progress
 
-  all_written : (pairs : List (ℕ × List ℕ)) → failures progress ≡ 0 → Delivers Old New pairs → WritesAll first rack now_rack pairs
-  all_written pairs none delivers = writes_all began first now_first rack had now_rack progress borrow now_borrow pairs none place same delivers is
+  taken_all : (pieces : List (List ℕ)) → Took start mid Old New 0 (failures progress) (records_of form pieces) → WritesAll first rack now_rack (told_pairs plan pieces)
+  taken_all pieces took =
+      let all = taken_on plan.frame_bytes plan start mid Old New 0 (failures progress) form size pieces fresh fits took in
+      writes_all began first now_first rack had now_rack progress borrow now_borrow (told_pairs plan pieces) all.kept place same all.delivers is
 
   part_written : (front : List (ℕ × List ℕ)) (service : ℕ) (datagram : List ℕ) → Delivers Old New front → Refused service datagram → PartOf first rack now_rack front service datagram
   part_written front service datagram delivers refuses = part_of began first now_first rack had now_rack progress borrow now_borrow front service datagram place same delivers refuses is
+
+  wrote : {result : Result ℕ ReadFault} {All Part : List Record → Type 0} (after : Result ℕ ReadFault) (receiver : ByCarrier) (reads : Reads result form size input now All Part)
+      → WriteEnds after plan first input now rack now_rack receiver reads.pieces reads.behind → WritesPieces after plan first input now rack now_rack receiver
+  wrote after receiver reads ends = record {
+    pieces = reads.pieces;
+    behind = reads.behind;
+    read = read_on plan form size fits _ input now _ _ reads;
+    taken = taken_of plan form size fits _ input now _ _ reads;
+    ends = ends;
+  }
 
   -- the reading stopped
   pub wrote_front : (e : ReadFault)
@@ -237,108 +229,59 @@ module _ (plan : PlanFields) (first : ℕ) (input now : InputTold) (rack had now
       (λ records. StoppedOn start mid Old New Refused 0 (failures progress) records)
       → WritesPieces (Err e) plan first input now rack now_rack mid
   wrote_front fault.Source reads =
-      let took = taken_on plan.frame_bytes plan start mid Old New 0 (failures progress) form size reads.pieces fresh fits reads.ends.3 in
-      let all = all_written (told_pairs plan reads.pieces) took.kept took.delivers in
-      record {
-        pieces = reads.pieces;
-        behind = reads.behind;
-        read = read_on plan form size fits _ input now _ _ reads;
-        taken = taken_of plan form size fits _ input now _ _ reads;
-        ends = (reads.ends.0, reads.ends.1, reads.ends.2, all.kept, all.files);
-      }
+      let all = taken_all reads.pieces reads.ends.3 in
+      wrote (Err fault.Source) mid reads (reads.ends.0, reads.ends.1, reads.ends.2, all.kept, all.files)
   wrote_front fault.TooLong reads =
-      let took = taken_on plan.frame_bytes plan start mid Old New 0 (failures progress) form size reads.pieces fresh fits reads.ends.3 in
-      let all = all_written (told_pairs plan reads.pieces) took.kept took.delivers in
-      record {
-        pieces = reads.pieces;
-        behind = reads.behind;
-        read = read_on plan form size fits _ input now _ _ reads;
-        taken = taken_of plan form size fits _ input now _ _ reads;
-        ends = (reads.ends.0, reads.ends.1, reads.ends.2, all.kept, all.files);
-      }
+      let all = taken_all reads.pieces reads.ends.3 in
+      wrote (Err fault.TooLong) mid reads (reads.ends.0, reads.ends.1, reads.ends.2, all.kept, all.files)
   wrote_front fault.Taker reads =
       let stop = stopped_on plan.frame_bytes plan start mid Old New Refused 0 (failures progress) form size reads.pieces fresh fits reads.ends.3 in
       let part = part_written (told_pairs plan stop.pieces ++ stop.front) stop.service stop.datagram stop.delivers stop.refuses in
-      record {
-        pieces = reads.pieces;
-        behind = reads.behind;
-        read = read_on plan form size fits _ input now _ _ reads;
-        taken = taken_of plan form size fits _ input now _ _ reads;
-        ends = (
-          reads.ends.2,
-          part.rose,
-          inl (
-            reads.ends.0,
-            reads.ends.1,
-            record {
-              pieces = stop.pieces;
-              piece = stop.piece;
-              all_are = stop.all_are;
-              front = stop.front;
-              service = stop.service;
-              datagram = stop.datagram;
-              rest = stop.rest;
-              pairs = stop.pairs;
-              count = part.count;
-              less = part.less;
-              files = part.files;
-            },
-          ),
-        );
-      }
+      let stops : StopsInLast plan first rack.files now_rack.files reads.pieces = record {
+        pieces = stop.pieces;
+        piece = stop.piece;
+        all_are = stop.all_are;
+        front = stop.front;
+        service = stop.service;
+        datagram = stop.datagram;
+        rest = stop.rest;
+        pairs = stop.pairs;
+        count = part.count;
+        less = part.less;
+        files = part.files;
+      } in wrote (Err fault.Taker) mid reads (reads.ends.2, part.rose, inl (reads.ends.0, reads.ends.1, stops))
 
-  -- the reading came to the end, which gave what it gives, or stopped in it. The outlet between stands for what the pieces tell.
+  -- The reading came to the end, which gave what it gives, or stopped in it. The outlet between stands for what the pieces tell, and by that
+  -- what the end does is known.
   module _ (Mid : List (ℕ × List ℕ) → Type 0) (mid_faults tail : ℕ) (ended : ByCarrier) (Stops : List Record → Type 0)
       (reads : Reads (Ok tail) form size input now (λ records. Took start mid Old Mid 0 mid_faults records) Stops) where
+    abbrev Ends : {E : Type 0} → Result ⊤ E → Type 0
+    Ends result = IsGiven false plan reads.pieces mid → EndedOn result plan.frame_bytes plan ended Mid New Refused reads.pieces
+
     took_all : TakenOn plan.frame_bytes plan mid Old Mid 0 mid_faults reads.pieces
     took_all = taken_on plan.frame_bytes plan start mid Old Mid 0 mid_faults form size reads.pieces fresh fits reads.ends.5
 
-    pub given_all : IsGiven false plan reads.pieces mid
-    given_all = took_all.given
-
-    pub wrote_whole : {E : Type 0} (x : ⊤) → failures progress ≡ mid_faults → EndedOn {E = E} (Ok x) plan.frame_bytes plan ended Mid New Refused reads.pieces
-        → WritesPieces (Ok tail) plan first input now rack now_rack ended
-    wrote_whole x none end =
+    pub wrote_whole : {E : Type 0} (x : ⊤) → failures progress ≡ mid_faults → Ends {E = E} (Ok x) → WritesPieces (Ok tail) plan first input now rack now_rack ended
+    wrote_whole x none ends =
         let told : List (ℕ × List ℕ) = told_pairs plan reads.pieces in
         let last : List (ℕ × List ℕ) = pairs_of_end plan reads.pieces in
-        let all = all_written (told ++ last) (none ∙ took_all.kept)
-        (λ before stands. subst New (append_assoc before told last) (end.all (before ++ told) (took_all.delivers before stands))) in
-        record {
-          pieces = reads.pieces;
-          behind = reads.behind;
-          read = read_on plan form size fits _ input now _ _ reads;
-          taken = taken_of plan form size fits _ input now _ _ reads;
-          ends = (reads.ends.0, reads.ends.1, reads.ends.2, reads.ends.3, reads.ends.4, all.kept, all.count, all.files, end.given);
-        }
+        let end = ends took_all.given in
+        let all = writes_all began first now_first rack had now_rack progress borrow now_borrow (told ++ last) (none ∙ took_all.kept) place same
+        (delivers_then Old Mid New told last took_all.delivers end.all) is in
+        wrote (Ok tail) ended reads (reads.ends.0, reads.ends.1, reads.ends.2, reads.ends.3, reads.ends.4, all.kept, all.count, all.files, end.given)
 
-    pub wrote_behind : {E : Type 0} (e : E) → EndedOn (Err e) plan.frame_bytes plan ended Mid New Refused reads.pieces
-        → WritesPieces (Err fault.Taker) plan first input now rack now_rack ended
-    wrote_behind e end =
+    pub wrote_behind : {E : Type 0} (e : E) → Ends (Err e) → WritesPieces (Err fault.Taker) plan first input now rack now_rack ended
+    wrote_behind e ends =
         let told : List (ℕ × List ℕ) = told_pairs plan reads.pieces in
-        let stop = end.part in
-        let part = part_written (told ++ stop.front) stop.service stop.datagram
-        (λ before stands. subst New (append_assoc before told stop.front) (stop.delivers (before ++ told) (took_all.delivers before stands))) stop.refuses in
-        record {
-          pieces = reads.pieces;
-          behind = reads.behind;
-          read = read_on plan form size fits _ input now _ _ reads;
-          taken = taken_of plan form size fits _ input now _ _ reads;
-          ends = (
-            reads.ends.4,
-            part.rose,
-            inr (
-              reads.ends.1,
-              reads.ends.2,
-              record {
-                front = stop.front;
-                service = stop.service;
-                datagram = stop.datagram;
-                rest = stop.behind;
-                pairs = stop.pairs_are;
-                count = part.count;
-                less = part.less;
-                files = part.files;
-              },
-            ),
-          );
-        }
+        let stop = (ends took_all.given).part in
+        let part = part_written (told ++ stop.front) stop.service stop.datagram (delivers_then Old Mid New told stop.front took_all.delivers stop.delivers) stop.refuses in
+        let stops : StopsBehind plan first rack.files now_rack.files reads.pieces = record {
+          front = stop.front;
+          service = stop.service;
+          datagram = stop.datagram;
+          rest = stop.behind;
+          pairs = stop.pairs_are;
+          count = part.count;
+          less = part.less;
+          files = part.files;
+        } in wrote (Err fault.Taker) ended reads (reads.ends.4, part.rose, inr (reads.ends.1, reads.ends.2, stops))

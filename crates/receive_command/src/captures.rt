@@ -1,5 +1,5 @@
 //! A recording of either carrier -> a capture for each service: files added, written with what the end gives, flushed.
-ghost use Rattle.std.specs.Prelude.{◌≡◌, ◌<◌, ◌≤◌, false, [], length};
+ghost use Rattle.std.specs.Prelude.{◌≡◌, false, [], length};
 ghost use Rattle.plan.specs.PlanView.{plan_fields};
 ghost use Rattle.demux_core.specs.Carriers.{stream_of};
 ghost use Rattle.demux_core.specs.Carried.{IsReady};
@@ -31,8 +31,6 @@ pub(crate) fn write_captures<I: Source, R: Rack, A: Allocator>(
     requires uncounted { count_in pieces.old ≡ 0 }
     requires ready { IsReady receiver.old (length plan.now.services) (content_in pieces.old) }
     requires room { (stream_of receiver.old).records ≡ 0 }
-    requires some { 0 < length plan.now.services }
-    requires few { length plan.now.services ≤ 64 }
     requires fresh { IsGiven false (plan_fields plan.now) [] receiver.old }
     requires fits { IsFormOf (plan_fields plan.now) (form_in pieces.old) (size_in pieces.old) }
     ensures captures { Captures result (plan_fields plan.now) (I.told input.old) (I.told input.new) (R.told rack.old) (R.told rack.new) receiver.new (input.new ≡ input.old) }

@@ -1,11 +1,11 @@
-use Rattle.std.proofs.Common.{rules, refl, ◌≡◌, ◌+◌, ℕ, Result, Err, length, sym, ◌∙◌, subst, arith}
+use Rattle.std.proofs.Common.{rules, refl, ◌≡◌, sym, ◌∙◌, arith}
 use Rattle.std.proofs.lemmas.List.{length-map}
 use Rattle.plan_spec.specs.Plan.{PlanFields}
 use Rattle.plan.specs.Parts.{service_seen}
 use Rattle.plan.specs.PlanView.{plan_fields}
 use Rattle.receive_command.specs.Faults.{fault_of_reading, fault_of_adding}
 use Rattle.receive_command.proofs.CameUp.{comes_up}
-use Rattle.receive_command.proofs.Plans.{changes_right}
+use Rattle.receive_command.proofs.Plans.{changes_right, services_count}
 use Rattle.receive_command.proofs.Captured.{sized, heads_stopped, captured_part, captured_whole, captured_in_flush}
 use Rattle.receive_command.proofs.captures.write_captures.Goals as goal
 
@@ -28,6 +28,16 @@ returns-in_err-tail g c =
           c.in_ok-first.ensures.written.1 (c.in_ok-first.ensures.cause.kept (λ f. absurd (cc)))
           c.in_err-tail.field-0.0 c.in_err-tail.ensures.writes);
     }
+
+pub add_files-requires : goal.add_files-requires
+add_files-requires g c = record { some = omega (arith, (services_count (plan_fields c.args.plan.now) c.args.plan.now.valid).0, length-map c.args.plan.now.services service_seen) }
+
+pub overflow_cast-services : goal.overflow_cast-services
+overflow_cast-services g c =
+    omega (arith, c.len-services.ensures.read, (services_count (plan_fields c.args.plan.now) c.args.plan.now.valid).1, length-map c.args.plan.now.services service_seen)
+
+pub write_pieces-requires-clause-few : goal.write_pieces-requires-clause-few
+write_pieces-requires-clause-few g c = omega (arith, (services_count (plan_fields c.args.plan.now) c.args.plan.now.valid).1, length-map c.args.plan.now.services service_seen)
 
 pub flush_files-requires-clause-there : goal.flush_files-requires-clause-there
 flush_files-requires-clause-there g c =

@@ -19,12 +19,6 @@ write_captures-requires-clause-ready g c =
 pub write_captures-requires-clause-room : goal.write_captures-requires-clause-room
 write_captures-requires-clause-room g c = has_room (plan_fields c.args.plan.now) c.in_ok-receiver.receiver c.in_ok-receiver.ensures.packets c.in_ok-receiver.ensures.frames
 
-pub write_captures-requires-clause-some : goal.write_captures-requires-clause-some
-write_captures-requires-clause-some g c = omega (arith, (services_count (plan_fields c.args.plan.now) c.args.plan.now.valid).0, length-map c.args.plan.now.services service_seen)
-
-pub write_captures-requires-clause-few : goal.write_captures-requires-clause-few
-write_captures-requires-clause-few g c = omega (arith, (services_count (plan_fields c.args.plan.now) c.args.plan.now.valid).1, length-map c.args.plan.now.services service_seen)
-
 pub write_captures-requires-clause-fresh : goal.write_captures-requires-clause-fresh
 write_captures-requires-clause-fresh g c = is_fresh (plan_fields c.args.plan.now) c.in_ok-receiver.receiver c.in_ok-receiver.ensures.packets c.in_ok-receiver.ensures.frames
 

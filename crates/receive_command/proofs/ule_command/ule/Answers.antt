@@ -1,11 +1,10 @@
-use Rattle.std.proofs.Common.{◌≡◌, ℕ, Ok, Err, length, refl, ap, subst, arith}
+use Rattle.std.proofs.Common.{◌≡◌, Ok, Err, length, refl, ap, subst, arith}
 use Rattle.std.proofs.lemmas.List.{length-map}
 use Rattle.receive_command.proofs.CameUp.{comes_up}
 use Rattle.plan_spec.specs.Plan.{PlanFields}
 use Rattle.plan.specs.Parts.{service_seen}
 use Rattle.plan.specs.PlanView.{plan_fields}
 use Rattle.receive_command.specs.Receives.{ReceivesFiles}
-use Rattle.receive_command.proofs.Plans.{services_count}
 use Rattle.receive_command.proofs.Begun.{is_fresh, has_room, is_ready}
 use Rattle.receive_command.proofs.Received.{files_done, files_fail}
 use Rattle.receive_command.proofs.ule_command.ule.Goals as goal
@@ -18,12 +17,6 @@ write_captures-requires-clause-ready g c =
 
 pub write_captures-requires-clause-room : goal.write_captures-requires-clause-room
 write_captures-requires-clause-room g c = has_room (plan_fields c.in_ok-plan.plan) c.in_ok-receiver.receiver c.in_ok-receiver.ensures.packets c.in_ok-receiver.ensures.frames
-
-pub write_captures-requires-clause-some : goal.write_captures-requires-clause-some
-write_captures-requires-clause-some g c = omega (arith, (services_count (plan_fields c.in_ok-plan.plan) c.in_ok-plan.plan.valid).0, length-map c.in_ok-plan.plan.services service_seen)
-
-pub write_captures-requires-clause-few : goal.write_captures-requires-clause-few
-write_captures-requires-clause-few g c = omega (arith, (services_count (plan_fields c.in_ok-plan.plan) c.in_ok-plan.plan.valid).1, length-map c.in_ok-plan.plan.services service_seen)
 
 pub write_captures-requires-clause-fresh : goal.write_captures-requires-clause-fresh
 write_captures-requires-clause-fresh g c = is_fresh (plan_fields c.in_ok-plan.plan) c.in_ok-receiver.receiver c.in_ok-receiver.ensures.packets c.in_ok-receiver.ensures.frames
