@@ -1,7 +1,6 @@
 -- What the commands ensure, from their captures and from what became of the report.
 use Rattle.std.proofs.Common.{◌≡◌, inl, inr, true, ℕ, ◌<◌, List, length, refl, ap, subst, Result, Ok, Err, arith}
 use Rattle.std.specs.Bool.{⊤}
-use Rattle.wire_spec.specs.Content.{Stays}
 use Rattle.ipe_io.specs.Told.{InputTold, RackTold, OutputTold}
 use Rattle.plan_spec.specs.Plan.{PlanFields}
 use Rattle.demux_core.specs.declared.receiver.ByCarrier.{ByCarrier}
