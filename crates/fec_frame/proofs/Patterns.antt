@@ -1,5 +1,5 @@
 -- The columns that a row lacks, and runs of rows that lack the same.
-use Rattle.std.proofs.Common.{◌≡◌, ℕ, zero, suc, ◌+◌, ◌*◌, ◌<◌, Bool, true, false, not, ◌||◌, cond, leb, List, [], ◌∷◌, ◌++◌, length, get_or, map, filter, Option, Some, None, refl, ap, ap₂, sym, ◌∙◌, arith}
+use Rattle.std.proofs.Common.{◌≡◌, ℕ, zero, suc, ◌+◌, ◌-◌, ◌*◌, ◌<◌, Bool, true, false, not, ◌||◌, cond, leb, List, [], ◌∷◌, ◌++◌, length, length-drop, get_or, get_or-drop, drop, map, filter, Option, Some, None, refl, ap, ap₂, sym, subst, ◌∙◌, arith}
 use Rattle.std.specs.Prelude.{is_none}
 use Rattle.std.specs.List.{range_with_len, list_any, All}
 use Rattle.std.specs.List.Sorted.{IsStrictlyIncreasing}
@@ -126,3 +126,9 @@ columns_same rows f r s same =
     filter_range (λ (j : ℕ). is_none (f (j * rows + r))) (λ (j : ℕ). is_none (f (j * rows + s))) 255 0
     (λ i low. let e : 0 + i ≡ i = omega arith in
     ap (λ (j : ℕ). is_none (f (j * rows + r))) e ∙ same i low ∙ ap (λ (j : ℕ). is_none (f (j * rows + s))) (sym e))
+
+-- so are those from a place on
+pub low_behind : (n a : ℕ) (xs : List ℕ) → All (λ (p : ℕ). p < n) xs → All (λ (p : ℕ). p < n) (drop a xs)
+low_behind n a xs low = λ i d lt.
+    let l : length (drop a xs) ≡ length xs - a = length-drop a xs in
+    subst (λ (t : ℕ). t < n) (sym (get_or-drop a xs i d)) (low (a + i) d (omega arith))

@@ -6,11 +6,12 @@ use Rattle.std.proofs.lemmas.Bool.{cases_eq, cases_lt, eqb-true, eq-eqb}
 use Rattle.std.proofs.lemmas.Nat.{mul-add-lt, same_from_place}
 use Rattle.std.proofs.Math.Nat.{mul_comm}
 use Rattle.std.proofs.lemmas.List.{get_or-set_same, get_or-set_other}
-use Rattle.fec_spec.specs.Row.{Agrees, IsCorrectable, IsCorrected}
+use Rattle.fec_spec.specs.Row.{Agrees, IsCorrectable, is_among}
 use Rattle.fec_spec.specs.Table.{table_row}
 use Rattle.erasure_law.proofs.Tables.{get_or-table_row}
 use Rattle.frame_spec.specs.Corrected.{unknown_columns, corrected_row, byte_of_row, corrected_byte, lacks_data}
 use Rattle.frame_law.proofs.Corrected.{corrected_none, row_done, row_left, row_has_data, byte_at}
+use Rattle.rs_erasure.specs.Correction.{IsCorrectedBut}
 use Rattle.fec_frame.specs.Marks.{is_known_mark, is_start_mark, marked_byte}
 use Rattle.fec_frame.specs.Runs.{unmarked, IsPattern, is_good, IsMarked, IsColumnMarked, is_mended, is_left, AreRowsSolved}
 use Rattle.fec_frame.proofs.Patterns.{unmarked_is, row_same, lacks_same, columns_same, none_range, some_range}
@@ -57,6 +58,23 @@ column_more rows column from to bad old marks mark order low below known start s
     by_row r from_r low_r (inr apart) =
         ap is_known_mark (get_or-set_other marks (column * rows + to) (column * rows + r) mark 0 (λ same. apart (same_from_place column r column to rows (omega (arith, low_r, low)) low same).1))
         ∙ so_far.here r from_r (omega (arith, low_r, apart))
+
+-- a column that is known in all rows
+pub column_known : (rows column from to : ℕ) (bad marks : List ℕ) → ((r : ℕ) → from ≤ r → r < to → is_known_mark (get_or marks (column * rows + r) 0) ≡ true)
+    → IsColumnMarked rows column from to bad marks marks
+column_known rows column from to bad marks known = record {
+  long = refl;
+  start = λ place. refl;
+  here = λ r from_r low_r. known r from_r low_r ∙ sym (ap (λ (b : Bool). b || is_good bad r) (known r from_r low_r));
+  elsewhere = λ j r low out. refl;
+}
+
+-- the rows of a run are known alike in a column that is not marked yet
+pub marked_same : (rows n from to : ℕ) (bad old marks : List ℕ) → from < to → to ≤ rows → n < 255 → IsPattern rows old 255 from to → IsMarked rows n from to bad old marks
+    → (r : ℕ) → from ≤ r → r < to → is_known_mark (get_or marks (n * rows + r) 0) ≡ is_known_mark (get_or marks (n * rows + from) 0)
+marked_same rows n from to bad old marks order within low pattern so_far r from_r low_r =
+    so_far.outside n r (omega (arith, low_r, within)) (inl (omega arith)) ∙ pattern.same n r low from_r low_r
+    ∙ sym (so_far.outside n from (omega (arith, order, within)) (inl (omega arith)))
 
 -- Columns, one after another.
 
@@ -220,8 +238,8 @@ module _ (rows : ℕ) (bytes marks : List ℕ) (from to : ℕ) (order : from ≤
             corrected_none rows f r (λ code is. omega (arith, is.few, many, ap (λ (l : List ℕ). length l) (run_columns r from_r low_r)))
 
     -- the decoder corrected the good rows
-    module _ (new new_marks bad unknown : List ℕ) (unknown_is : unknown ≡ unmarked rows marks from 255) (long : length new ≡ length bytes)
-        (corrected : (r : ℕ) → from ≤ r → r < to → IsCorrected unknown (table_row 255 rows bytes r) (table_row 255 rows new r))
+    module _ (new new_marks bad unknown others : List ℕ) (unknown_is : unknown ≡ unmarked rows marks from 255) (apart : (j : ℕ) → j < 191 → is_among j others ≡ false) (long : length new ≡ length bytes)
+        (corrected : (r : ℕ) → from ≤ r → r < to → IsCorrectedBut others unknown (table_row 255 rows bytes r) (table_row 255 rows new r))
         (consistent : (r : ℕ) → from ≤ r → r < to → (get_or bad r 0 ≡ 0) ↔ IsCorrectable unknown (table_row 255 rows bytes r))
         (outside : (r : ℕ) → r < rows → (r < from) ⊎ (to ≤ r) → table_row 255 rows new r ≡ table_row 255 rows bytes r)
         (marked : IsMarked rows 191 from to bad marks new_marks) where
@@ -239,23 +257,21 @@ module _ (rows : ℕ) (bytes marks : List ℕ) (from to : ℕ) (order : from ≤
       good_row : (r : ℕ) → from ≤ r → r < to → get_or bad r 0 ≡ 0 → IsRowDone r
       good_row r from_r low_r good = by_corrected (corrected r from_r low_r)
         where
-          code : List ℕ
-          code = table_row 255 rows new r
-
-          by_corrected : IsCorrected unknown (table_row 255 rows bytes r) (table_row 255 rows new r) → IsRowDone r
+          by_corrected : IsCorrectedBut others unknown (table_row 255 rows bytes r) (table_row 255 rows new r) → IsRowDone r
           by_corrected (inr left) = absurd (left.0 ((consistent r from_r low_r).0 good))
           by_corrected (inl done) =
               let same = columns r from_r low_r in
-              let is : corrected_row rows f r ≡ Some (table_row 255 rows new r) =
-              row_done rows f r (table_row 255 rows bytes r) (holds r) (table_row 255 rows new r)
-              (subst (λ (l : List ℕ). length l ≤ 64) same done.0) done.1 (subst (λ (l : List ℕ). Agrees l (table_row 255 rows bytes r) (table_row 255 rows new r)) same done.2) in
+              let code : List ℕ = done.1.0 in
+              let is : corrected_row rows f r ≡ Some code =
+              row_done rows f r (table_row 255 rows bytes r) (holds r) code
+              (subst (λ (l : List ℕ). length l ≤ 64) same done.0) done.1.1 (subst (λ (l : List ℕ). Agrees l (table_row 255 rows bytes r) code) same done.1.2) in
               record {
                 good = eq-eqb (get_or bad r 0) 0 good ∙ ap (λ (o : Option (List ℕ)). is_some o) (sym is);
                 byte = λ j low.
                     byte_by new new_marks (j * rows + r)
                     ∙ ap (λ (b : Bool). cond b (Some (get_or new (j * rows + r) 0)) None)
                     (marked.inside j r low from_r low_r ∙ ap (λ (b : Bool). is_known_mark (get_or marks (j * rows + r) 0) || b) (eq-eqb (get_or bad r 0) 0 good) ∙ or_true (is_known_mark (get_or marks (j * rows + r) 0)))
-                    ∙ ap (λ (n : ℕ). Some n) (sym (get_or-table_row 255 rows new r j (omega (arith, low))))
+                    ∙ ap (λ (n : ℕ). Some n) (sym (get_or-table_row 255 rows new r j (omega (arith, low))) ∙ done.1.3.known j (omega (arith, low)) (apart j low))
                     ∙ sym (byte_at rows f r j (omega (arith, low_r, within)) ∙ ap (λ (o : Option (List ℕ)). byte_of_row o j (f (j * rows + r))) is);
               }
             where
@@ -266,8 +282,8 @@ module _ (rows : ℕ) (bytes marks : List ℕ) (from to : ℕ) (order : from ≤
       bad_row : (r : ℕ) → from ≤ r → r < to → (get_or bad r 0 ≡ 0 → ⊥) → is_good bad r ≡ false → IsRowDone r
       bad_row r from_r low_r bad_is not_good = by_corrected (corrected r from_r low_r)
         where
-          by_corrected : IsCorrected unknown (table_row 255 rows bytes r) (table_row 255 rows new r) → IsRowDone r
-          by_corrected (inl done) = absurd (bad_is ((consistent r from_r low_r).1 (done.0, (table_row 255 rows new r, done.1, done.2))))
+          by_corrected : IsCorrectedBut others unknown (table_row 255 rows bytes r) (table_row 255 rows new r) → IsRowDone r
+          by_corrected (inl done) = absurd (bad_is ((consistent r from_r low_r).1 (done.0, (done.1.0, done.1.1, done.1.2))))
           by_corrected (inr left) =
               let is : corrected_row rows f r ≡ None =
               row_left rows f r (table_row 255 rows bytes r) (holds r)

@@ -8,6 +8,7 @@ mod begin;
 mod data;
 mod fill;
 mod finish;
+mod left;
 mod padding;
 mod parity;
 mod pattern;

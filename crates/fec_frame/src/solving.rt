@@ -5,12 +5,14 @@ ghost use Rattle.frame_spec.specs.Sections.{FrameSection};
 ghost use Rattle.fec_frame.specs.Marks.{is_known_mark, is_start_mark};
 ghost use Rattle.fec_frame.specs.Stands.{TellsKnown};
 ghost use Rattle.fec_frame.specs.Runs.{AreRowsSolved, IsColumnMarked, IsMarked, IsPattern, is_good};
-ghost use Rattle.rs_erasure.specs.Values.{HasValues};
+ghost use Rattle.rs_erasure.specs.Values.{HasLeft};
 
 use crate::fill::{is_known, with_known};
+use crate::left::{Left, data_columns, find_left, lacks_data, others_of};
 use crate::pattern::{pattern_end, unknown_in};
 use crate::place::{State, has_all_data};
-use rs_erasure::{decode_run_with_values, find_run_values};
+use arrayvec::ArrayVec;
+use rs_erasure::decode_run_with_values;
 
 /// Rows that lacked a byte of the application data table.
 #[derive(Clone, Copy, PartialEq, Eq)]
@@ -44,17 +46,34 @@ fn mark_column(marks: &mut [u8], rows: usize, j: usize, from: usize, to: usize, 
     }
 }
 
+/// The same where the column is unknown in the run. Where it is known nothing changes.
+fn mark_unknown(marks: &mut [u8], rows: usize, j: usize, from: usize, to: usize, bad: &[u8])
+    requires column { j < 255 }
+    requires rows_most { rows ≤ 1024 }
+    requires long { length marks.old ≡ 255 * rows }
+    requires bad_long { length bad.now ≡ rows }
+    requires order { from < to }
+    requires within { to ≤ rows }
+    requires same { (r : ℕ) → from ≤ r → r < to → is_known_mark (slice_index marks.old (j * rows + r)) ≡ is_known_mark (slice_index marks.old (j * rows + from)) }
+    ensures marked { IsColumnMarked rows j from to bad.now marks.old marks.new }
+{
+    if !is_known(marks[j * rows + from]) {
+        mark_column(marks, rows, j, from, to, bad);
+    }
+}
+
 /// Marks the good rows of a run as known in the application data table.
 fn mark_rows(marks: &mut [u8], rows: usize, from: usize, to: usize, bad: &[u8])
     requires rows_most { rows ≤ 1024 }
     requires long { length marks.old ≡ 255 * rows }
     requires bad_long { length bad.now ≡ rows }
-    requires order { from ≤ to }
+    requires order { from < to }
     requires within { to ≤ rows }
+    requires pattern { IsPattern rows marks.old 255 from to }
     ensures marked { IsMarked rows 191 from to bad.now marks.old marks.new }
 {
     for j in 0..191usize {
-        mark_column(marks, rows, j, from, to, bad);
+        mark_unknown(marks, rows, j, from, to, bad);
     }
 }
 
@@ -80,70 +99,8 @@ fn count_good(bad: &[u8], from: usize, to: usize) -> u32
     count
 }
 
-/// Answers whether a row lacks a byte of the application data table.
-fn lacks_data(marks: &[u8], rows: usize, r: usize) -> bool
-    requires row { r < rows }
-    requires rows_most { rows ≤ 1024 }
-    requires long { length marks.now ≡ 255 * rows }
-    ensures yes { result ≡ true → (j : ℕ) × (j < 191) × (is_known_mark (slice_index marks.now (j * rows + r)) ≡ false) }
-    ensures no { result ≡ false → (j : ℕ) → j < 191 → is_known_mark (slice_index marks.now (j * rows + r)) ≡ true }
-{
-    for j in 0..191usize {
-        if !is_known(marks[j * rows + r]) {
-            return true;
-        }
-    }
-    false
-}
-
-/// Answers after which row none lacks a byte of the application data table, from `to` on.
-fn lacking_end(marks: &[u8], rows: usize, to: usize) -> usize
-    requires rows_most { rows ≤ 1024 }
-    requires long { length marks.now ≡ 255 * rows }
-    requires within { to ≤ rows }
-    ensures least { to ≤ result }
-    ensures most { result ≤ rows }
-{
-    let mut end = rows;
-    while end > to && !lacks_data(marks, rows, end - 1) {
-        end -= 1;
-    }
-    end
-}
-
-/// Finds the values of the rows of a run, where they do not stand in `work` yet, and with them those of all rows after it that lack
-/// application data. Answers where the rows end, from `from` on, whose values stand there.
-fn with_values(
-    bytes: &[u8],
-    marks: &[u8],
-    work: &mut [u8],
-    rows: usize,
-    from: usize,
-    to: usize,
-    valued: usize,
-) -> usize
-    requires rows_most { rows ≤ 1024 }
-    requires bytes_long { length bytes.now ≡ 255 * rows }
-    requires marks_long { length marks.now ≡ 255 * rows }
-    requires work_long { length work.old ≡ 64 * rows }
-    requires order { from < to }
-    requires within { to ≤ rows }
-    requires valued_most { valued ≤ rows }
-    requires values { (r : ℕ) → from ≤ r → r < valued → HasValues rows bytes.now work.old r }
-    ensures least { to ≤ result }
-    ensures most { result ≤ rows }
-    ensures values { (r : ℕ) → from ≤ r → r < result → HasValues rows bytes.now work.new r }
-{
-    if to <= valued {
-        return valued;
-    }
-    let end = lacking_end(marks, rows, to);
-    find_run_values(bytes, rows, from, end, work);
-    end
-}
-
-/// Corrects the rows of a run that lack the same columns. `work` and `bad` have 64 bytes and one for each row; the values of the rows
-/// before `valued` stand in `work`, from those of the run on.
+/// Corrects the rows of a run that lack the same columns. `work` and `bad` have 64 bytes and one for each row; what `left` tells stands
+/// in `work`, from the rows of the run on.
 fn solve_run(
     bytes: &mut [u8],
     marks: &mut [u8],
@@ -152,7 +109,7 @@ fn solve_run(
     rows: usize,
     from: usize,
     to: usize,
-    valued: &mut usize,
+    left: &mut Left,
 ) -> RowCounts
     requires rows_most { rows ≤ 1024 }
     requires bytes_long { length bytes.old ≡ 255 * rows }
@@ -162,12 +119,12 @@ fn solve_run(
     requires order { from < to }
     requires within { to ≤ rows }
     requires pattern { IsPattern rows marks.old 255 from to }
-    requires valued_most { valued.old ≤ rows }
-    requires values { (r : ℕ) → from ≤ r → r < valued.old → HasValues rows bytes.old work.old r }
+    requires most { left.old.to ≤ rows }
+    requires values { (r : ℕ) → from ≤ r → r < left.old.to → HasLeft rows left.old.others.items bytes.old work.old r }
     ensures solved { AreRowsSolved rows from to bytes.old marks.old bytes.new marks.new result.mended result.left }
     ensures few { result.mended + result.left ≤ to - from }
-    ensures valued_most { valued.new ≤ rows }
-    ensures values { (r : ℕ) → to ≤ r → r < valued.new → HasValues rows bytes.new work.new r }
+    ensures most { left.new.to ≤ rows }
+    ensures values { (r : ℕ) → to ≤ r → r < left.new.to → HasLeft rows left.new.others.items bytes.new work.new r }
 {
     if !lacks_data(marks, rows, from) {
         return RowCounts { mended: 0, left: 0 };
@@ -180,8 +137,11 @@ fn solve_run(
             left: count,
         };
     }
-    *valued = with_values(bytes, marks, work, rows, from, to, *valued);
-    decode_run_with_values(bytes, rows, from, to, &unknown, work, bad);
+    let columns = unknown.as_slice();
+    let wanted = data_columns(columns);
+    let others = others_of(columns, wanted);
+    find_left(bytes, marks, work, rows, from, to, others, left);
+    decode_run_with_values(bytes, rows, from, to, &unknown, wanted, work, bad);
     mark_rows(marks, rows, from, to, bad);
     let mended = count_good(bad, from, to);
     RowCounts {
@@ -208,10 +168,13 @@ fn solve_lacking(
     let mut mended = 0u32;
     let mut left = 0u32;
     let mut from = 0;
-    let mut valued = 0;
+    let mut values = Left {
+        to: 0,
+        others: ArrayVec::new(),
+    };
     while from < rows {
         let to = pattern_end(marks, rows, from);
-        let counts = solve_run(bytes, marks, work, bad, rows, from, to, &mut valued);
+        let counts = solve_run(bytes, marks, work, bad, rows, from, to, &mut values);
         mended += counts.mended;
         left += counts.left;
         from = to;

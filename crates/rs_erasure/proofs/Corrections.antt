@@ -21,7 +21,7 @@ use Rattle.rs_erasure.proofs.Runs.{cell_fits, get_or-row}
 
 -- ---- places of a list
 
-among_of_drop : (k : ℕ) (xs : List ℕ) (j : ℕ) → is_among j (drop k xs) ≡ true → is_among j xs ≡ true
+pub among_of_drop : (k : ℕ) (xs : List ℕ) (j : ℕ) → is_among j (drop k xs) ≡ true → is_among j xs ≡ true
 among_of_drop zero xs j h = h
 among_of_drop (suc k) [] j h = h
 among_of_drop (suc k) (x ∷ xs) j h = or_right (j == x) (is_among j xs) (among_of_drop k xs j h)
@@ -65,7 +65,7 @@ product_turned : (d scale c : ℕ) → field_product (field_product scale c) d �
 product_turned d scale c = product_comm (field_product scale c) d ∙ sym (product_assoc d scale c)
 
 -- what one step does to a row and its columns
-pub record IsStep (unknown : List ℕ) (at scale : ℕ) (row new : List ℕ) (column after : ℕ → ℕ) : Type 0 where
+pub record IsStep (unknown : List ℕ) (lowest at scale : ℕ) (row new : List ℕ) (column after : ℕ → ℕ) : Type 0 where
   pub row_long : length row ≡ 255
   pub new_long : length new ≡ 255
   pub place : get_or unknown at 0 < 255
@@ -73,60 +73,61 @@ pub record IsStep (unknown : List ℕ) (at scale : ℕ) (row new : List ℕ) (co
   pub added : get_or new (get_or unknown at 0) 0 ≡ bit_xor (get_or row (get_or unknown at 0) 0) (field_product scale (column (length unknown - 1 - at)))
   pub inverse : field_product (last_differences unknown at (length unknown - 1 - at)) scale ≡ 1
   pub byte : column (length unknown - 1 - at) < 2 ^ 8
-  pub before : (j : ℕ) → j < length unknown - 1 - at → after j ≡ bit_xor (column j) (field_product (field_product (last_differences unknown at j) scale) (column (length unknown - 1 - at)))
+  pub before : (j : ℕ) → lowest ≤ j → j < length unknown - 1 - at → after j ≡ bit_xor (column j) (field_product (field_product (last_differences unknown at j) scale) (column (length unknown - 1 - at)))
   pub kept : (j : ℕ) → length unknown - 1 - at ≤ j → after j ≡ column j
 
 -- the place is among the last ones, and nothing changes
-unchanged_behind : (unknown : List ℕ) (at scale : ℕ) (row new : List ℕ) (column after : ℕ → ℕ) (k m : ℕ) → at < length unknown → k ≤ at
-    → IsStep unknown at scale row new column after
+unchanged_behind : (unknown : List ℕ) (lowest at scale : ℕ) (row new : List ℕ) (column after : ℕ → ℕ) (k m : ℕ) → at < length unknown → k ≤ at
+    → IsStep unknown lowest at scale row new column after
     → eliminated (drop k unknown) (values_of new) m ≡ eliminated (drop k unknown) (values_of row) m
-unchanged_behind unknown at scale row new column after k m lt le step =
+unchanged_behind unknown lowest at scale row new column after k m lt le step =
     sym (eliminated_agree (drop k unknown) row new m step.row_long step.new_long
     (λ j low out. step.others j low (λ e. clash (ap (λ x. is_among x (drop k unknown)) e ∙ among_drop unknown at k lt le) out)))
 
 -- what is left changes by the added byte
-changed_before : (unknown : List ℕ) (at scale : ℕ) (row new : List ℕ) (column after : ℕ → ℕ) (j : ℕ)
-    → IsStep unknown at scale row new column after
+changed_before : (unknown : List ℕ) (lowest at scale : ℕ) (row new : List ℕ) (column after : ℕ → ℕ) (j : ℕ)
+    → IsStep unknown lowest at scale row new column after
     → eliminated (drop (length unknown - j) unknown) (values_of new) 0
     ≡ bit_xor (eliminated (drop (length unknown - j) unknown) (values_of row) 0) (field_product (field_product (last_differences unknown at j) scale) (column (length unknown - 1 - at)))
-changed_before unknown at scale row new column after j step =
+changed_before unknown lowest at scale row new column after j step =
     let c : ℕ = column (length unknown - 1 - at) in
     let places : List ℕ = drop (length unknown - j) unknown in
     eliminated_changed places row new (get_or unknown at 0) (field_product scale c) step.row_long step.new_long step.place step.others step.added
     ∙ ap (λ t. bit_xor (eliminated places (values_of row) 0) t) (product_turned (last_differences unknown at j) scale c)
 
-pub place_corrected : (unknown : List ℕ) (at scale : ℕ) (row new : List ℕ) (column after : ℕ → ℕ) → at < length unknown
-    → IsStep unknown at scale row new column after → IsBeingCorrected unknown at row column → IsBeingCorrected unknown (at + 1) new after
-place_corrected unknown at scale row new column after lt step is =
+pub place_corrected : (unknown : List ℕ) (lowest at scale : ℕ) (row new : List ℕ) (column after : ℕ → ℕ) → at + lowest < length unknown
+    → IsStep unknown lowest at scale row new column after → IsBeingCorrected unknown lowest at row column → IsBeingCorrected unknown lowest (at + 1) new after
+place_corrected unknown lowest at scale row new column after lt step is =
     let u : ℕ = length unknown in
     let n : ℕ = u - 1 - at in
     let c : ℕ = column n in
+    let within : at < length unknown = omega arith in
     record {
-      to_do = λ j low.
-          step.before j (omega arith)
-          ∙ ap (λ t. bit_xor t (field_product (field_product (last_differences unknown at j) scale) c)) (is.to_do j (omega arith))
-          ∙ sym (changed_before unknown at scale row new column after j step);
+      to_do = λ j from low.
+          step.before j from (omega arith)
+          ∙ ap (λ t. bit_xor t (field_product (field_product (last_differences unknown at j) scale) c)) (is.to_do j from (omega arith))
+          ∙ sym (changed_before unknown lowest at scale row new column after j step);
       done = λ j ge low. elim (cases_lt j (u - at)) [
         | inl here ↦
             let e : j ≡ n = omega arith in
             let one : field_product (field_product (last_differences unknown at j) scale) c ≡ c =
             ap (λ k. field_product (field_product (last_differences unknown at k) scale) c) e ∙ ap (λ t. field_product t c) step.inverse ∙ product_one_left c step.byte in
-            changed_before unknown at scale row new column after j step
-            ∙ ap₂ (λ s t. bit_xor s t) (sym (is.to_do j here) ∙ ap column e) one
+            changed_before unknown lowest at scale row new column after j step
+            ∙ ap₂ (λ s t. bit_xor s t) (sym (is.to_do j (omega arith) here) ∙ ap column e) one
             ∙ xor_self c
-        | inr behind ↦ unchanged_behind unknown at scale row new column after (u - j) 0 lt (omega arith) step ∙ is.done j behind low
+        | inr behind ↦ unchanged_behind unknown lowest at scale row new column after (u - j) 0 within (omega arith) step ∙ is.done j behind low
       ];
-      rest = λ m low. unchanged_behind unknown at scale row new column after 0 m lt (omega arith) step ∙ is.rest m low;
+      rest = λ m low. unchanged_behind unknown lowest at scale row new column after 0 m within (omega arith) step ∙ is.rest m low;
     }
 
 -- where the columns are 0 nothing changes
-pub place_kept : (unknown : List ℕ) (at scale : ℕ) (row new : List ℕ) (column after : ℕ → ℕ) → at < length unknown
-    → IsStep unknown at scale row new column after → ((j : ℕ) → j < length unknown → column j ≡ 0)
-    → ((j : ℕ) → j < length unknown → after j ≡ 0) × (new ≡ row)
-place_kept unknown at scale row new column after lt step none =
+pub place_kept : (unknown : List ℕ) (lowest at scale : ℕ) (row new : List ℕ) (column after : ℕ → ℕ) → at + lowest < length unknown
+    → IsStep unknown lowest at scale row new column after → ((j : ℕ) → lowest ≤ j → j < length unknown → column j ≡ 0)
+    → ((j : ℕ) → lowest ≤ j → j < length unknown → after j ≡ 0) × (new ≡ row)
+place_kept unknown lowest at scale row new column after lt step none =
     let u : ℕ = length unknown in
     let n : ℕ = u - 1 - at in
-    let zero_here : column n ≡ 0 = none n (omega arith) in
+    let zero_here : column n ≡ 0 = none n (omega arith) (omega arith) in
     let long : length new ≡ 255 = step.new_long in
     let same : (j : ℕ) → j < length new → get_or new j 0 ≡ get_or row j 0 = λ j low.
     elim (cases_eq j (get_or unknown at 0)) [
@@ -136,11 +137,11 @@ place_kept unknown at scale row new column after lt step none =
           ∙ xor_zero_r (get_or row (get_or unknown at 0) 0) ∙ ap (λ k. get_or row k 0) (sym e)
       | inr ne ↦ sym (step.others j (omega arith) ne)
     ] in (
-      λ j low. elim (cases_lt j n) [
+      λ j from low. elim (cases_lt j n) [
         | inl before ↦
             let f : ℕ = field_product (last_differences unknown at j) scale in
-            step.before j before ∙ ap₂ (λ s t. bit_xor s t) (none j low) (ap (λ t. field_product f t) zero_here ∙ product_zero_right f)
-        | inr behind ↦ step.kept j behind ∙ none j low
+            step.before j from before ∙ ap₂ (λ s t. bit_xor s t) (none j from low) (ap (λ t. field_product f t) zero_here ∙ product_zero_right f)
+        | inr behind ↦ step.kept j behind ∙ none j from low
       ],
       same_list new row (step.new_long ∙ sym step.row_long) same,
     )
@@ -153,16 +154,16 @@ roots_are unknown roots at k e lt =
     ∙ ap₂ (λ (l : List ℕ) (y : ℕ). differences l y) (drop-map place_power k unknown) (get_or-map place_power unknown at 0 0 lt)
 
 -- a step on columns is a step on each row of the run
-pub column_step : (rows from to : ℕ) (unknown roots table table' work work' : List ℕ) (at scale place r : ℕ)
+pub column_step : (rows from to : ℕ) (unknown roots table table' work work' : List ℕ) (lowest at scale place r : ℕ)
     → IsColumnChanged rows from to place (λ i. bit_xor (cell rows table place i) (field_product scale (cell rows work (length unknown - 1 - at) i))) table table'
     → place ≡ get_or unknown at 0 → All (λ p. p < 255) unknown → at < length unknown → from ≤ r → r < to → to ≤ rows
     → roots ≡ map place_power unknown → field_product (differences (drop (at + 1) roots) (get_or roots at 0)) scale ≡ 1
     → ((i : ℕ) → get_or work' i 0 < 2 ^ 8)
-    → ((j : ℕ) → j < length unknown - 1 - at → cell rows work' j r
+    → ((j : ℕ) → lowest ≤ j → j < length unknown - 1 - at → cell rows work' j r
     ≡ bit_xor (cell rows work j r) (field_product (field_product (differences (drop (length roots - j) roots) (get_or roots at 0)) scale) (cell rows work (length unknown - 1 - at) r)))
     → ((j : ℕ) → length unknown - 1 - at ≤ j → cell rows work' j r ≡ cell rows work j r)
-    → IsStep unknown at scale (table_row 255 rows table r) (table_row 255 rows table' r) (λ j. cell rows work j r) (λ j. cell rows work' j r)
-column_step rows from to unknown roots table table' work work' at scale place r changed is_place low lt ge lo within powers one bytes before kept =
+    → IsStep unknown lowest at scale (table_row 255 rows table r) (table_row 255 rows table' r) (λ j. cell rows work j r) (λ j. cell rows work' j r)
+column_step rows from to unknown roots table table' work work' lowest at scale place r changed is_place low lt ge lo within powers one bytes before kept =
     let n : ℕ = length unknown - 1 - at in
     let x : ℕ = get_or unknown at 0 in
     let x_low : x < 255 = low at 0 lt in
@@ -187,8 +188,8 @@ column_step rows from to unknown roots table table' work work' at scale place r 
           ∙ ap (λ t. field_product t scale) (sym (roots_are unknown roots at (at + 1) powers lt))
           ∙ one;
       byte = subst (λ t. t < 2 ^ 8) (kept n (omega arith)) (cell_fits rows work' n r bytes);
-      before = λ j jl.
-          before j jl
+      before = λ j above jl.
+          before j above jl
           ∙ ap (λ t. bit_xor (cell rows work j r) (field_product (field_product t scale) (cell rows work n r)))
           (ap (λ k. differences (drop (k - j) roots) (get_or roots at 0)) long ∙ roots_are unknown roots at (length unknown - j) powers lt);
       kept = kept;

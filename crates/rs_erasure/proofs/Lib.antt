@@ -1,7 +1,10 @@
 pub mod Steps
+pub mod PlacePowers
 pub mod Filling
 pub mod Changes
 pub mod Runs
 pub mod Horner
 pub mod Corrections
+pub mod Existing
 pub mod Decoding
+pub mod Remains

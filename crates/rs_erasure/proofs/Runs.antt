@@ -81,12 +81,20 @@ root_low roots values left j a lt low is_a =
     let m : j - (length roots - (left + 1)) ≡ j - (length roots - left) = omega arith in
     is_a ∙ ap₂ (λ (x : ℕ) (y : ℕ). combined (root_polynomial (drop x roots)) values y) e m
 
+-- the last ones were eliminated before
+pub roots_done : (roots : List ℕ) (values : ℕ → ℕ) (done j : ℕ) → done ≤ length roots → done ≤ j
+    → combined (root_polynomial (drop (length roots - done) roots)) values (j - done)
+    ≡ combined (root_polynomial (drop (length roots - done + (length roots - (length roots - done) - j)) roots)) values (j - (length roots - (length roots - done)))
+roots_done roots values done j some ge =
+    let e : length roots - done ≡ length roots - done + (length roots - (length roots - done) - j) = omega arith in
+    let m : j - done ≡ j - (length roots - (length roots - done)) = omega arith in
+    ap₂ (λ (x : ℕ) (y : ℕ). combined (root_polynomial (drop x roots)) values y) e m
+
 -- no root yet
-pub no_root : (roots : List ℕ) (values : ℕ → ℕ) (j : ℕ) → values j < 2 ^ 8
-    → values j ≡ combined (root_polynomial (drop (length roots + (length roots - length roots - j)) roots)) values (j - (length roots - length roots))
+pub no_root : (roots : List ℕ) (values : ℕ → ℕ) (j : ℕ) → values j < 2 ^ 8 → values j ≡ combined (root_polynomial (drop (length roots - 0) roots)) values (j - 0)
 no_root roots values j fits =
-    let e : length roots + (length roots - length roots - j) ≡ length roots = omega arith in
-    let m : j - (length roots - length roots) ≡ j = omega arith in
+    let e : length roots - 0 ≡ length roots = omega arith in
+    let m : j - 0 ≡ j = omega arith in
     sym (ap₂ (λ (x : ℕ) (y : ℕ). combined (root_polynomial (drop x roots)) values y) e m
     ∙ ap (λ (l : List ℕ). combined (root_polynomial l) values j) (drop_all (length roots) roots (omega arith))
     ∙ eliminated_none values j fits)

@@ -52,20 +52,27 @@ pub fn step_column(
     );
 }
 
-/// Adds `factor` times a column of `work` to a column of the table.
-pub fn add_to_table(factor: Gf, run: Run, work: &[u8], column: usize, table: &mut [u8], into: usize)
+/// Adds `factor` times a column of one buffer to a column of another.
+pub fn add_to_other(
+    factor: Gf,
+    run: Run,
+    source: &[u8],
+    column: usize,
+    target: &mut [u8],
+    into: usize,
+)
     requires order { run.from ≤ run.to }
     requires within { run.to ≤ run.rows }
-    requires work_room { (column + 1) * run.rows ≤ length work.now }
-    requires room { (into + 1) * run.rows ≤ length table.old }
-    ensures { IsColumnChanged run.rows run.from run.to into (λ r. field_sum (cell run.rows table.old into r) (field_product factor.0 (cell run.rows work.now column r))) table.old table.new }
+    requires source_room { (column + 1) * run.rows ≤ length source.now }
+    requires room { (into + 1) * run.rows ≤ length target.old }
+    ensures { IsColumnChanged run.rows run.from run.to into (λ r. field_sum (cell run.rows target.old into r) (field_product factor.0 (cell run.rows source.now column r))) target.old target.new }
 {
     let there = column * run.rows;
     let here = into * run.rows;
     mul_add(
         factor,
-        &work[there + run.from..there + run.to],
-        &mut table[here + run.from..here + run.to],
+        &source[there + run.from..there + run.to],
+        &mut target[here + run.from..here + run.to],
     );
 }
 

@@ -1,4 +1,6 @@
-//! From what is left after the elimination, the unknown columns are corrected one after another, each in all rows of a run.
+//! From what is left after the elimination, the wanted columns are corrected one after another, each in all rows of a run.
+//!
+//! They are the first of the unknown ones. The others are the last `lowest`, which stay as they are.
 
 ghost use Rattle.erasure_law.specs.Roots.{differences, place_power};
 ghost use Rattle.fec_spec.specs.Field.{field_product, field_sum};
@@ -10,11 +12,11 @@ ghost use Rattle.std.specs.List.{All};
 ghost use Rattle.std.specs.List.Sorted.{IsStrictlyIncreasing};
 ghost use Rattle.std.specs.Prelude.{◌+◌, ◌*◌, ◌-◌, ◌<◌, ◌≡◌, ◌≤◌, ◌⊎◌, ℕ, drop, false, length, map, slice_index};
 
-use crate::columns::{Run, add_to_earlier, add_to_table};
+use crate::columns::{Run, add_to_earlier, add_to_other};
 use gf256::Gf;
 
 /// The product of the differences of a power and the roots from `first` on.
-fn differences_of(roots: &[u8], first: usize, power: Gf) -> Gf
+pub fn differences_of(roots: &[u8], first: usize, power: Gf) -> Gf
     requires { first ≤ length roots.now }
     ensures { result.0 ≡ differences (drop first roots.now) power.0 }
 {
@@ -27,28 +29,38 @@ fn differences_of(roots: &[u8], first: usize, power: Gf) -> Gf
     value
 }
 
-/// Adds a column to each one before it, times `scale` and the differences of a power and the roots that are eliminated there.
-fn spread(scale: Gf, power: Gf, roots: &[u8], column: usize, run: Run, work: &mut [u8])
+/// Adds a column to each one before it from `lowest` on, times `scale` and the differences of a power and the roots eliminated there.
+fn spread(
+    scale: Gf,
+    power: Gf,
+    roots: &[u8],
+    lowest: usize,
+    column: usize,
+    run: Run,
+    work: &mut [u8],
+)
     requires order { run.from ≤ run.to }
     requires within { run.to ≤ run.rows }
     requires room { length work.old ≡ 64 * run.rows }
     requires few { length roots.now ≤ 64 }
+    requires above { lowest ≤ column }
     requires low { column < length roots.now }
-    ensures before { (r : ℕ) → run.from ≤ r → r < run.to → (j : ℕ) → j < column → cell run.rows work.new j r ≡ field_sum (cell run.rows work.old j r) (field_product (field_product (differences (drop (length roots.now - j) roots.now) power.0) scale.0) (cell run.rows work.old column r)) }
+    ensures before { (r : ℕ) → run.from ≤ r → r < run.to → (j : ℕ) → lowest ≤ j → j < column → cell run.rows work.new j r ≡ field_sum (cell run.rows work.old j r) (field_product (field_product (differences (drop (length roots.now - j) roots.now) power.0) scale.0) (cell run.rows work.old column r)) }
     ensures kept { (r : ℕ) → run.from ≤ r → r < run.to → (j : ℕ) → column ≤ j → cell run.rows work.new j r ≡ cell run.rows work.old j r }
     ensures outside { (j r : ℕ) → r < run.rows → (r < run.from) ⊎ (run.to ≤ r) → cell run.rows work.new j r ≡ cell run.rows work.old j r }
 {
-    let mut factor = scale;
-    for into in 0..column {
+    let mut factor = differences_of(roots, roots.len() - lowest, power).mul(scale);
+    for into in lowest..column {
         add_to_earlier(factor, run, work, column, into);
         factor = Gf(roots[roots.len() - 1 - into]).add(power).mul(factor);
     }
 }
 
-/// Corrects the unknown column at a place of the list.
+/// Corrects the unknown column at a place of the list, but the last `lowest`.
 fn correct_column(
     unknown: &[u8],
     roots: &[u8],
+    lowest: usize,
     at: usize,
     run: Run,
     work: &mut [u8],
@@ -62,9 +74,9 @@ fn correct_column(
     requires rising { IsStrictlyIncreasing unknown.now }
     requires few { length unknown.now ≤ 64 }
     requires powers { roots.now ≡ map place_power unknown.now }
-    requires low { at < length unknown.now }
-    ensures corrected { (r : ℕ) → run.from ≤ r → r < run.to → IsBeingCorrected unknown.now at (table_row 255 run.rows table.old r) (λ j. cell run.rows work.old j r) → IsBeingCorrected unknown.now (at + 1) (table_row 255 run.rows table.new r) (λ j. cell run.rows work.new j r) }
-    ensures zero { (r : ℕ) → run.from ≤ r → r < run.to → ((j : ℕ) → j < length unknown.now → cell run.rows work.old j r ≡ 0) → ((j : ℕ) → j < length unknown.now → cell run.rows work.new j r ≡ 0) × (table_row 255 run.rows table.new r ≡ table_row 255 run.rows table.old r) }
+    requires low { at + lowest < length unknown.now }
+    ensures corrected { (r : ℕ) → run.from ≤ r → r < run.to → IsBeingCorrected unknown.now lowest at (table_row 255 run.rows table.old r) (λ j. cell run.rows work.old j r) → IsBeingCorrected unknown.now lowest (at + 1) (table_row 255 run.rows table.new r) (λ j. cell run.rows work.new j r) }
+    ensures zero { (r : ℕ) → run.from ≤ r → r < run.to → ((j : ℕ) → lowest ≤ j → j < length unknown.now → cell run.rows work.old j r ≡ 0) → ((j : ℕ) → lowest ≤ j → j < length unknown.now → cell run.rows work.new j r ≡ 0) × (table_row 255 run.rows table.new r ≡ table_row 255 run.rows table.old r) }
     ensures known { (j r : ℕ) → r < run.rows → is_among j unknown.now ≡ false → cell run.rows table.new j r ≡ cell run.rows table.old j r }
     ensures outside { (j r : ℕ) → r < run.rows → (r < run.from) ⊎ (run.to ≤ r) → cell run.rows table.new j r ≡ cell run.rows table.old j r }
     ensures work_outside { (j r : ℕ) → r < run.rows → (r < run.from) ⊎ (run.to ≤ r) → cell run.rows work.new j r ≡ cell run.rows work.old j r }
@@ -72,12 +84,19 @@ fn correct_column(
     let power = Gf(roots[at]);
     let column = unknown.len() - 1 - at;
     let scale = differences_of(roots, at + 1, power).inverse();
-    add_to_table(scale, run, work, column, table, usize::from(unknown[at]));
-    spread(scale, power, roots, column, run, work);
+    add_to_other(scale, run, work, column, table, usize::from(unknown[at]));
+    spread(scale, power, roots, lowest, column, run, work);
 }
 
-/// Corrects the unknown columns.
-pub fn correct(unknown: &[u8], roots: &[u8], run: Run, work: &mut [u8], table: &mut [u8])
+/// Corrects the unknown columns, but the last `lowest`.
+pub fn correct(
+    unknown: &[u8],
+    roots: &[u8],
+    lowest: usize,
+    run: Run,
+    work: &mut [u8],
+    table: &mut [u8],
+)
     requires order { run.from ≤ run.to }
     requires within { run.to ≤ run.rows }
     requires table_room { length table.old ≡ 255 * run.rows }
@@ -86,13 +105,14 @@ pub fn correct(unknown: &[u8], roots: &[u8], run: Run, work: &mut [u8], table: &
     requires rising { IsStrictlyIncreasing unknown.now }
     requires few { length unknown.now ≤ 64 }
     requires powers { roots.now ≡ map place_power unknown.now }
-    ensures corrected { (r : ℕ) → run.from ≤ r → r < run.to → IsBeingCorrected unknown.now 0 (table_row 255 run.rows table.old r) (λ j. cell run.rows work.old j r) → IsBeingCorrected unknown.now (length unknown.now) (table_row 255 run.rows table.new r) (λ j. cell run.rows work.new j r) }
-    ensures zero { (r : ℕ) → run.from ≤ r → r < run.to → ((j : ℕ) → j < length unknown.now → cell run.rows work.old j r ≡ 0) → table_row 255 run.rows table.new r ≡ table_row 255 run.rows table.old r }
+    requires low { lowest ≤ length unknown.now }
+    ensures corrected { (r : ℕ) → run.from ≤ r → r < run.to → IsBeingCorrected unknown.now lowest 0 (table_row 255 run.rows table.old r) (λ j. cell run.rows work.old j r) → IsBeingCorrected unknown.now lowest (length unknown.now - lowest) (table_row 255 run.rows table.new r) (λ j. cell run.rows work.new j r) }
+    ensures zero { (r : ℕ) → run.from ≤ r → r < run.to → ((j : ℕ) → lowest ≤ j → j < length unknown.now → cell run.rows work.old j r ≡ 0) → table_row 255 run.rows table.new r ≡ table_row 255 run.rows table.old r }
     ensures known { (j r : ℕ) → r < run.rows → is_among j unknown.now ≡ false → cell run.rows table.new j r ≡ cell run.rows table.old j r }
     ensures outside { (j r : ℕ) → r < run.rows → (r < run.from) ⊎ (run.to ≤ r) → cell run.rows table.new j r ≡ cell run.rows table.old j r }
     ensures work_outside { (j r : ℕ) → r < run.rows → (r < run.from) ⊎ (run.to ≤ r) → cell run.rows work.new j r ≡ cell run.rows work.old j r }
 {
-    for at in 0..unknown.len() {
-        correct_column(unknown, roots, at, run, work, table);
+    for at in 0..unknown.len() - lowest {
+        correct_column(unknown, roots, lowest, at, run, work, table);
     }
 }

@@ -45,16 +45,18 @@ fn eliminate_root(root: Gf, first: usize, run: Run, work: &mut [u8])
     }
 }
 
-/// All roots, from the last one on: column j combines the values by the polynomial of the last j roots.
-pub fn eliminate(roots: &[u8], run: Run, work: &mut [u8])
+/// All roots but the last `done`, which were eliminated before, from the last one on: column j then combines the values by the polynomial
+/// of the last j roots. Nothing is said of the first `done` columns.
+pub fn eliminate(roots: &[u8], done: usize, run: Run, work: &mut [u8])
     requires order { run.from ≤ run.to }
     requires within { run.to ≤ run.rows }
     requires room { length work.old ≡ 64 * run.rows }
     requires few { length roots.now ≤ 64 }
-    ensures eliminated { (r : ℕ) → run.from ≤ r → r < run.to → (j : ℕ) → j < 64 → cell run.rows work.new j r ≡ combined (root_polynomial (drop (length roots.now - j) roots.now)) (λ m. cell run.rows work.old m r) (j - length roots.now) }
+    requires some { done ≤ length roots.now }
+    ensures eliminated { (values : ℕ → ℕ) (r : ℕ) → run.from ≤ r → r < run.to → ((j : ℕ) → done ≤ j → j < 64 → cell run.rows work.old j r ≡ combined (root_polynomial (drop (length roots.now - done) roots.now)) values (j - done)) → (j : ℕ) → done ≤ j → j < 64 → cell run.rows work.new j r ≡ combined (root_polynomial (drop (length roots.now - j) roots.now)) values (j - length roots.now) }
     ensures outside { (j r : ℕ) → r < run.rows → (r < run.from) ⊎ (run.to ≤ r) → cell run.rows work.new j r ≡ cell run.rows work.old j r }
 {
-    let mut left = roots.len();
+    let mut left = roots.len() - done;
     while left > 0 {
         left -= 1;
         eliminate_root(Gf(roots[left]), roots.len() - left, run, work);

@@ -22,7 +22,7 @@ pub enum RowAnswer {
 }
 
 /// A row with 0 at its unknown places.
-fn cleared(row: &[u8; 255], unknown: &[u8]) -> [u8; 255]
+pub fn cleared(row: &[u8; 255], unknown: &[u8]) -> [u8; 255]
     requires { All (λ p. p < 255) unknown.now }
     ensures bytes { (i : ℕ) → i < 255 → slice_index result i ≡ (if is_among i unknown.now then 0 else slice_index row.now i) }
     ensures long { length result ≡ 255 }

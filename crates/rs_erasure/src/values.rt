@@ -5,6 +5,7 @@ ghost use Rattle.fec_spec.specs.Codeword.{row_value};
 ghost use Rattle.fec_spec.specs.Field.{field_power};
 ghost use Rattle.std.specs.Prelude.{◌<◌, ◌≡◌, ◌≢◌, ℕ, false, slice_index, true};
 
+use crate::powers::POWERS;
 use gf256::Gf;
 
 /// The value of a row, by Horner's rule.
@@ -23,7 +24,7 @@ pub fn power_of(place: u8) -> Gf
     requires { place < 255 }
     ensures { result.0 ≡ place_power place }
 {
-    Gf(2).power(u32::from(254 - place))
+    Gf(POWERS[usize::from(place)])
 }
 
 /// The values of a row at the powers 0 to 63 of 2.

@@ -10,6 +10,6 @@ loop-from-preserved c = record {
       (omega arith) (omega arith) c.loop-from.invariant.solved c.solve_run-counts.ensures.solved;
   most = omega arith;
   few = omega (arith, c.loop-from.invariant.few, c.solve_run-counts.ensures.few);
-  valued_most = c.solve_run-counts.ensures.valued_most;
+  values_most = c.solve_run-counts.ensures.most;
   values = c.solve_run-counts.ensures.values;
 }

@@ -1,6 +1,6 @@
 use Rattle.std.proofs.Common.{◌≤◌, ◌<◌, ◌+◌, ◌-◌, ℕ}
 use Rattle.fec_frame.specs.Runs.{AreRowsSolved}
-use Rattle.rs_erasure.specs.Values.{HasValues}
+use Rattle.rs_erasure.specs.Values.{HasLeft}
 use Rattle.fec_frame.proofs.solving.solve_lacking.Given as goal
 
 abbrev pub invariant-loop-from : goal.invariant-loop-from
@@ -8,8 +8,8 @@ invariant-loop-from l = record {
   solved : AreRowsSolved l.rows 0 l.from l.initial.bytes l.initial.marks l.bytes l.marks l.mended l.left;
   most : l.from ≤ l.rows;
   few : l.mended + l.left ≤ l.from;
-  valued_most : l.valued ≤ l.rows;
-  values : (r : ℕ) → l.from ≤ r → r < l.valued → HasValues l.rows l.bytes l.work r;
+  values_most : l.values.to ≤ l.rows;
+  values : (r : ℕ) → l.from ≤ r → r < l.values.to → HasLeft l.rows l.values.others.items l.bytes l.work r;
 }
 
 abbrev pub decreases-loop-from : goal.decreases-loop-from

@@ -1,24 +1,20 @@
-use Rattle.std.proofs.Common.{arith, ℕ, List, suc, inl, inr, ◌≡◌, ◌<◌, ◌+◌, ◌-◌, ◌^◌, ◌∙◌, ap, ap₂, sym, drop, length, get_or, bit_xor, refl}
+use Rattle.std.proofs.Common.{arith, ℕ, List, suc, inl, inr, ◌≡◌, ◌<◌, ◌+◌, ◌-◌, ◌∙◌, ap, ap₂, sym, drop, length, get_or, bit_xor, refl}
 use Rattle.std.proofs.Math.Seq.{drop-cons}
 use Rattle.std.proofs.lemmas.Bool.{cases_lt}
-use Rattle.std.proofs.lemmas.List.{drop_all}
 use Rattle.fec_spec.specs.Field.{field_product}
-use Rattle.field_law.proofs.Field.{product_assoc, product_one_left}
+use Rattle.field_law.proofs.Field.{product_assoc}
 use Rattle.erasure_law.specs.Roots.{differences}
 use Rattle.rs_erasure.specs.Columns.{cell}
 use Rattle.rs_erasure.proofs.Changes.{column_outside}
 use Rattle.rs_erasure.proofs.correction.spread.Goals as goal
 
 pub loop-into-init : goal.loop-into-init
-loop-into-init c =
-    let roots : List ℕ = c.args.roots.now in
-    let fits : c.args.scale.0 < 2 ^ 8 = omega arith in
-    record {
-      factor = sym (ap (λ (l : List ℕ). field_product (differences l c.args.power.0) c.args.scale.0) (drop_all (length roots - 0) roots (omega arith)) ∙ product_one_left c.args.scale.0 fits);
-      before = λ r ge lt j low. absurd (omega arith);
-      kept = λ r ge lt j high. refl;
-      outside = λ j r low out. refl;
-    }
+loop-into-init c = record {
+  factor = c.mul-factor.ensures ∙ ap (λ t. field_product t c.args.scale.0) c.differences_of.ensures;
+  before = λ r ge lt j from low. absurd (omega arith);
+  kept = λ r ge lt j high. refl;
+  outside = λ j r low out. refl;
+}
 
 pub loop-into-preserved : goal.loop-into-preserved
 loop-into-preserved c =
@@ -36,14 +32,14 @@ loop-into-preserved c =
     let is = c.loop-into.invariant in
     record {
       factor =
-          c.mul-factor.ensures
+          c.mul-factor-in-loop-into.ensures
           ∙ ap₂ (λ s t. field_product s t) c.add.ensures is.factor
           ∙ sym (product_assoc (bit_xor (get_or roots k 0) power) (differences (drop (length roots - n) roots) power) scale)
           ∙ ap (λ m. field_product (field_product (bit_xor (get_or roots k 0) power) (differences (drop m roots) power)) scale) (sym e2)
           ∙ ap (λ (l : List ℕ). field_product (differences l power) scale) (sym (drop-cons roots k 0 lt))
           ∙ ap (λ m. field_product (differences (drop m roots) power) scale) (sym e1);
-      before = λ r ge lo j low. elim (cases_lt j n) [
-        | inl before ↦ c.add_to_earlier.ensures.elsewhere j r (omega arith) (λ e g l. absurd (omega arith)) ∙ is.before r ge lo j before
+      before = λ r ge lo j from low. elim (cases_lt j n) [
+        | inl before ↦ c.add_to_earlier.ensures.elsewhere j r (omega arith) (λ e g l. absurd (omega arith)) ∙ is.before r ge lo j from before
         | inr behind ↦
             let e : j ≡ n = omega arith in
             ap (λ m. cell run.rows c.add_to_earlier.new.work m r) e

@@ -1,5 +1,5 @@
 use Rattle.std.proofs.Common.{◌≤◌}
-use Rattle.fec_frame.proofs.solving.lacking_end.Given as goal
+use Rattle.fec_frame.proofs.left.lacking_end.Given as goal
 
 abbrev pub invariant-loop-end : goal.invariant-loop-end
 invariant-loop-end l = record {
