@@ -28,7 +28,7 @@ rules = [\"239.1.0.0/16\"]
 };
 
 /// MPE-FEC frames (clause 9), of which the right unit is a whole one: a datagram at address 0, with table_boundary and frame_boundary.
-const FRAMES: Kind = Kind {
+pub const FRAMES: Kind = Kind {
     settings: "[[service]]
 name = \"files\"
 kind = \"fec\"
@@ -51,6 +51,8 @@ const RIGHT: Numbers = Numbers {
     bad_length: 0,
     unread: 0,
     frames: 0,
+    rows_mended: 0,
+    datagrams: 1,
 };
 
 /// One packet more, in which no unit is delimited.
