@@ -90,21 +90,23 @@ horner_linear z y f u w (suc k) same =
     ∙ ap (λ t. field_product t y) (sym (horner_more z u k)))
     (sym (horner_more z w k))
 
--- over every seventeenth coefficient first
-pub horner_nested : (z y : ℕ) (f : ℕ → ℕ) (n : ℕ) → y ≡ field_power z 17 → ((i : ℕ) → f i < 2 ^ 8)
-    → horner_value z f (n * 17) ≡ horner_value z (λ b. horner_value y (λ q. f (b + q * 17)) n) 17
-horner_nested z y f zero e fits = horner_none z f ∙ sym (horner_zero z (λ b. horner_value y (λ q. f (b + q * 17)) 0) 17 (λ b. horner_none y (λ q. f (b + q * 17))))
-horner_nested z y f (suc n) e fits =
-    let u : ℕ → ℕ = λ b. horner_value y (λ q. f (b + q * 17)) n in
-    let w : ℕ → ℕ = λ b. f (n * 17 + b) in
-    let whole : suc n * 17 ≡ n * 17 + 17 = omega arith in
+-- over every s-th coefficient first
+pub horner_nested : (z y : ℕ) (f : ℕ → ℕ) (s n : ℕ) → y ≡ field_power z s → ((i : ℕ) → f i < 2 ^ 8)
+    → horner_value z f (n * s) ≡ horner_value z (λ b. horner_value y (λ q. f (b + q * s)) n) s
+horner_nested z y f s zero e fits =
+    let none : zero * s ≡ 0 = omega arith in
+    ap (λ k. horner_value z f k) none ∙ horner_none z f ∙ sym (horner_zero z (λ b. horner_value y (λ q. f (b + q * s)) 0) s (λ b. horner_none y (λ q. f (b + q * s))))
+horner_nested z y f s (suc n) e fits =
+    let u : ℕ → ℕ = λ b. horner_value y (λ q. f (b + q * s)) n in
+    let w : ℕ → ℕ = λ b. f (n * s + b) in
+    let whole : suc n * s ≡ n * s + s = omega arith in
     ap (λ k. horner_value z f k) whole
-    ∙ horner_split z f (n * 17) 17 fits
-    ∙ ap₂ (λ s t. bit_xor (field_product s t) (horner_value z w 17)) (horner_nested z y f n e fits) (sym e)
-    ∙ sym (horner_linear z y (λ b. horner_value y (λ q. f (b + q * 17)) (suc n)) u w 17
+    ∙ horner_split z f (n * s) s fits
+    ∙ ap₂ (λ v t. bit_xor (field_product v t) (horner_value z w s)) (horner_nested z y f s n e fits) (sym e)
+    ∙ sym (horner_linear z y (λ b. horner_value y (λ q. f (b + q * s)) (suc n)) u w s
     (λ b low.
-    let at : b + n * 17 ≡ n * 17 + b = omega arith in
-    horner_more y (λ q. f (b + q * 17)) n ∙ ap (λ k. bit_xor (field_product (u b) y) (f k)) at))
+    let at : b + n * s ≡ n * s + b = omega arith in
+    horner_more y (λ q. f (b + q * s)) n ∙ ap (λ k. bit_xor (field_product (u b) y) (f k)) at))
 
 -- over the columns of a table
 horner_row : (rows : ℕ) (table : List ℕ) (r z n : ℕ) → ((i : ℕ) → get_or table i 0 < 2 ^ 8) → n ≤ 255
@@ -129,6 +131,33 @@ power_turn m =
     ∙ ap (λ t. field_product p t) (sym (power-power 2 d 255) ∙ power_255 (field_power 2 d) (power_fits 2 d) (powers_not_zero d))
     ∙ product_one_right p (power_fits 2 k))
 
+-- the power 5 of the power 17 × k is that of the third
+power_third : (n h : ℕ) → field_power 2 (85 * h) ≡ field_power (field_power 2 (17 * (n * 3 + h))) 5
+power_third n h =
+    let k : ℕ = 85 * h in
+    let whole : 17 * (n * 3 + h) * 5 ≡ k + n * 255 = omega arith in
+    let p : ℕ = field_power 2 k in
+    sym (power-power 2 (17 * (n * 3 + h)) 5
+    ∙ ap (λ i. field_power 2 i) whole
+    ∙ power-add 2 k (n * 255)
+    ∙ ap (λ t. field_product p t) (sym (power-power 2 n 255) ∙ power_255 (field_power 2 n) (power_fits 2 n) (powers_not_zero n))
+    ∙ product_one_right p (power_fits 2 k))
+
+-- a class value, from the thirds
+pub class_of_thirds : (rows : ℕ) (table thirds : List ℕ) (n h b i r : ℕ) → ((j : ℕ) → get_or table j 0 < 2 ^ 8)
+    → ((a : ℕ) → a < 5 → cell 256 thirds (b + a * 17) i ≡ horner_value (field_power 2 (85 * h)) (λ t. cell rows table (b + a * 17 + t * 85) r) 3)
+    → horner_value (field_power 2 (17 * (n * 3 + h))) (λ a. cell 256 thirds (b + a * 17) i) 5 ≡ horner_value (field_power 2 (17 * (n * 3 + h))) (λ q. cell rows table (b + q * 17) r) 15
+class_of_thirds rows table thirds n h b i r bytes are =
+    let z : ℕ = field_power 2 (17 * (n * 3 + h)) in
+    let y : ℕ = field_power 2 (85 * h) in
+    let f : ℕ → ℕ = λ q. cell rows table (b + q * 17) r in
+    horner_same z (λ a. cell 256 thirds (b + a * 17) i) (λ a. horner_value y (λ t. f (a + t * 5)) 3) 5
+    (λ a low.
+    are a low
+    ∙ horner_same y (λ t. cell rows table (b + a * 17 + t * 85) r) (λ t. f (a + t * 5)) 3
+    (λ t lt. let e : b + a * 17 + t * 85 ≡ b + (a + t * 5) * 17 = omega arith in ap (λ k. cell rows table k r) e))
+    ∙ sym (horner_nested z y f 5 3 (power_third n h) (λ q. cell_fits rows table (b + q * 17) r bytes))
+
 -- the value of a row, from those of its classes
 pub value_of_classes : (rows : ℕ) (table : List ℕ) (r m : ℕ) (c : ℕ → ℕ) → ((i : ℕ) → get_or table i 0 < 2 ^ 8)
     → ((b : ℕ) → b < 17 → c b ≡ horner_value (field_power 2 (17 * (m % 15))) (λ q. cell rows table (b + q * 17) r) 15)
@@ -139,7 +168,7 @@ value_of_classes rows table r m c bytes are =
     let f : ℕ → ℕ = λ j. cell rows table j r in
     let l : length (table_row 255 rows table r) ≡ 255 = length-table_row 255 rows table r in
     horner_same z c (λ b. horner_value y (λ q. f (b + q * 17)) 15) 17 are
-    ∙ sym (horner_nested z y f 15 (power_turn m) (λ j. cell_fits rows table j r bytes))
+    ∙ sym (horner_nested z y f 17 15 (power_turn m) (λ j. cell_fits rows table j r bytes))
     ∙ horner_row rows table r z 255 bytes (omega arith)
     ∙ ap (λ (t : List ℕ). row_value z t) (take_all 255 (table_row 255 rows table r) (omega arith))
 
