@@ -16,6 +16,6 @@ stream_counts_of numbers = record {
   other = numbers.other;
 }
 
--- of service k of a plan
+-- the counts of service k of a plan in a report
 abbrev pub counts_of_service : PlanFields → ℕ → List (List ℕ) → ServiceCounts
 counts_of_service plan k frames = service_counts_of (numbers_of plan k frames) (pdu_numbers_of plan k frames)

@@ -15,10 +15,11 @@ delivered_on (Some isi) filter frames = delivered_by_gse carried_by_pdu filter i
 abbrev pub delivered_by_service : ServiceFields → List (List ℕ) → List (List ℕ)
 delivered_by_service service frames = delivered_on (isi_of service.kind) service.filter frames
 
--- service k of a plan, and what it delivers
+-- service k of a plan
 abbrev pub service_at : PlanFields → ℕ → ServiceFields
 service_at plan k = slice_index_or plan.services k no_service
 
+-- what service k delivers
 abbrev pub delivered_of : PlanFields → ℕ → List (List ℕ) → List (List ℕ)
 delivered_of plan k frames = delivered_by_service (service_at plan k) frames
 

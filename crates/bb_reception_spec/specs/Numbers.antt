@@ -19,11 +19,12 @@ recording_numbers plan frames = record {
   other = other_frames (isis plan) frames;
 }
 
--- Of one service: what became of the frames and packets of its input stream. A middle or last fragment without a first counts as
--- delimited, and so does a last one whose first is more than 256 received frames back; each refused packet counts as a bad length.
+-- the numbers of a service without an input stream
 abbrev pub no_isi_numbers : IsiNumbers
 no_isi_numbers = record { heard = 0; units = 0; bad_check = 0; delimited = 0; bad_length = 0 }
 
+-- Of one service: what became of the frames and packets of its input stream. A middle or last fragment without a first counts as delimited, and so does a last
+-- one whose first is more than 256 received frames back; each refused packet counts as a bad length.
 abbrev pub numbers_on : Option ℕ → List (List ℕ) → IsiNumbers
 numbers_on None frames = no_isi_numbers
 numbers_on (Some isi) frames = isi_numbers isi frames

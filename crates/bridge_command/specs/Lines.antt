@@ -2,7 +2,7 @@
 use Rattle.std.specs.Prelude.{ℕ, List, [], ◌∷◌, ◌++◌, codes, decimal}
 use Rattle.bridge_command.specs.declared.ends.BridgeTally.{BridgeTally}
 
--- what became of the captured frames
+-- the line of a bridge: what became of the captured frames
 unfoldable pub bridge_tally_line : BridgeTally → List ℕ
 bridge_tally_line tally =
     codes "ipencap: offered " ++ decimal tally.offered

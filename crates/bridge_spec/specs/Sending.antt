@@ -22,12 +22,15 @@ abbrev pub longest_frame : BridgeCarrier → ℕ
 longest_frame (on_pid pid) = 32757
 longest_frame (on_isi isi) = 65527
 
+-- the Ethernet frame is shorter than its header
 abbrev pub is_too_short : List ℕ → Bool
 is_too_short frame = nat_lt (length frame) least_frame
 
+-- the Ethernet frame is longer than the longest that is carried
 abbrev pub is_too_long : BridgeCarrier → List ℕ → Bool
 is_too_long carrier frame = nat_lt (longest_frame carrier) (length frame)
 
+-- an Ethernet frame has 14 bytes or more, and no more than a unit holds
 abbrev pub has_room : BridgeCarrier → List ℕ → Bool
 has_room carrier frame = nat_le least_frame (length frame) && nat_le (length frame) (longest_frame carrier)
 
@@ -41,10 +44,11 @@ too_short_count captured = count_by is_too_short captured
 abbrev pub too_long_count : BridgeCarrier → List (List ℕ) → ℕ
 too_long_count carrier captured = count_by (is_too_long carrier) captured
 
--- an Ethernet frame in an SNDU, and as a PDU
+-- an Ethernet frame in an SNDU without address
 abbrev pub sndu_with_frame : List ℕ → List ℕ
 sndu_with_frame frame = sndu_bytes None bridged_type frame
 
+-- an Ethernet frame as a PDU for all receivers
 abbrev pub pdu_with_frame : List ℕ → Pdu
 pdu_with_frame frame = record { protocol = bridged_type; label = Broadcast; bytes = frame }
 

@@ -8,10 +8,11 @@ use Rattle.pcap_file.specs.declared.captured.LinkType.TheVariants.{Ethernet, Raw
 use Rattle.pcap_file.specs.declared.faults.CaptureFault.{CaptureFault}
 use Rattle.pcap_file.specs.declared.faults.CaptureFault.TheVariants as fault
 
--- captures of every link type, and of Ethernet frames alone
+-- captures of every link type
 abbrev pub every_link : LinkType → Bool
 every_link link = true
 
+-- captures of Ethernet frames alone
 abbrev pub is_ethernet : LinkType → Bool
 is_ethernet Ethernet = true
 is_ethernet Raw = false

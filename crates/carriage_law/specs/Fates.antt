@@ -25,6 +25,8 @@ IsSo pids sent recorded fate j (damaged n) = n < length sent
 IsSo pids sent recorded fate j (copy i) = (i < j) × ((n : ℕ) × (fate i ≡ kept n)) × ((record_at recorded j).bytes ≡ (record_at recorded i).bytes)
 IsSo pids sent recorded fate j inserted = IsForeign pids (record_at recorded j)
 
+-- each recorded record has a fate; kept and damaged ones are in order, and no other readable packet of its PID stands between a record and its copy, where a
+-- receiver reads this PID
 pub record HasFates (pids : List ℕ) (sent recorded : List Record) : Type 0 where
   pub fate : ℕ → Fate
   pub is : (j : ℕ) → j < length recorded → IsSo pids sent recorded fate j (fate j)

@@ -28,8 +28,8 @@ IsNoCopy first j = first j ≡ j
 abbrev pub SameBytes : Record → Record → Type 0
 SameBytes r other = r.bytes ≡ other.bytes
 
--- each sent record is dropped, kept, or replaced by any record; after a kept one copies of it may stand, and anywhere records that
--- are foreign to a receiver of these PIDs
+-- each sent record is dropped, kept, or replaced by any record; after a kept one copies of it may stand, with no other readable packet of their PID between;
+-- anywhere stand records that are foreign to a receiver of these PIDs; what was kept or replaced stays in order
 pub record Channel (pids : List ℕ) (sent recorded : List Record) : Type 0 where
   pub place : ℕ → Option ℕ
   pub first : ℕ → ℕ

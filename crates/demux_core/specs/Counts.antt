@@ -24,7 +24,7 @@ abbrev pub frames_counted : Bool → PlanFields → ℕ → List Record → Fram
 frames_counted true plan k records = frame_numbers_of plan k records
 frames_counted false plan k records = told_frame_numbers plan k records
 
--- of service k of a plan, over all its spans
+-- the counts of service k of a plan in a report, over all its spans; of frames all where the recording has ended
 abbrev pub counts_of_service : Bool → PlanFields → ℕ → List Record → ServiceCounts
 counts_of_service ended plan k records = service_counts_of (numbers_of plan k records) (unit_numbers_of plan k records) (frames_counted ended plan k records)
 

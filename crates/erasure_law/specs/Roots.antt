@@ -3,7 +3,7 @@ use Rattle.std.specs.Prelude.{ℕ, List, [], ◌∷◌, ◌-◌, ◌==◌, suc, 
 use Rattle.fec_spec.specs.Codeword.{row_value}
 use Rattle.fec_spec.specs.Field.{field_sum, field_product, field_power}
 
--- the value at x
+-- the value of a polynomial at x, from its coefficients, the constant first
 abbrev pub polynomial_value : List ℕ → ℕ → ℕ
 polynomial_value [] x = 0
 polynomial_value (a ∷ p) x = field_sum a (field_product x (polynomial_value p x))
@@ -28,11 +28,11 @@ abbrev pub combined : List ℕ → (ℕ → ℕ) → ℕ → ℕ
 combined [] term m = 0
 combined (a ∷ p) term m = field_sum (field_product a (term m)) (combined p term (suc m))
 
--- the powers of places: place j of a codeword has 2 to the power 254 - j
+-- the powers of places: place j of a codeword has 2 to the power 254 - j (EN 301 192 clause 9)
 abbrev pub place_power : ℕ → ℕ
 place_power place = field_power 2 (254 - place)
 
--- the other places
+-- the places but one
 abbrev pub without : ℕ → List ℕ → List ℕ
 without i [] = []
 without i (x ∷ xs) = if i == x then without i xs else x ∷ without i xs

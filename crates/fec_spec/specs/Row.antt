@@ -21,11 +21,11 @@ pub record Agrees (unknown row other : List ℕ) : Type 0 where
 abbrev pub HasCodeword : List ℕ → List ℕ → Type 0
 HasCodeword unknown row = (code : List ℕ) × IsCodeword code × Agrees unknown row code
 
--- at most 64 places are unknown, and some codeword agrees with the others
+-- at most 64 places are unknown, and some codeword agrees with the others (EN 301 192 clause 9)
 abbrev pub IsCorrectable : List ℕ → List ℕ → Type 0
 IsCorrectable unknown row = (length unknown ≤ 64) × HasCodeword unknown row
 
--- the corrected row: the codeword that agrees, where at most 64 places are unknown and there is one; else the row as it is
+-- the corrected row: the codeword that agrees, where at most 64 places are unknown and there is one; else the row as it is (EN 301 192 clause 9)
 abbrev pub IsCorrected : List ℕ → List ℕ → List ℕ → Type 0
 IsCorrected unknown row new =
     ((length unknown ≤ 64) × IsCodeword new × Agrees unknown row new) ⊎ ((IsCorrectable unknown row → ⊥) × (new ≡ row))

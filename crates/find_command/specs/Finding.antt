@@ -100,7 +100,7 @@ pub record FindsText {T : Type 0} (bytes_of : T → List ℕ) (result : Result T
   pub input_rose : IsErrOf result fault.Source → Rose input.faults now.faults
   pub input_kept : ¬ IsErrOf result fault.Source → now.faults ≡ input.faults
 
--- the whole command
+-- how `find` ends, by its answer
 pub record Finds (result : Result ⊤ FindFault) (pid : ℕ) (input now : InputTold) (output now_output : OutputTold) (Unread Silent : Type 0) : Type 0 where
   -- what was read, and at Ok and where the output fails what was written
   pub ends : FindEnds result input now (λ done. WritesFound pid input now output now_output) (WritesPart pid input now output now_output) Unread

@@ -16,8 +16,8 @@ sections_of_units rows units moments = flat_map (λ n. timed_sections_in rows (m
 abbrev pub datagrams_sent : List FrameFields → List (List ℕ)
 datagrams_sent frames = flat_map (λ (frame : FrameFields). frame.datagrams) frames
 
--- The units of a PID carry these frames with these sections, where unit n begins in a packet with the moment moments n.
--- So many frames of the service come before them, on other PIDs of a changing plan.
+-- The units of a PID carry these frames with these sections, where unit n begins in a packet with the moment moments n (EN 301 192 clause 9). So many frames of
+-- the service come before them, on other PIDs of a changing plan.
 pub record AreFramesOf (timing : Timing) (rows first : ℕ) (units : List (List ℕ)) (moments : ℕ → ℕ)
     (frames : List FrameFields) (sections : List (List TimedSection)) : Type 0 where
   pub sent : AreSentFrames rows frames sections

@@ -14,7 +14,7 @@ known_row rows known r = map (λ j. known (j * rows + r)) (range_with_len 0 255)
 unfoldable pub unknown_columns : ℕ → (ℕ → Option ℕ) → ℕ → List ℕ
 unknown_columns rows known r = filter (λ j. is_none (known (j * rows + r))) (range_with_len 0 255)
 
--- at most 64 bytes of row r are unknown, and the codeword agrees with the others
+-- at most 64 bytes of row r are unknown, and the codeword agrees with the others (EN 301 192 clause 9)
 pub record IsCorrection (rows : ℕ) (known : ℕ → Option ℕ) (r : ℕ) (code : List ℕ) : Type 0 where
   pub few : length (unknown_columns rows known r) ≤ 64
   pub codeword : IsCodeword code
@@ -30,7 +30,7 @@ completions [] = [] ∷ []
 completions (Some byte ∷ row) = map (λ rest. byte ∷ rest) (completions row)
 completions (None ∷ row) = flat_map (λ byte. map (λ rest. byte ∷ rest) (completions row)) all_bytes
 
--- the test of a row for being a codeword
+-- the test of a row for being a codeword (EN 301 192 clause 9)
 unfoldable pub is_codeword : List ℕ → Bool
 is_codeword row =
     (length row == 255)
@@ -40,7 +40,7 @@ is_codeword row =
 unfoldable pub codeword_with : List (Option ℕ) → Option (List ℕ)
 codeword_with row = find is_codeword (completions row)
 
--- row r corrected: the codeword that agrees, where at most 64 bytes are unknown and there is one
+-- row r corrected: the codeword that agrees, where at most 64 bytes are unknown and there is one (EN 301 192 clause 9)
 unfoldable pub corrected_row : ℕ → (ℕ → Option ℕ) → ℕ → Option (List ℕ)
 corrected_row rows known r = if nat_le (length (unknown_columns rows known r)) 64 then codeword_with (known_row rows known r) else None
 
@@ -65,6 +65,6 @@ mended_rows rows known = count_by (λ r. lacks_data rows known r && is_some (cor
 abbrev pub left_rows : ℕ → (ℕ → Option ℕ) → ℕ
 left_rows rows known = count_by (λ r. lacks_data rows known r && is_none (corrected_row rows known r)) (range_with_len 0 rows)
 
--- each row has at most 64 bytes that these sections do not tell, those of punctured columns counted
+-- each row has at most 64 bytes that these sections do not tell, those of punctured columns counted (EN 301 192 clause 9)
 pub record IsRecoverable (rows : ℕ) (sections : List FrameSection) : Type 0 where
   pub row : (r : ℕ) → r < rows → length (unknown_columns rows (known_byte rows sections) r) ≤ 64

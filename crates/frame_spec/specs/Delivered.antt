@@ -7,7 +7,7 @@ use Rattle.frame_spec.specs.Known.{known_byte}
 use Rattle.frame_spec.specs.Corrected.{corrected_byte}
 use Rattle.frame_spec.specs.Starts.{found_datagrams}
 
--- the datagrams that a received frame with these sections gives
+-- the datagrams that a received frame with these sections gives: rows are corrected, then datagrams found (EN 301 192 clause 9)
 abbrev pub frame_datagrams : ℕ → List FrameSection → List (List ℕ)
 frame_datagrams rows sections = found_datagrams rows (corrected_byte rows (known_byte rows sections)) (data_of sections)
 

@@ -8,7 +8,7 @@ use Rattle.slice_spec.specs.Moments.{ten}
 use Rattle.slice_spec.specs.Sections.{Timing, indexed, sliced, is_parted}
 use Rattle.frame_spec.specs.Sections.{FrameSection, data_section, parity_section, TimedSection, time_of, sections_of, ends_frame, data_end, data_of, parity_of}
 
--- what delta_t counts in the frames of a service, with time slicing or without, in recordings of this form
+-- what delta_t counts in the frames of a service, with time slicing or without, in recordings of this form (EN 301 192 clause 9)
 abbrev pub timing_in : RecordingForm → Bool → Timing
 timing_in form is_sliced = if is_sliced then sliced (ten form) else indexed
 
@@ -17,14 +17,14 @@ abbrev pub end_after : ℕ → List MpeFields → ℕ
 end_after place [] = place
 end_after place (m ∷ datagrams) = end_after (data_end m) datagrams
 
--- After these datagram_sections and MPE-FEC sections no such datagram_section comes in one frame:
--- there was parity, or the table ended, or its address is below the end of the last datagram.
+-- After these datagram_sections and MPE-FEC sections no such datagram_section comes in one frame: there was parity, or the table ended, or its address is below
+-- the end of the last datagram (EN 301 192 clause 9).
 abbrev pub is_cut_by_data : List MpeFields → List FecFields → MpeFields → Bool
 is_cut_by_data datagrams columns m =
     nat_lt 0 (length columns)
     || (list_any (λ (d : MpeFields). d.real_time.table_boundary) datagrams || nat_lt m.real_time.address (end_after 0 datagrams))
 
--- two MPE-FEC sections that no frame has in this order: the number does not rise, or they tell other numbers
+-- two MPE-FEC sections that no frame has in this order: the number does not rise, or they tell other numbers (EN 301 192 clause 9)
 abbrev pub are_apart : FecFields → FecFields → Bool
 are_apart before f = nat_le f.number before.number || (not (before.padding == f.padding) || not (before.last == f.last))
 
@@ -32,11 +32,12 @@ are_apart before f = nat_le f.number before.number || (not (before.padding == f.
 abbrev pub reaches : ℕ → MpeFields → Bool
 reaches place m = nat_lt 0 (length m.datagram) && nat_lt place (data_end m)
 
--- After these no such MPE-FEC section comes in one frame: it is apart from a column, or a datagram has a byte in its padding columns.
+-- After these no such MPE-FEC section comes in one frame: it is apart from a column, or a datagram has a byte in its padding columns (EN 301 192 clause 9).
 abbrev pub is_cut_by_parity : ℕ → List MpeFields → List FecFields → FecFields → Bool
 is_cut_by_parity rows datagrams columns f =
     list_any (λ (before : FecFields). are_apart before f) columns || list_any (reaches ((191 - f.padding) * rows)) datagrams
 
+-- the same by the kind of a section
 abbrev pub is_cut_by_kind : ℕ → List FrameSection → FrameSection → Bool
 is_cut_by_kind rows sections (data_section m) = is_cut_by_data (data_of sections) (parity_of sections) m
 is_cut_by_kind rows sections (parity_section f) = is_cut_by_parity rows (data_of sections) (parity_of sections) f
@@ -50,21 +51,24 @@ abbrev pub last_section : TimedSection → List TimedSection → TimedSection
 last_section s [] = s
 last_section s (t ∷ group) = last_section t group
 
--- a section begins the next frame after the sections of one, of which there is one at least
+-- a section begins the next frame after the sections of one, of which there is one at least: by its time, or by what these tell
 abbrev pub is_cut : Timing → ℕ → List TimedSection → TimedSection → Bool
 is_cut timing rows [] x = false
 is_cut timing rows (s ∷ group) x =
     is_parted timing (time_of (last_section s group)) (time_of x) || is_cut_by_table rows (sections_of (s ∷ group)) x.section
 
+-- the section for places where none is
 abbrev pub no_section : TimedSection
 no_section = record {
   moment = 0;
   section = data_section (record { mac = []; real_time = record { delta = 0; table_boundary = false; frame_boundary = false; address = 0 }; datagram = [] });
 }
 
+-- the section at a place
 abbrev pub section_at : List TimedSection → ℕ → TimedSection
 section_at sections n = slice_index_or sections n no_section
 
+-- the frame at a place
 abbrev pub frame_at : List (List TimedSection) → ℕ → List TimedSection
 frame_at frames n = slice_index_or frames n []
 
@@ -72,7 +76,7 @@ frame_at frames n = slice_index_or frames n []
 abbrev pub all_sections : List (List TimedSection) → List TimedSection
 all_sections frames = flat_map (λ (frame : List TimedSection). frame) frames
 
--- the sections are partitioned into frames: none is cut within, each is cut from the next
+-- the sections are partitioned into frames: none is empty, none is cut within, each is cut from the next
 pub record AreReceivedFrames (timing : Timing) (rows : ℕ) (sections : List TimedSection) (frames : List (List TimedSection)) : Type 0 where
   pub whole : sections ≡ all_sections frames
   pub some : (n : ℕ) → n < length frames → 0 < length (frame_at frames n)

@@ -8,20 +8,20 @@ use Rattle.frame_spec.specs.Sections.{FrameSection, data_section, parity_section
 use Rattle.frame_spec.specs.Corrected.{codeword_with}
 use Rattle.frame_spec.specs.Frame.{FrameFields, data_table, datagram_start, datagram_at}
 
--- padding_columns: all columns but those that hold so many bytes
+-- padding_columns: all columns but those that hold so many bytes (EN 301 192 clause 9)
 abbrev pub padding_of : ℕ → ℕ → ℕ
 padding_of rows used = 191 - (used + rows - 1) / rows
 
--- the 64 bytes that make 191 bytes a codeword
+-- the 64 bytes that make 191 bytes a codeword (EN 301 192 clause 9)
 unfoldable pub row_parity : List ℕ → List ℕ
 row_parity row = drop 191 (unwrap_or (codeword_with (map Some row ++ replicate 64 None)) [])
 
--- the RS data table of 64 columns, column by column
+-- the RS data table of 64 columns, column by column (EN 301 192 clause 9)
 unfoldable pub parity_table : ℕ → List ℕ → List ℕ
 parity_table rows table =
     flat_map (λ k. map (λ r. slice_index (row_parity (table_row 191 rows table r)) k) (range_with_len 0 rows)) (range_with_len 0 64)
 
--- the frame of some datagrams, of whose RS data table so many columns are sent
+-- the frame that a sender makes of datagrams, of whose RS data table so many columns are sent (EN 301 192 clause 9)
 abbrev pub frame_of : ℕ → ℕ → List (List ℕ) → FrameFields
 frame_of rows columns datagrams = record {
   datagrams = datagrams;
@@ -32,6 +32,7 @@ frame_of rows columns datagrams = record {
 
 -- Its sections. delta i is delta_t of section i, and mac the address of the receivers that a datagram is for.
 
+-- the section of datagram n, at its address, with table_boundary on the last one alone (EN 301 192 clause 9)
 abbrev pub section_of_datagram : FrameFields → (List ℕ → List ℕ) → (ℕ → ℕ) → ℕ → MpeFields
 section_of_datagram frame mac delta n =
     mpe_to_write (mac (datagram_at frame.datagrams n))
@@ -43,7 +44,7 @@ section_of_datagram frame mac delta n =
     }))
     (datagram_at frame.datagrams n)
 
--- the address is that of the column's first byte in the RS data table, and table_boundary stands on the last section of the table
+-- the address is that of the column's first byte in the RS data table, and table_boundary stands on the last section of the table (EN 301 192 clause 9)
 abbrev pub section_of_column : ℕ → FrameFields → (ℕ → ℕ) → ℕ → FecFields
 section_of_column rows frame delta k = record {
   padding = frame.padding;
@@ -58,13 +59,13 @@ section_of_column rows frame delta k = record {
   column = take rows (drop (k * rows) frame.parity);
 }
 
--- one of each datagram, in order, and then one of each column
+-- the sections of a frame that is sent: one of each datagram, in order, and then one of each column (EN 301 192 clause 9)
 abbrev pub sections_to_send : ℕ → FrameFields → (List ℕ → List ℕ) → (ℕ → ℕ) → List FrameSection
 sections_to_send rows frame mac delta =
     map (λ n. data_section (section_of_datagram frame mac delta n)) (range_with_len 0 (length frame.datagrams))
     ++ map (λ k. parity_section (section_of_column rows frame delta k)) (range_with_len 0 frame.columns)
 
--- a section as a unit
+-- a section as a unit (EN 301 192 clauses 7, 9)
 abbrev pub section_unit : FrameSection → List ℕ
 section_unit (data_section m) = mpe_bytes m
 section_unit (parity_section f) = fec_bytes f

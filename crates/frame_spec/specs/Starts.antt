@@ -29,6 +29,7 @@ known_run rows bytes place = run_within bytes (191 * rows - place) place
 abbrev pub is_edge : ℕ → MpeFields → Bool
 is_edge place m = (m.real_time.address == place) || (data_end m == place)
 
+-- datagrams can start at 0, or where a datagram_section's datagram starts or ends
 abbrev pub is_first_start : List MpeFields → ℕ → Bool
 is_first_start sections place = (place == 0) || list_any (is_edge place) sections
 

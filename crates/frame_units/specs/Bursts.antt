@@ -33,6 +33,6 @@ pub record HoldsUnits (held : HeldUnits) (units : List (List ℕ)) : Type 0 wher
 abbrev pub AreFirst : ℕ → (ℕ → ℕ) → List ℕ → Type 0
 AreFirst count delta deltas = (n : ℕ) → n < count → slice_index deltas n ≡ delta n
 
--- the units of a burst in which a section has the delta_t of the packet with its first byte
+-- the units of a burst in which a section has the delta_t of the packet with its first byte (EN 301 192 clause 9)
 abbrev pub units_by_packet : ℕ → ℕ → List ℕ → (ℕ → ℕ) → List (List ℕ) → List (List ℕ)
 units_by_packet rows columns unicast delta datagrams = units_with_delta rows columns unicast (λ i. delta (packet_of_section rows columns datagrams i)) datagrams

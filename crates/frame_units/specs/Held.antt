@@ -4,7 +4,7 @@ use Rattle.wire_spec.specs.Lists.{joined}
 use Rattle.unit_stream.specs.Packers.{AreEnds, units_of}
 use Rattle.frame_units.specs.declared.units.FrameUnits.{FrameUnits}
 
--- the buffer has these units, one after another, and no byte besides
+-- the buffer has these units, one after another, and no byte besides, and a packer takes their ends
 pub record Holds (made : FrameUnits) (units : List (List ℕ)) : Type 0 where
   pub units_are : units_of made.bytes.items made.ends.items ≡ units
   pub whole : made.bytes.items ≡ joined units

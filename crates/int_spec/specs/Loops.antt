@@ -6,34 +6,37 @@ use Rattle.int_spec.specs.Descriptors.{is_loop, is_right_descriptor}
 use Rattle.int_spec.specs.Reading.{is_location, is_identifier}
 use Rattle.int_spec.specs.Pieces.{loop_size, descriptor_size, pieces}
 
--- a transport stream of a network
+-- a transport stream of a network (EN 301 192 clause 8.4)
 pub record NetworkFields : Type 0 where
   pub network_id : ℕ
   pub original_network_id : ℕ
   pub transport_stream_id : ℕ
 
--- where the stream of an entry is
+-- where the stream of an entry is (EN 301 192 clause 8.4)
 pub record LocationFields : Type 0 where
   pub network : NetworkFields
   pub service_id : ℕ
   pub component_tag : ℕ
 
--- what an operational loop tells: its one location, and three bytes of its first time_slice_fec_identifier
+-- what an operational loop tells: its one location, and three bytes of its first time_slice_fec_identifier (EN 301 192 clause 8.4)
 pub record OperationalFields : Type 0 where
   pub location : LocationFields
   pub slices : Option (List ℕ)
 
+-- the loops of a body
 abbrev pub loops_in : List ℕ → List (List ℕ)
 loops_in body = pieces loop_size (drop 9 body)
 
+-- the descriptors of a loop
 abbrev pub descriptors_in : List ℕ → List (List ℕ)
 descriptors_in loop = pieces descriptor_size (drop 2 loop)
 
--- all are whole, and after an even number or an odd one there are so many that it is odd
+-- all loops are whole, and with those before them, an even or an odd number, their number is odd
 abbrev pub has_pairs : Bool → List (List ℕ) → Bool
 has_pairs odd [] = odd
 has_pairs odd (loop ∷ loops) = is_loop loop && has_pairs (not odd) loops
 
+-- all descriptors of the loop are right
 abbrev pub is_right_loop : List ℕ → Bool
 is_right_loop loop = list_all is_right_descriptor (descriptors_in loop)
 
@@ -57,6 +60,7 @@ with_identifier (Some slices) b = Some slices
 abbrev pub goes_on : Option LocationFields → List ℕ → Bool
 goes_on known b = is_right_descriptor b && not (is_some known && is_location b)
 
+-- what an operational loop tells with these descriptors, after a location and an identifier, where there were some
 abbrev pub operational_from : Option LocationFields → Option (List ℕ) → List (List ℕ) → Option OperationalFields
 operational_from location slices [] = option_map (λ l. record { location = l; slices = slices }) location
 operational_from location slices (b ∷ descriptors) =
@@ -75,6 +79,7 @@ abbrev pub agrees : Option NetworkFields → NetworkFields → Bool
 agrees None n = true
 agrees (Some known) n = same_network known n
 
+-- the network of a table without entries: all numbers are 0
 abbrev pub no_network : NetworkFields
 no_network = record { network_id = 0; original_network_id = 0; transport_stream_id = 0 }
 

@@ -2,7 +2,7 @@
 use Rattle.std.specs.Prelude.{ℕ, zero, suc, ◌+◌, ◌%◌, ◌^◌, List, [], ◌∷◌, take, drop, length, slice_index}
 use Rattle.wire_spec.specs.Bytes.{u16_at}
 
--- the size that a loop tells, and that of a descriptor
+-- the size that a loop tells, and that of a descriptor (EN 301 192 clause 8.4)
 abbrev pub loop_size : List ℕ → ℕ
 loop_size b = 2 + u16_at b 0 % 2 ^ 12
 

@@ -8,23 +8,23 @@ use Rattle.section_spec.specs.Mpe.{is_current, is_only_section}
 use Rattle.int_spec.specs.Descriptors.{tag, stream_location, time_slice_fec_identifier, is_loop, rules_of, AreBytesOf, Holds}
 use Rattle.int_spec.specs.Table.{EntryFields, TableFields, hash_of}
 
--- table_id, action_type and current_next_indicator are those of a table in force
+-- table_id, action_type and current_next_indicator are those of a table in force (EN 301 192 clause 8.4)
 abbrev pub is_table : SectionFields → Bool
 is_table s = (s.table_id == 0x4C) && ((slice_index s.body 0 == 0x01) && is_current s.body)
 
--- the number in the three bytes of platform_id
+-- the number in the three bytes of platform_id (EN 301 192 clause 8.4)
 abbrev pub platform_id_of : List ℕ → ℕ
 platform_id_of body = slice_index body 5 * 2 ^ 16 + u16_at body 6
 
--- platform_id_hash is that of platform_id
+-- platform_id_hash is that of platform_id (EN 301 192 clause 8.4)
 abbrev pub has_right_hash : List ℕ → Bool
 has_right_hash body = slice_index body 1 == hash_of (drop 5 body)
 
--- version_number
+-- version_number (EN 301 192 clause 8.4)
 abbrev pub version_of : List ℕ → ℕ
 version_of body = slice_index body 2 / 2 % 2 ^ 5
 
--- the loops of a table: that of the platform, then a target loop and an operational loop for each entry
+-- the loops of a table: that of the platform, then a target loop and an operational loop for each entry (EN 301 192 clause 8.4)
 pub record LoopPair : Type 0 where
   pub target : List ℕ
   pub operational : List ℕ
@@ -36,18 +36,20 @@ pub record Loops : Type 0 where
 abbrev pub all_loops : Loops → List (List ℕ)
 all_loops loops = loops.platform ∷ flat_map (λ pair. pair.target ∷ pair.operational ∷ []) loops.pairs
 
--- the body holds these loops after its head of 9 bytes
+-- the body holds these loops after its head of 9 bytes (EN 301 192 clause 8.4)
 abbrev pub HasLoops : List ℕ → Loops → Type 0
 HasLoops body loops = AreBytesOf is_loop (drop 9 body) (all_loops loops)
 
+-- the descriptor is an IP/MAC_stream_location_descriptor
 abbrev pub is_location : List ℕ → Bool
 is_location b = tag b == stream_location
 
+-- the descriptor is a time_slice_fec_identifier_descriptor
 abbrev pub is_identifier : List ℕ → Bool
 is_identifier b = tag b == time_slice_fec_identifier
 
--- two loops carry an entry: the rules of all descriptors in the target loop, the one location in the operational loop, and
--- the first time_slice_fec_identifier there
+-- two loops carry an entry: the rules of all descriptors in the target loop, the one location in the operational loop, and the first time_slice_fec_identifier
+-- there (EN 301 192 clause 8.4)
 pub record CarriesEntry (table : TableFields) (pair : LoopPair) (entry : EntryFields) : Type 0 where
   pub target : List (List ℕ)
   pub operational : List (List ℕ)
@@ -69,7 +71,7 @@ pub record HasNoNetwork (table : TableFields) : Type 0 where
   pub original_network_id : table.original_network_id ≡ 0
   pub transport_stream_id : table.transport_stream_id ≡ 0
 
--- a body with these loops carries a table
+-- a body with these loops carries a table (EN 301 192 clause 8.4)
 pub record CarriesTable (body : List ℕ) (loops : Loops) (table : TableFields) : Type 0 where
   pub version : table.version ≡ version_of body
   pub platform_id : table.platform_id ≡ platform_id_of body
@@ -88,7 +90,7 @@ pub data Reading : Type 0 where
   more_sections : Reading
   carried : TableFields → Reading
 
--- bytes that are a section of a table
+-- bytes that are a section of a table (EN 301 192 clause 8.4)
 pub record IsOfTable (b : List ℕ) : Type 0 where
   pub section : is_section b ≡ true
   pub table_is : is_table (section_fields b) ≡ true
@@ -104,7 +106,7 @@ pub record IsDescribed (b : List ℕ) (table : TableFields) : Type 0 where
   pub in_loops : IsInLoops b loops
   pub carries : CarriesTable (section_fields b).body loops table
 
--- bytes that are an IP/MAC notification table; Profile: in one section
+-- bytes that are an IP/MAC notification table (EN 301 192 clause 8.4); Profile: in one section
 pub record IsInt (b : List ℕ) (table : TableFields) : Type 0 where
   pub described : IsDescribed b table
   pub hash : has_right_hash (section_fields b).body ≡ true

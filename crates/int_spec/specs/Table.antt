@@ -9,15 +9,15 @@ use Rattle.addr_rules.specs.declared.rules.Rule.{Rule}
 use Rattle.section_spec.specs.Section.{section_bytes}
 use Rattle.int_spec.specs.Descriptors.{target_ip_slash, target_ipv6_slash, stream_location, time_slice_fec_identifier}
 
--- an entry: the addresses that a stream is sent to, the stream's service and component,
--- and the first three bytes of its time_slice_fec_identifier, where it has one
+-- an entry: the addresses that a stream is sent to, the stream's service and component, and the first three bytes of its time_slice_fec_identifier, where it
+-- has one (EN 301 192 clause 8.4)
 pub record EntryFields : Type 0 where
   pub rules : List Rule
   pub service_id : ℕ
   pub component_tag : ℕ
   pub slices : Option (List ℕ)
 
--- a table: its version_number and platform_id, the network, original network and transport stream of all its streams, its entries
+-- a table: its version_number and platform_id, the network, original network and transport stream of all its streams, its entries (EN 301 192 clause 8.4)
 pub record TableFields : Type 0 where
   pub version : ℕ
   pub platform_id : ℕ
@@ -26,19 +26,19 @@ pub record TableFields : Type 0 where
   pub transport_stream_id : ℕ
   pub entries : List EntryFields
 
--- the three bytes of platform_id
+-- the three bytes of platform_id (EN 301 192 clause 8.4)
 abbrev pub three_bytes : ℕ → List ℕ
 three_bytes n = n / 2 ^ 16 ∷ n / 2 ^ 8 % 256 ∷ n % 256 ∷ []
 
--- platform_id_hash: the exclusive or of the three bytes of platform_id
+-- platform_id_hash: the exclusive or of the three bytes of platform_id (EN 301 192 clause 8.4)
 abbrev pub hash_of : List ℕ → ℕ
 hash_of b = bit_xor (bit_xor (slice_index b 0) (slice_index b 1)) (slice_index b 2)
 
--- a descriptor of this tag and content
+-- a descriptor of this tag and content (EN 301 192 clause 8.4)
 abbrev pub descriptor_bytes : ℕ → List ℕ → List ℕ
 descriptor_bytes tag content = tag ∷ length content ∷ content
 
--- a loop of this content; reserved bits are 1
+-- a loop of this content; reserved bits are 1 (EN 301 192 clause 8.4)
 abbrev pub loop_bytes : List ℕ → List ℕ
 loop_bytes content = to_be_bytes w16 (0xF000 + length content) ++ content
 
@@ -62,10 +62,11 @@ with_rule [] rule = (rule ∷ []) ∷ []
 with_rule (last ∷ []) rule = if goes_into last rule then (last ++ rule ∷ []) ∷ [] else last ∷ (rule ∷ []) ∷ []
 with_rule (group ∷ next ∷ others) rule = group ∷ with_rule (next ∷ others) rule
 
--- rules, one after another, by descriptors
+-- rules, one after another, by descriptors: neighbours of one version, as many as 255 bytes hold
 abbrev pub rule_groups : List Rule → List (List Rule)
 rule_groups rules = fold with_rule [] rules
 
+-- an address and a slash
 abbrev pub rule_bytes : Rule → List ℕ
 rule_bytes rule = address_bytes rule.address ++ rule.slash ∷ []
 
@@ -74,39 +75,40 @@ abbrev pub group_bytes : List Rule → List ℕ
 group_bytes [] = []
 group_bytes (first ∷ others) = descriptor_bytes (tag_of first.address) (flat_map rule_bytes (first ∷ others))
 
--- the contents of a target loop
+-- the contents of a target loop (EN 301 192 clause 8.4)
 abbrev pub target_bytes : List Rule → List ℕ
 target_bytes rules = flat_map group_bytes (rule_groups rules)
 
--- where the stream of an entry is
+-- where the stream of an entry is: the content of its IP/MAC_stream_location_descriptor
 abbrev pub location_bytes : TableFields → EntryFields → List ℕ
 location_bytes table entry =
     to_be_bytes w16 table.network_id ++ to_be_bytes w16 table.original_network_id ++ to_be_bytes w16 table.transport_stream_id
     ++ to_be_bytes w16 entry.service_id ++ entry.component_tag ∷ []
 
+-- the time_slice_fec_identifier_descriptor of an entry, where it has one
 abbrev pub slices_bytes : Option (List ℕ) → List ℕ
 slices_bytes None = []
 slices_bytes (Some slices) = descriptor_bytes time_slice_fec_identifier slices
 
--- the contents of an operational loop
+-- the contents of an operational loop (EN 301 192 clause 8.4)
 abbrev pub operational_bytes : TableFields → EntryFields → List ℕ
 operational_bytes table entry = descriptor_bytes stream_location (location_bytes table entry) ++ slices_bytes entry.slices
 
--- an entry: a target loop and an operational loop
+-- an entry: a target loop and an operational loop (EN 301 192 clause 8.4)
 abbrev pub entry_bytes : TableFields → EntryFields → List ℕ
 entry_bytes table entry = loop_bytes (target_bytes entry.rules) ++ loop_bytes (operational_bytes table entry)
 
--- all before the loops: action_type, platform_id_hash, reserved bits with version_number and current_next_indicator,
--- section_number, last_section_number, platform_id, processing_order
+-- all before the loops: action_type, platform_id_hash, reserved bits with version_number and current_next_indicator, section_number, last_section_number,
+-- platform_id, processing_order (EN 301 192 clause 8.4)
 abbrev pub head_bytes : TableFields → List ℕ
 head_bytes table =
     0x01 ∷ hash_of (three_bytes table.platform_id) ∷ (0xC1 + 2 * table.version) ∷ 0 ∷ 0 ∷ three_bytes table.platform_id ++ 0 ∷ []
 
--- the body of the section: the head, the platform loop, which is empty, and the entries
+-- the body of the section: the head, the platform loop, which is empty, and the entries (EN 301 192 clause 8.4)
 abbrev pub table_body : TableFields → List ℕ
 table_body table = head_bytes table ++ loop_bytes [] ++ flat_map (entry_bytes table) table.entries
 
--- the section
+-- the section (EN 301 192 clause 8.4)
 abbrev pub table_bytes : TableFields → List ℕ
 table_bytes table = section_bytes 0x4C 0xF0 (table_body table)
 

@@ -5,21 +5,21 @@ use Rattle.wire_spec.specs.Datagram.{version, header_length, total_length, ipv6_
 use Rattle.ip_datagram.specs.declared.hint.Hint.{Hint}
 use Rattle.ip_datagram.specs.declared.hint.Hint.TheVariants.{More, Padding, Length, Bad}
 
--- IPv4: IHL below 5 and a Total Length below the header's are of no datagram
+-- what the first bytes of an IPv4 datagram tell of its length: IHL below 5 and a Total Length below the header's are of no datagram (RFC 791 section 3.1)
 abbrev pub ipv4_hint : List ℕ → Hint
 ipv4_hint b =
     if nat_lt (length b) 4 then More else
     if nat_lt (header_length b) 20 || nat_lt (total_length b) (header_length b) then Bad else
     Length (total_length b)
 
--- IPv6: a jumbogram is refused
+-- what the first bytes of an IPv6 datagram tell of its length: a jumbogram is refused (RFC 8200 section 3)
 abbrev pub ipv6_hint : List ℕ → Hint
 ipv6_hint b =
     if nat_lt (length b) 7 then More else
     if u16_at b 4 + slice_index b 6 == 0 then Bad else
     Length (ipv6_length b)
 
--- Version 0 is padding, and another than 4 and 6 of no datagram
+-- what a prefix tells: more bytes are needed, padding, where Version is 0, a length, or no datagram (RFC 791 section 3.1, RFC 8200 section 3)
 abbrev pub hint_of : List ℕ → Hint
 hint_of b =
     if length b == 0 then More else

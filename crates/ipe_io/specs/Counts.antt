@@ -23,7 +23,7 @@ IsFlushed (Some bytes) (Some flushed) = flushed ≡ length bytes
 IsFlushed (Some bytes) None = ⊤
 IsFlushed None flushed = ⊤
 
--- the most bytes that a loaded file has
+-- the most bytes that a loaded file has: 1,048,576
 abbrev pub longest_file : ℕ
 longest_file = 1048576
 

@@ -44,6 +44,7 @@ IsFull room held piece = (0 < length piece) × (room ≤ length held)
 abbrev pub fitting : ℕ → List ℕ → List ℕ → ℕ
 fitting room held piece = min (length piece) (room - length held)
 
+-- a sink: its bytes, how many were flushed, how many have room, the calls so far, and how often it has failed
 pub record SinkState : Type 0 where
   pub bytes : List ℕ
   pub flushed : ℕ

@@ -19,7 +19,7 @@ use Rattle.ipencap_engine.specs.Reads.{TakesCapture}
 use Rattle.ipencap_engine.specs.declared.status.Status.{Status}
 use Rattle.ipencap_engine.specs.declared.status.Status.TheVariants as status
 
--- that of a send, a bridge and a relay that are done has numbers
+-- the line of a job that is done: that of a send, a bridge and a relay has numbers
 abbrev pub IsDoneLine : Intake → List ℕ → Type 0
 IsDoneLine no_input line = line ≡ []
 IsDoneLine a_capture line = (tally : Tally) × (line ≡ tally_line tally)
@@ -28,7 +28,7 @@ IsDoneLine a_relayed line = (tally : Tally) × (line ≡ tally_line tally)
 IsDoneLine an_ethernet_capture line = (tally : BridgeTally) × (line ≡ bridge_tally_line tally)
 IsDoneLine (an_ethernet_recording carrier) line = line ≡ []
 
--- that of refused settings says why the first file of them is refused that is
+-- the line of refused settings says why the first file of them is refused that is
 pub record IsRefusalLine (job : Job) (before : World) (line : List ℕ) : Type 0 where
   pub refusal : Refusal
   pub is : (bytes : List ℕ) → TellsSettings job before.shelf bytes → IsRefusalOf job before.shelf bytes refusal
@@ -43,7 +43,7 @@ ShowsFaultOf a_recording bytes fault place = ⊥
 ShowsFaultOf a_relayed bytes fault place = ⊥
 ShowsFaultOf (an_ethernet_recording carrier) bytes fault place = ⊥
 
--- that of a capture its fault, which the bytes show that were read, and the record that has it; a capture that is cut was read to its end
+-- the line of a capture's fault, which the bytes show that were read, and the record that has it; a capture that is cut was read to its end
 pub record IsFaultLine (intake : Intake) (before after : World) (line : List ℕ) : Type 0 where
   pub fault : CaptureFault
   pub place : ℕ
@@ -51,6 +51,7 @@ pub record IsFaultLine (intake : Intake) (before after : World) (line : List ℕ
   pub shown : TakesCapture before.input after.input (λ bytes. ShowsFaultOf intake bytes fault place)
   pub cut : is_cut fault ≡ true → after.input.ended ≡ true
 
+-- the line of a status
 abbrev pub IsLine : Job → Status → List ℕ → World → World → Type 0
 IsLine job status.Done line before after = IsDoneLine (row job).intake line
 IsLine job status.Settings line before after = IsRefusalLine job before line

@@ -37,6 +37,7 @@ pub record ReadsAll (job : Job) (before after : World) : Type 0 where
 abbrev pub GoesOn : InputTold → InputTold → Type 0
 GoesOn before after = before.ended ≡ false → after.ended ≡ false
 
+-- how much of a recording was read, by status: so many records or frames
 abbrev pub ReadsRecording : Job → Status → World → World → Type 0
 ReadsRecording job status.Done before after = ReadsAll job before after
 ReadsRecording job status.SinkFault before after = ReadsAll job before after
@@ -50,7 +51,7 @@ abbrev pub ReadsRelayed : Job → Status → World → World → Type 0
 ReadsRelayed job status.TooLong before after = TakesPieces job before after (λ count most. count ≤ most)
 ReadsRelayed job end before after = ReadsRecording job end before after
 
--- of pieces that carry Ethernet frames, for which there is no plan; where they were read to the end, the rack has one file more
+-- how much was read of pieces that carry Ethernet frames, for which there is no plan; where they were read to the end, the rack has one file more
 abbrev pub ReadsFrames : BridgeCarrier → Status → World → World → Type 0
 ReadsFrames carrier status.Done before after = TakesAllOf (size_of_piece carrier) before.input after.input × (after.rack.count ≡ before.rack.count + 1)
 ReadsFrames carrier status.SourceFault before after = TakesFrontOf (size_of_piece carrier) before.input after.input
@@ -86,14 +87,15 @@ ShowsNone (an_ethernet_recording carrier) bytes = ⊥
 abbrev pub TellsNoFault : Intake → InputTold → Type 0
 TellsNoFault intake input = (bytes : List ℕ) → input.left ≡ Some bytes → (captured : List (List ℕ)) × TellsNone intake bytes captured
 
--- at Done the told bytes have no fault; at SourceFault those that were read show none, or none but that they are cut; at Capture the
--- line has their fault
+-- how much of a capture was read, by status: at Done the told bytes have no fault; at SourceFault those that were read show none, or none but that they are
+-- cut; at Capture the line has their fault
 abbrev pub ReadsCapture : Intake → Status → World → World → Type 0
 ReadsCapture intake status.Done before after = (after.input.ended ≡ true) × TakesCapture before.input after.input (λ bytes. ⊤) × TellsNoFault intake before.input
 ReadsCapture intake status.SinkFault before after = TakesCapture before.input after.input (λ bytes. ⊤)
 ReadsCapture intake status.SourceFault before after = GoesOn before.input after.input × TakesCapture before.input after.input (ShowsNone intake)
 ReadsCapture intake end before after = ⊤
 
+-- how much was read, by what the job reads and by status
 abbrev pub Reads : Intake → Job → Status → World → World → Type 0
 Reads no_input job end before after = ⊤
 Reads a_capture job end before after = ReadsCapture a_capture end before after

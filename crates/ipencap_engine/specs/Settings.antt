@@ -12,10 +12,11 @@ use Rattle.ipencap_engine.specs.declared.status.Status.TheVariants as status
 abbrev pub GivesPlan : List ℕ → Type 0
 GivesPlan bytes = (plan : PlanFields) × IsAcceptedFile bytes plan
 
--- the second settings file, where it is told, gives one; a job has a second file, and where it is told, it is refused so
+-- the second settings file, where it is told, gives a plan
 abbrev pub GivesOuter : Job → ShelfTold → Type 0
 GivesOuter job shelf = (bytes : List ℕ) → TellsOuter job shelf bytes → GivesPlan bytes
 
+-- the job has a second settings file, and where it is told, it is refused so
 pub record OuterIsRefused (job : Job) (shelf : ShelfTold) (refusal : Refusal) : Type 0 where
   pub has : is_some (row job).outer ≡ true
   pub is : (bytes : List ℕ) → TellsOuter job shelf bytes → IsRefusedFile bytes refusal
@@ -46,6 +47,7 @@ pub data IsRefusedBy (job : Job) (shelf : ShelfTold) (refusal : Refusal) : Type 
 abbrev pub IsRefusing : Status → Type 0
 IsRefusing end = (end ≡ status.Settings) ⊎ ((end ≡ status.ShelfFault) ⊎ (end ≡ status.OutOfMemory))
 
+-- told settings give plans or are refused, the first of two files that is, and a refusal is the end of it
 pub record JudgesSettings (job : Job) (end : Status) (before : World) (same : Object → Type 0) : Type 0 where
   pub answer : (bytes : List ℕ) → TellsSettings job before.shelf bytes → IsAnswer job before.shelf bytes end
   pub accepted : (plan : PlanFields) → IsPlanOf job before.shelf plan → HasOuter job before.shelf → end ≢ status.Settings

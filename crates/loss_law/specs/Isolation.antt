@@ -34,6 +34,7 @@ abbrev pub read_of : (with_moment : Bool) → Record → Record
 read_of true r = r
 read_of false r = record { moment = option_map (λ time. 0) r.moment; bytes = r.bytes }
 
+-- the record has a moment and is a packet on a PID of the service's own
 abbrev pub is_on_own : PlanFields → ℕ → Record → Bool
 is_on_own plan k r = list_any (λ pid. is_on pid r) (pids_in plan k)
 

@@ -14,7 +14,7 @@ abbrev pub datagram_fault : Option IpFault → Option MpeFault
 datagram_fault None = None
 datagram_fault (Some fault) = Some (mpe.Datagram fault)
 
--- why a section is no datagram_section that is read
+-- why a section is no datagram_section that is read (EN 301 192 clause 7)
 abbrev pub mpe_refusal : SectionFields → Option MpeFault
 mpe_refusal s =
     if not (s.table_id == 0x3E) then Some mpe.Table else
@@ -24,7 +24,7 @@ mpe_refusal s =
     if not (is_only_section s.body) then Some mpe.Numbers else
     datagram_fault (refusal (drop 9 s.body))
 
--- why a section is no MPE-FEC section of a frame with so many rows
+-- why a section is no MPE-FEC section of a frame with so many rows (EN 301 192 clause 9)
 abbrev pub fec_refusal : ℕ → SectionFields → Option FecFault
 fec_refusal rows s =
     if not (s.table_id == 0x78) then Some fec.Table else

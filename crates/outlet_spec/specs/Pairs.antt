@@ -1,7 +1,7 @@
 -- What an outlet was told: pairs of service and datagram. An outlet stands for lists of them, before some calls and after them.
 use Rattle.std.specs.Prelude.{◌≡◌, ℕ, List, [], ◌∷◌, ◌++◌, ◌==◌, map, flat_map, if◌then◌else◌}
 
--- the pairs of a service
+-- the datagrams of a service, as pairs of service and datagram
 abbrev pub pairs_of : ℕ → List (List ℕ) → List (ℕ × List ℕ)
 pairs_of service datagrams = map (λ datagram. (service, datagram)) datagrams
 

@@ -17,12 +17,13 @@ pub record BeginsIn (units : List (List ℕ)) (from to n : ℕ) : Type 0 where
   pub after : from ≤ begin_of units n
   pub before : begin_of units n < to
 
--- a unit may begin with a packet's first byte; with packing on also after bytes of other units, where its
--- START bytes have room among the 183 after the pointer
+-- a unit may begin with a packet's first byte; with packing on also after bytes of other units, where its START bytes have room among the 183 after the pointer
+-- (ISO/IEC 13818-1 clause 2.4.4, RFC 4326 section 6)
 abbrev pub MayBegin : ℕ → Bool → ℕ → ℕ → Type 0
 MayBegin start packing from begin = (begin ≡ from) ⊎ ((packing ≡ true) × (from ≤ begin) × (begin + start ≤ from + 183))
 
--- a packet carries the bytes of units from one place to another
+-- the packet carries the bytes from one place to another, one at least; a unit begins in it exactly where it may; start indicator and pointer show the first;
+-- bytes FF stand after the end of a unit alone (ISO/IEC 13818-1 clause 2.4.4, RFC 4326 section 6)
 pub record IsPackedPacket (start : ℕ) (packing : Bool) (units : List (List ℕ)) (from to : ℕ) (packet : PacketFields) : Type 0 where
   -- one byte at least
   pub some : from < to
@@ -40,14 +41,15 @@ pub record IsPackedPacket (start : ℕ) (packing : Bool) (units : List (List ℕ
   -- bytes FF stand after the end of a unit alone
   pub ends : (stuffing ≡ 0) ⊎ ((n : ℕ) × (n < length units) × (to ≡ begin_of units (n + 1)))
 
--- the bytes end with a unit, and the next one may not begin there
+-- the bytes end with a unit, and the next one may not begin there (RFC 4326 section 6)
 pub record EndsUnits (start : ℕ) (packing : Bool) (units : List (List ℕ)) (from to : ℕ) : Type 0 where
   pub last : ℕ
   pub unit : last < length units
   pub end : to ≡ begin_of units (last + 1)
   pub none : last + 1 < length units → MayBegin start packing from to → ⊥
 
--- the packets of one PID carry all units: packet m those from place m to place (m + 1)
+-- the packets of one PID, with counters that go on, carry all units, each from where the one before ended: packet m those from place m to place (m + 1)
+-- (ISO/IEC 13818-1 clause 2.4.3.3, RFC 4326 section 6)
 pub record IsPacked (form : UnitForm) (packing : Bool) (pid counter : ℕ) (units : List (List ℕ)) (packets : List PacketFields) (place : ℕ → ℕ) : Type 0 where
   pub from_zero : place 0 ≡ 0
   pub to_end : place (length packets) ≡ length (joined units)

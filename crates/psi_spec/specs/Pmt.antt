@@ -11,11 +11,12 @@ use Rattle.int_spec.specs.Descriptors.{tag, is_descriptor}
 use Rattle.int_spec.specs.Pieces.{descriptor_size, pieces}
 use Rattle.psi_spec.specs.Psi.{is_psi_section, is_of_table, pid_in}
 
--- a stream, and the component_tag of its first stream_identifier_descriptor, where it has one
+-- a stream, and the component_tag of its first stream_identifier_descriptor, where it has one (ISO/IEC 13818-1 clause 2.4.4.8, EN 300 468 clause 6.2.39)
 pub record StreamFields : Type 0 where
   pub pid : ℕ
   pub tag : Option ℕ
 
+-- what a PMT says: the program's number, and PID and component_tag of each stream (ISO/IEC 13818-1 clause 2.4.4.8)
 pub record PmtFields : Type 0 where
   pub number : ℕ
   pub streams : List StreamFields
@@ -30,12 +31,15 @@ stream_identifier = 0x52
 abbrev pub is_right : List ℕ → Bool
 is_right b = is_descriptor b && (not (tag b == stream_identifier) || (slice_index b 1 == 1))
 
+-- the descriptors of some bytes
 abbrev pub descriptors_in : List ℕ → List (List ℕ)
 descriptors_in bytes = pieces descriptor_size bytes
 
+-- all descriptors of some bytes are right
 abbrev pub are_right : List ℕ → Bool
 are_right bytes = list_all is_right (descriptors_in bytes)
 
+-- the descriptor is a stream_identifier_descriptor
 abbrev pub is_identifier : List ℕ → Bool
 is_identifier b = tag b == stream_identifier
 
@@ -52,28 +56,35 @@ stream_head = 5
 abbrev pub stream_size : List ℕ → ℕ
 stream_size b = stream_head + u16_at b 3 % 2 ^ 12
 
+-- the stream is as long as it tells
 abbrev pub is_stream : List ℕ → Bool
 is_stream b = length b == stream_size b
 
+-- program_info_length
 abbrev pub info_size : List ℕ → ℕ
 info_size body = u16_at body 7 % 2 ^ 12
 
--- the descriptors of the program, and the streams
+-- the descriptors of the program
 abbrev pub program_info : List ℕ → List ℕ
 program_info body = take (info_size body) (drop pmt_head body)
 
+-- the streams of a body, one after another
 abbrev pub streams_part : List ℕ → List ℕ
 streams_part body = drop (pmt_head + info_size body) body
 
+-- the streams of a body
 abbrev pub stream_pieces : List ℕ → List (List ℕ)
 stream_pieces body = pieces stream_size (streams_part body)
 
+-- the descriptors of a stream
 abbrev pub stream_info : List ℕ → List ℕ
 stream_info stream = drop stream_head stream
 
+-- the component_tag of the first stream_identifier_descriptor of a stream
 abbrev pub tag_of : List ℕ → Option ℕ
 tag_of stream = option_map (λ b. slice_index b 2) (find is_identifier (descriptors_in (stream_info stream)))
 
+-- what a stream says
 abbrev pub stream_of : List ℕ → StreamFields
 stream_of stream = record { pid = pid_in (u16_at stream 1); tag = tag_of stream }
 
@@ -83,23 +94,25 @@ stream_of stream = record { pid = pid_in (u16_at stream 1); tag = tag_of stream 
 abbrev pub has_loops : List ℕ → Bool
 has_loops body = nat_le (pmt_head + info_size body) (length body) && list_all is_stream (stream_pieces body)
 
--- and all descriptors are right
+-- all descriptors of a stream are right
 abbrev pub has_right_info : List ℕ → Bool
 has_right_info stream = are_right (stream_info stream)
 
+-- all descriptors of the program and of its streams are right
 abbrev pub has_descriptors : List ℕ → Bool
 has_descriptors body = are_right (program_info body) && list_all has_right_info (stream_pieces body)
 
--- bytes are a PMT
+-- bytes are a PMT (ISO/IEC 13818-1 clause 2.4.4.8)
 unfoldable pub is_pmt : List ℕ → Bool
 is_pmt b =
     is_psi_section b && (is_of_table 0x02 (section_fields b) && (nat_le pmt_head (length (section_fields b).body)
     && (has_loops (section_fields b).body && has_descriptors (section_fields b).body)))
 
--- and say this
+-- what the body of a PMT says
 abbrev pub pmt_in_body : List ℕ → PmtFields
 pmt_in_body body = record { number = u16_at body 0; streams = map stream_of (stream_pieces body) }
 
+-- what a PMT says, of its bytes
 abbrev pub pmt_fields : List ℕ → PmtFields
 pmt_fields b = pmt_in_body (section_fields b).body
 
@@ -119,6 +132,7 @@ pub record IsWritablePmt (pmt : PmtFields) : Type 0 where
   pub streams : All IsWritableStream pmt.streams
   pub most : length pmt.streams ≤ 125
 
+-- the stream_identifier_descriptor of a component_tag, where there is one
 abbrev pub tag_bytes : Option ℕ → List ℕ
 tag_bytes None = []
 tag_bytes (Some tag) = stream_identifier ∷ 1 ∷ tag ∷ []
@@ -128,9 +142,10 @@ abbrev pub stream_bytes : StreamFields → List ℕ
 stream_bytes stream =
     0x80 ∷ to_be_bytes w16 (0xE000 + stream.pid) ++ to_be_bytes w16 (0xF000 + length (tag_bytes stream.tag)) ++ tag_bytes stream.tag
 
--- version_number 0, current_next_indicator 1, no PCR, and no descriptors of the program; reserved bits are 1
+-- the body of a PMT that is written: version_number 0, current_next_indicator 1, no PCR, and no descriptors of the program; reserved bits are 1
 abbrev pub pmt_body : PmtFields → List ℕ
 pmt_body pmt = to_be_bytes w16 pmt.number ++ (0xC1 ∷ 0 ∷ 0 ∷ 0xFF ∷ 0xFF ∷ 0xF0 ∷ 0 ∷ flat_map stream_bytes pmt.streams)
 
+-- the bytes of a PMT (ISO/IEC 13818-1 clause 2.4.4.8)
 abbrev pub pmt_bytes : PmtFields → List ℕ
 pmt_bytes pmt = section_bytes 0x02 0xB0 (pmt_body pmt)

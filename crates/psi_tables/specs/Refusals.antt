@@ -23,6 +23,7 @@ pat_body_refusal body =
     else Some pat.Numbers)
     else Some pat.Next
 
+-- the first test that bytes fail as a PAT
 abbrev pub pat_refusal : List ℕ → Option PatFault
 pat_refusal b =
     if is_psi_section b then (
@@ -46,6 +47,7 @@ pmt_body_refusal body =
     else Some pmt.Next)
     else Some pmt.Loop
 
+-- the first test that bytes fail as a PMT
 abbrev pub pmt_refusal : List ℕ → Option PmtFault
 pmt_refusal b =
     if is_psi_section b then (

@@ -7,7 +7,7 @@ use Rattle.ts_spec.specs.Reassembly.{Given, with_payload, ended_by, given_by, by
 use Rattle.ts_spec.specs.Events.{Event, unit_event, bad_check_event, delimit_event, bad_length_event, event_by, packet_events, events_of}
 use Rattle.ts_spec.specs.Packetized.{no_packet}
 
--- nothing has ended the list after the packet: each packet is continuous and without the start indicator
+-- nothing has ended the list after the packet: each packet is continuous and without the start indicator (RFC 4326 section 7)
 abbrev pub runs_on : PacketFields → List Arrival → Bool
 runs_on before [] = true
 runs_on before (arrival ∷ behind) =
@@ -20,11 +20,12 @@ is_told stuffing size = false
 is_told (whole n) size = nat_le n size
 is_told bad size = true
 
--- a unit under way: the moment of its first packet and the bytes that came
+-- a unit under way: the moment of its first packet and the bytes that came (RFC 4326 section 7)
 pub record Open : Type 0 where
   pub moment : ℕ
   pub bytes : List ℕ
 
+-- the unit under way with these bytes, as a list: none where they tell the outcome
 abbrev pub unless_told : UnitForm → ℕ → List ℕ → List Open
 unless_told form moment bytes =
     if is_told (form.span bytes) (length bytes) then [] else record { moment = moment; bytes = bytes } ∷ []
@@ -36,7 +37,7 @@ open_at form arrival behind start =
     then unless_told form arrival.moment (bytes_from start (packet_of arrival) behind).payloads
     else []
 
--- the unit under way after some packets: one or none
+-- the unit under way after some packets: one or none (RFC 4326 section 7)
 abbrev pub open_units : UnitForm → List Arrival → List Open
 open_units form [] = []
 open_units form (arrival ∷ behind) = flat_map (open_at form arrival behind) (unit_starts form (packet_of arrival)) ++ open_units form behind
@@ -50,7 +51,7 @@ last_packet before (arrival ∷ behind) = last_packet (packet_of arrival) behind
 abbrev pub nothing_given : Given
 nothing_given = record { payloads = []; rest = []; is_ended = false }
 
--- what the next packet gives: a continuous one its payload, or its pointer's bytes; another one nothing
+-- what the next packet gives: a continuous one its payload, or its pointer's bytes; another one nothing (RFC 4326 section 7)
 abbrev pub given_next : Bool → PacketFields → Given
 given_next is_continuous packet = if is_continuous then given_by packet nothing_given else ended_by packet
 
@@ -99,5 +100,6 @@ pub record IsUnderWay (form : UnitForm) (bytes : List ℕ) : Type 0 where
   pub untold : is_told (form.span bytes) (length bytes) ≡ false
   pub fits : length bytes < form.longest
 
+-- each unit under way after some packets is so
 abbrev pub AreUnderWay : UnitForm → List Arrival → Type 0
 AreUnderWay form packets = (unit : Open) → Contains (open_units form packets) unit → IsUnderWay form unit.bytes

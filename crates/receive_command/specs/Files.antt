@@ -20,18 +20,19 @@ file_with is_flushed name text = record {
 
 -- What the file of service k has.
 
--- before any record
+-- what the file of service k has before any record: the head alone
 abbrev pub head_of : ℕ → List ℕ
 head_of k = capture_head
 
--- of pairs of service and datagram: the capture of its datagrams among them
+-- the capture of service k of its datagrams among these pairs of service and datagram
 abbrev pub capture_of_pairs : List (ℕ × List ℕ) → ℕ → List ℕ
 capture_of_pairs pairs k = capture_head ++ records_at 0 pairs k
 
--- of what pieces tell, and of what a recording of them delivers
+-- the capture of service k of what pieces tell
 abbrev pub told_capture : PlanFields → List (List ℕ) → ℕ → List ℕ
 told_capture plan pieces k = capture_text (told_of plan k pieces)
 
+-- the capture of service k of what a recording of these pieces delivers
 abbrev pub delivered_capture : PlanFields → List (List ℕ) → ℕ → List ℕ
 delivered_capture plan pieces k = capture_text (delivered_of plan k pieces)
 
@@ -41,7 +42,7 @@ capture_and service text pairs k = capture_head ++ records_and 0 service text pa
 
 -- The files of all services.
 
--- of services in order, the first of them with this number: each with the text of its number, flushed or not
+-- the files of services in order, the first of them with this number: each with the text of its number, flushed or not
 abbrev pub files_from : Bool → ℕ → (ℕ → List ℕ) → List ServiceFields → List File
 files_from is_flushed k text [] = []
 files_from is_flushed k text (service ∷ services) = file_with is_flushed service.name (text k) ∷ files_from is_flushed (k + 1) text services
@@ -56,14 +57,14 @@ AddsFiles (Some old) (Some new) files = new ≡ old ++ files
 abbrev pub AddsCaptures : Bool → (ℕ → List ℕ) → List ServiceFields → Option (List File) → Option (List File) → Type 0
 AddsCaptures is_flushed text services old new = AddsFiles old new (files_from is_flushed 0 text services)
 
--- and the first of them, so many, are flushed
+-- the files of all services were added, and the first of them, so many, are flushed
 abbrev pub AddsFlushed : ℕ → (ℕ → List ℕ) → List ServiceFields → Option (List File) → Option (List File) → Type 0
 AddsFlushed count text services old new =
     AddsFiles old new (take count (files_from true 0 text services) ++ drop count (files_from false 0 text services))
 
 -- The files of the first services.
 
--- of fewer than all, with their heads
+-- files of the first services were added, fewer than all, with their heads
 pub record AddsHeads (services : List ServiceFields) (old new : Option (List File)) : Type 0 where
   pub count : ℕ
   pub fewer : count < length services
@@ -77,7 +78,7 @@ AddsPartOf head name old new = Stays old new ⊎ ((n : ℕ) × (n < length head)
 abbrev pub AddsPart : List ℕ → Option (List File) → Option (List File) → Type 0
 AddsPart name old new = AddsPartOf capture_head name old new
 
--- of so many, with their heads, and after them no file or that of the next service with less than its head
+-- files of so many first services were added, with their heads, and after them no file or that of the next service with less than its head
 pub record AddsHeadsPart (services : List ServiceFields) (count : ℕ) (old new : Option (List File)) : Type 0 where
   pub service : ServiceFields
   pub next : slice_get services count ≡ Some service

@@ -21,26 +21,28 @@ pub record TakesAllOf (size : ℕ) (input now : InputTold) : Type 0 where
   pub fewer : count < size * most_records
   pub taken : now.taken ≡ raised input.taken count
 
--- it could not be read on, and gave fewer
+-- an input of pieces of so many bytes could not be read on, and gave fewer bytes than the most pieces have
 pub record TakesFrontOf (size : ℕ) (input now : InputTold) : Type 0 where
   pub going : input.ended ≡ false → now.ended ≡ false
   pub count : ℕ
   pub fewer : count < size * most_records
   pub taken : now.taken ≡ raised input.taken count
 
--- it gave at most as many
+-- an input of pieces of so many bytes gave at most as many bytes as the most pieces have
 pub record TakesMostOf (size : ℕ) (input now : InputTold) : Type 0 where
   pub count : ℕ
   pub most : count ≤ size * most_records
   pub taken : now.taken ≡ raised input.taken count
 
--- the same of the pieces of a plan
+-- the pieces of a plan were read to the input's end, and gave fewer bytes than the most pieces have
 abbrev pub TakesAll : PlanFields → InputTold → InputTold → Type 0
 TakesAll plan input now = TakesAllOf (piece_size plan) input now
 
+-- of the pieces of a plan, an input could not be read on, and gave fewer
 abbrev pub TakesFront : PlanFields → InputTold → InputTold → Type 0
 TakesFront plan input now = TakesFrontOf (piece_size plan) input now
 
+-- of the pieces of a plan, an input gave at most as many bytes
 abbrev pub TakesMost : PlanFields → InputTold → InputTold → Type 0
 TakesMost plan input now = TakesMostOf (piece_size plan) input now
 

@@ -29,17 +29,20 @@ service_on plan k pid = on_pid (slice_index_or plan.services k no_service) pid
 abbrev pub takes_no_more : PlanFields → List Record → ℕ → ℕ → Bool
 takes_no_more plan records k pid = not (has_pid (pid_in plan (version_at_end plan records) k) pid)
 
--- what the records tell of service k: what its spans do, one after another, where sections may come to the frames of the span in force
+-- what the records tell of service k on one of its PIDs
 abbrev pub told_on : PlanFields → ℕ → List Record → ℕ → List (List ℕ)
 told_on plan k records pid = told_by (takes_no_more plan records k pid) plan.recording (service_on plan k pid) (span_of plan k pid records)
 
+-- what the records tell of service k: what its spans do, one after another. Of the PID in force the frame under way tells nothing yet: sections may still come
+-- to it
 abbrev pub told_of : PlanFields → ℕ → List Record → List (List ℕ)
 told_of plan k records = flat_map (told_on plan k records) (pids_in plan k)
 
--- what service k delivers where the recording ends: no more sections come to any frame
+-- what service k delivers on one of its PIDs, where the recording ends
 abbrev pub delivered_on : PlanFields → ℕ → List Record → ℕ → List (List ℕ)
 delivered_on plan k records pid = told_by true plan.recording (service_on plan k pid) (span_of plan k pid records)
 
+-- what service k delivers where the recording ends, on all its PIDs, one after another: no more sections come to any frame
 abbrev pub delivered_of : PlanFields → ℕ → List Record → List (List ℕ)
 delivered_of plan k records = flat_map (delivered_on plan k records) (pids_in plan k)
 
@@ -47,7 +50,7 @@ delivered_of plan k records = flat_map (delivered_on plan k records) (pids_in pl
 abbrev pub given_by_record : PlanFields → ℕ → List Record → ℕ → List (List ℕ)
 given_by_record plan k records place = drop (length (told_of plan k (take place records))) (told_of plan k (take (place + 1) records))
 
--- those that the end gives
+-- the datagrams that the end gives: of frames that it closes
 abbrev pub given_by_end : PlanFields → ℕ → List Record → List (List ℕ)
 given_by_end plan k records = drop (length (told_of plan k records)) (delivered_of plan k records)
 
@@ -55,9 +58,11 @@ given_by_end plan k records = drop (length (told_of plan k records)) (delivered_
 abbrev pub pairs_of : PlanFields → (ℕ → List (List ℕ)) → List (ℕ × List ℕ)
 pairs_of plan datagrams = flat_map (λ k. map (λ datagram. (k, datagram)) (datagrams k)) (range_with_len 0 (length plan.services))
 
+-- the pairs that the record at a place gives
 abbrev pub pairs_of_record : PlanFields → List Record → ℕ → List (ℕ × List ℕ)
 pairs_of_record plan records place = pairs_of plan (λ k. given_by_record plan k records place)
 
+-- the pairs that the end gives
 abbrev pub pairs_of_end : PlanFields → List Record → List (ℕ × List ℕ)
 pairs_of_end plan records = pairs_of plan (λ k. given_by_end plan k records)
 

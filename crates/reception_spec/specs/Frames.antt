@@ -8,7 +8,7 @@ use Rattle.frame_spec.specs.Corrected.{mended_rows, left_rows}
 use Rattle.frame_spec.specs.Delivered.{datagrams_of_frames}
 use Rattle.plan_spec.specs.Plan.{KindFields, ule, mpe, fec, gse}
 
--- the received frames of a service of this kind in a span, in recordings of this form: none where it has no frames
+-- the received frames of a service of this kind in a span, in recordings of this form: none where it has no frames (EN 301 192 clause 9)
 abbrev pub frames_received : RecordingForm → KindFields → List Record → List (List TimedSection)
 frames_received form (ule pid address packing) records = []
 frames_received form (mpe pid) records = []
@@ -19,7 +19,7 @@ frames_received form (gse isi address) records = []
 abbrev pub told_frames : Bool → RecordingForm → KindFields → List Record → List (List TimedSection)
 told_frames ended form kind records = closed_frames ended (frames_received form kind records)
 
--- the rows of its frames; 0 where it has none
+-- the rows of its frames; 0 where it has none (EN 301 192 clause 9)
 abbrev pub rows_of : KindFields → ℕ
 rows_of (ule pid address packing) = 0
 rows_of (mpe pid) = 0
@@ -34,9 +34,11 @@ pub record FrameNumbers : Type 0 where
   pub rows_left : ℕ
   pub datagrams : ℕ
 
+-- the numbers of no frames
 abbrev pub no_frames : FrameNumbers
 no_frames = record { frames = 0; rows_mended = 0; rows_left = 0; datagrams = 0 }
 
+-- the sums of the numbers of frames
 abbrev pub sum_of_frames : FrameNumbers → FrameNumbers → FrameNumbers
 sum_of_frames a b = record {
   frames = a.frames + b.frames;
@@ -45,6 +47,7 @@ sum_of_frames a b = record {
   datagrams = a.datagrams + b.datagrams;
 }
 
+-- the numbers of some received frames
 abbrev pub frame_numbers : ℕ → List (List TimedSection) → FrameNumbers
 frame_numbers rows frames = record {
   frames = length frames;

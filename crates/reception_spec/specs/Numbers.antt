@@ -12,7 +12,7 @@ use Rattle.reception_spec.specs.Units.{is_unread, is_filtered, delivered_by_unit
 
 -- Of one PID.
 
--- the packets that do not continue the one before them, where there is one
+-- the received packets that do not continue the one before them, where there is one (ISO/IEC 13818-1 clause 2.4.3.3)
 abbrev pub gaps_behind : PacketFields → List Arrival → ℕ
 gaps_behind before [] = 0
 gaps_behind before (arrival ∷ behind) =
@@ -47,7 +47,7 @@ is_bad_length bad_check_event = false
 is_bad_length delimit_event = false
 is_bad_length bad_length_event = true
 
--- received packets, duplicates, gaps; what became of the units that start in them
+-- received packets, duplicates and gaps of a PID; what became of the units that start in them
 pub record PidNumbers : Type 0 where
   pub heard : ℕ
   pub repeats : ℕ
@@ -57,9 +57,11 @@ pub record PidNumbers : Type 0 where
   pub delimited : ℕ
   pub bad_length : ℕ
 
+-- the numbers of no packets
 abbrev pub no_numbers : PidNumbers
 no_numbers = record { heard = 0; repeats = 0; gaps = 0; units = 0; bad_check = 0; delimited = 0; bad_length = 0 }
 
+-- the numbers of a PID in a recording
 abbrev pub pid_numbers : UnitForm → ℕ → List Record → PidNumbers
 pid_numbers form pid records = record {
   heard = length (received_packets pid records);
@@ -71,6 +73,7 @@ pid_numbers form pid records = record {
   bad_length = count_by is_bad_length (events_of form (received_packets pid records));
 }
 
+-- the numbers of a PID, where there is one
 abbrev pub numbers_if_on : UnitForm → Option ℕ → List Record → PidNumbers
 numbers_if_on form None records = no_numbers
 numbers_if_on form (Some pid) records = pid_numbers form pid records
@@ -82,6 +85,7 @@ abbrev pub units_on : UnitForm → Option ℕ → List Record → List (List ℕ
 units_on form None records = []
 units_on form (Some pid) records = map (λ (accepted : PlacedUnit). accepted.unit) (accepted_units form pid records)
 
+-- the accepted units of a service
 abbrev pub units_of : ServiceFields → List Record → List (List ℕ)
 units_of service records = units_on (form_of_kind service.kind) (pid_of service.kind) records
 

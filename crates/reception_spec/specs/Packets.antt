@@ -6,7 +6,7 @@ use Rattle.ts_spec.specs.Recording.{Record}
 use Rattle.ts_spec.specs.Received.{is_of}
 use Rattle.plan_spec.specs.Plan.{PlanFields, table_pids, service_pids}
 
--- a packet with an adaptation field alone
+-- a packet with an adaptation field alone (ISO/IEC 13818-1 clause 2.4.3.3)
 abbrev pub is_without_payload : List ℕ → Bool
 is_without_payload bytes = not (lacks_sync bytes || (is_marked bytes || has_bad_adaptation bytes)) && lacks_payload bytes
 

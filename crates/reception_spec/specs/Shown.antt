@@ -7,7 +7,7 @@ use Rattle.plan_spec.specs.InForce.{version_in}
 use Rattle.reception_spec.specs.Table.{is_int_section, table_sections}
 use Rattle.reception_spec.specs.Spans.{version_at_end}
 
--- a section says this version of the plan
+-- a section says this version of the plan (EN 301 192 clause 8.4)
 abbrev pub says_version : PlanFields → ℕ → List ℕ → Bool
 says_version plan version section = has_pid (version_in plan section) version
 

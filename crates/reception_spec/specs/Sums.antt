@@ -9,18 +9,20 @@ use Rattle.reception_spec.specs.Spans.{version_at_place, span_of}
 use Rattle.reception_spec.specs.Frames.{told_frames, rows_of, FrameNumbers, no_frames, sum_of_frames, frame_numbers}
 use Rattle.reception_spec.specs.Delivered.{service_on, takes_no_more}
 
--- the records that are packets of no service and not of the INT, each by the version in force at its place
+-- how many records are packets of no service and not of the INT, each by the version in force at its place
 abbrev pub others_from : PlanFields → List Record → ℕ → List Record → ℕ
 others_from plan records place [] = 0
 others_from plan records place (r ∷ behind) =
     (if is_other (plan_in plan (version_at_place plan records place)) r then 1 else 0) + others_from plan records (place + 1) behind
 
+-- how many records there are, and how many of them are of no service, by cause: unreadable, without payload, or of another PID
 pub record StreamNumbers : Type 0 where
   pub records : ℕ
   pub unreadable : ℕ
   pub without_payload : ℕ
   pub other : ℕ
 
+-- these numbers of a recording
 abbrev pub stream_numbers : PlanFields → List Record → StreamNumbers
 stream_numbers plan records = record {
   records = length records;
@@ -29,7 +31,7 @@ stream_numbers plan records = record {
   other = others_from plan records 0 records;
 }
 
--- Of service k: the sums over its spans, and what its units of all spans give.
+-- the sums of the numbers of PIDs
 abbrev pub sum_of_numbers : PidNumbers → PidNumbers → PidNumbers
 sum_of_numbers a b = record {
   heard = a.heard + b.heard;
@@ -41,28 +43,33 @@ sum_of_numbers a b = record {
   bad_length = a.bad_length + b.bad_length;
 }
 
+-- the numbers of service k on one of its PIDs, in the span of this PID
 abbrev pub numbers_on : PlanFields → ℕ → List Record → ℕ → PidNumbers
 numbers_on plan k records pid = service_pid_numbers (service_on plan k pid) (span_of plan k pid records)
 
+-- the numbers of service k: the sums over its spans
 abbrev pub numbers_of : PlanFields → ℕ → List Record → PidNumbers
 numbers_of plan k records = fold sum_of_numbers no_numbers (map (numbers_on plan k records) (pids_in plan k))
 
+-- the accepted units of service k in all its spans
 abbrev pub units_in_spans : PlanFields → ℕ → List Record → List (List ℕ)
 units_in_spans plan k records = flat_map (λ pid. units_of (service_on plan k pid) (span_of plan k pid records)) (pids_in plan k)
 
+-- what these units give
 abbrev pub unit_numbers_of : PlanFields → ℕ → List Record → UnitNumbers
 unit_numbers_of plan k records = unit_numbers (slice_index_or plan.services k no_service) (units_in_spans plan k records)
 
--- What the frames of its spans give. Of one span: of all its frames, or of those that are closed while sections may come.
+-- the numbers of the frames of service k in one span: of all its frames, or of those that are closed while sections may come
 abbrev pub frame_numbers_on : Bool → PlanFields → ℕ → List Record → ℕ → FrameNumbers
 frame_numbers_on ended plan k records pid =
     frame_numbers (rows_of (service_on plan k pid).kind)
     (told_frames ended plan.recording (service_on plan k pid).kind (span_of plan k pid records))
 
--- told so far, and where the recording ends
+-- over all its spans, as told so far
 abbrev pub told_frame_numbers : PlanFields → ℕ → List Record → FrameNumbers
 told_frame_numbers plan k records =
     fold sum_of_frames no_frames (map (λ pid. frame_numbers_on (takes_no_more plan records k pid) plan k records pid) (pids_in plan k))
 
+-- and where the recording ends
 abbrev pub frame_numbers_of : PlanFields → ℕ → List Record → FrameNumbers
 frame_numbers_of plan k records = fold sum_of_frames no_frames (map (frame_numbers_on true plan k records) (pids_in plan k))

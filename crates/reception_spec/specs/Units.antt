@@ -11,12 +11,13 @@ use Rattle.frame_spec.specs.Sections.{frame_sections_in}
 use Rattle.plan_spec.specs.Plan.{KindFields, ule, mpe, fec, gse, ServiceFields}
 use Rattle.stream_spec.specs.Services.{carried_by_unit}
 
--- the label of an SNDU: its NPA address; one without an address is for all receivers
+-- the label of an SNDU: its NPA address; one without an address is for all receivers (RFC 4326 section 4.5)
 abbrev pub label_of_npa : Option (List ℕ) → Label
 label_of_npa None = Broadcast
 label_of_npa (Some npa) = Six npa
 
--- the label of a unit: an NPA address, or MAC_address_1 to _6. Sections of frames have none: such a service has no filter
+-- the label of a unit: an NPA address, or MAC_address_1 to _6 (RFC 4326 section 4.5, EN 301 192 clause 7). Sections of frames are for all receivers: such a
+-- service has no filter
 abbrev pub label_of : KindFields → List ℕ → Label
 label_of (ule pid address packing) unit = label_of_npa (sndu_fields unit).npa
 label_of (mpe pid) unit = Six (mac_in (section_fields unit).body)
@@ -42,6 +43,6 @@ is_unread service unit = not (is_read service.kind unit)
 abbrev pub is_filtered : ServiceFields → List ℕ → Bool
 is_filtered service unit = not (is_unread service unit) && not (wants_unit service unit)
 
--- what is delivered of it, as a list of at most one
+-- what is delivered of the unit by itself, as a list of at most one; of a section of a frame nothing
 abbrev pub delivered_by_unit : ServiceFields → List ℕ → List (List ℕ)
 delivered_by_unit service unit = if wants_unit service unit then carried_by_unit service.kind unit else []

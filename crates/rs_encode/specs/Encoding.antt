@@ -24,7 +24,7 @@ parity_of columns = columns.parity.now
 abbrev pub buffer_of : Columns → GName
 buffer_of columns = columns.parity.ghost_name
 
--- the columns pushed are these, one after another, and each row of them followed by its parity is zero at the powers 0 to 63 of 2
+-- the encoder was given these columns, one after another, and each row of them followed by its parity is zero at the powers 0 to 63 of 2 (EN 301 192 clause 9)
 pub record Stands (columns : Columns) (given : List ℕ) : Type 0 where
   pub long : length given ≡ pushed_of columns * rows_of columns
   pub bytes : AreBytes given

@@ -6,7 +6,7 @@ use Rattle.plan_spec.specs.Given.{sample_plan}
 use Rattle.plan_spec.specs.Offered.{Records, offered_in}
 use Rattle.sample_spec.specs.Draws.{draw_at}
 
--- how many datagrams are offered
+-- how many datagrams are offered: 4,000
 abbrev pub datagram_count : ℕ
 datagram_count = 4000
 
@@ -17,7 +17,7 @@ service_drawn number i = draw_at number (2 * i) % 2
 abbrev pub length_drawn : ℕ → ℕ → ℕ
 length_drawn number i = 28 + draw_at number (2 * i + 1) % 1373
 
--- an IPv4 datagram of UDP from 10.0.0.1 to 239.1.0.1, which is the first service's, or 239.2.0.1
+-- an IPv4 datagram of UDP from 10.0.0.1 to 239.1.0.1, which is the first service's, or 239.2.0.1 (RFC 791 section 3.1)
 abbrev pub head_of : ℕ → ℕ → List ℕ
 head_of size service =
     0x45 ∷ 0 ∷ size / 256 ∷ size % 256 ∷ 0 ∷ 0 ∷ 0 ∷ 0 ∷ 0x40 ∷ 0x11 ∷ 0 ∷ 0 ∷ 10 ∷ 0 ∷ 0 ∷ 1 ∷ 239 ∷ (service + 1) ∷ 0 ∷ 1 ∷ []
@@ -26,6 +26,7 @@ head_of size service =
 abbrev pub bytes_after_head : ℕ → ℕ → List ℕ
 bytes_after_head i size = map (λ j. (i + j) % 256) (range_with_len 0 (size - 20))
 
+-- datagram i: its head and these bytes
 abbrev pub datagram_drawn : ℕ → ℕ → List ℕ
 datagram_drawn number i = head_of (length_drawn number i) (service_drawn number i) ++ bytes_after_head i (length_drawn number i)
 

@@ -14,9 +14,11 @@ use Rattle.sample_spec.specs.Datagrams.{datagram_count, sample_datagrams}
 abbrev pub is_dropped : ℕ → ℕ → Bool
 is_dropped number place = nat_lt (draw_at number (2 * datagram_count + place) % 100) 3
 
+-- the places of a stream
 abbrev pub places : List (List ℕ) → List ℕ
 places stream = range_with_len 0 (length stream)
 
+-- how many packets are dropped
 abbrev pub dropped_count : ℕ → List (List ℕ) → ℕ
 dropped_count number stream = count_by (is_dropped number) (places stream)
 
@@ -31,13 +33,15 @@ sent_count number k = length (sample_datagrams number 0 k)
 abbrev pub delivered_count : ℕ → List (List ℕ) → ℕ → ℕ
 delivered_count number stream k = raised 0 (length (delivered_of sample_plan k (records_of sample_plan.recording (kept_of number stream))))
 
--- the lines of the summary: a text and a number, or a service's name and its two numbers
+-- a line of the summary: a text and a number
 abbrev pub count_line : List ℕ → ℕ → List ℕ
 count_line text count = text ++ 32 ∷ decimal count ++ 10 ∷ []
 
+-- a line of the summary: a service's name and its two numbers
 abbrev pub service_line : List ℕ → ℕ → ℕ → List ℕ
 service_line name sent delivered = name ++ 32 ∷ decimal sent ++ 32 ∷ decimal delivered ++ 10 ∷ []
 
+-- the five lines of the summary, of the number and its stream
 abbrev pub sample_text : ℕ → List (List ℕ) → List ℕ
 sample_text number stream =
     count_line (codes "offered") datagram_count

@@ -10,7 +10,7 @@ use Rattle.section_codec.specs.declared.section.SectionFault.TheVariants.{Short,
 abbrev pub fields_in : SectionRef → SectionFields
 fields_in s = record { table_id = s.table_id; body = s.body.now }
 
--- why bytes are no section: the first test that fails
+-- why bytes are no section: the first test that fails, Short, Length, Syntax, then Crc (ISO/IEC 13818-1 clause 2.4.4)
 abbrev pub refusal : List ℕ → Option SectionFault
 refusal b =
     if nat_lt (length b) 3 then Some Short else

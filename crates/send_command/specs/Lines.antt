@@ -4,7 +4,7 @@ use Rattle.pcap_file.specs.declared.faults.CaptureFault.{CaptureFault}
 use Rattle.pcap_file.specs.declared.faults.CaptureFault.TheVariants as fault
 use Rattle.send_command.specs.declared.ends.Tally.{Tally}
 
--- what became of the records
+-- the line of a send: what became of the records
 unfoldable pub tally_line : Tally → List ℕ
 tally_line tally =
     codes "ipencap: offered " ++ decimal tally.offered
@@ -25,6 +25,6 @@ number_of fault.RecordTooLong = 7
 number_of fault.TooMany = 8
 number_of fault.TooLong = 9
 
--- the fault, and the record that has it
+-- the line of a capture's fault, and of the record that has it
 unfoldable pub fault_line : CaptureFault → ℕ → List ℕ
 fault_line found place = codes "ipencap: capture " ++ decimal (number_of found) ++ codes " at record " ++ decimal place ++ 10 ∷ []

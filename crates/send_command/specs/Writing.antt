@@ -23,7 +23,7 @@ pub record WritesFront (plan : PlanFields) (gives : Records) (old new : Option (
   pub count : ℕ
   pub written : Appends old new (take count (joined stream))
 
--- by the answer
+-- what is written of what was offered, by the answer
 abbrev pub Writes : PlanFields → Records → Result Tally MuxFault → Option (List ℕ) → Option (List ℕ) → Type 0
 Writes plan gives (Ok tally) old new = WritesAll plan gives tally old new
 Writes plan gives (Err fault) old new = WritesFront plan gives old new

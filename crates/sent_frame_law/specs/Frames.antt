@@ -8,15 +8,16 @@ use Rattle.frame_spec.specs.Sections.{FrameSection}
 use Rattle.frame_spec.specs.Sender.{frame_of, sections_to_send}
 use Rattle.stream_spec.specs.Units.{mac_for}
 
--- the sections of the frame of these datagrams, of which so many columns are sent; section i has the delta_t delta i
+-- the sections of the frame of these datagrams, of which so many columns are sent; section i has the delta_t delta i (EN 301 192 clause 9)
 unfoldable pub sections_of_frame : ℕ → ℕ → List ℕ → (ℕ → ℕ) → List (List ℕ) → List FrameSection
 sections_of_frame rows columns unicast delta datagrams = sections_to_send rows (frame_of rows columns datagrams) (mac_for unicast) delta
 
--- a datagram that a datagram_section has room for
+-- a datagram that a datagram_section has room for: 4,080 bytes at most
 pub record IsSendable (datagram : List ℕ) : Type 0 where
   pub is : IsDatagram datagram
   pub size : length datagram ≤ 4080
 
+-- each of these datagrams is so
 abbrev pub AreSendable : List (List ℕ) → Type 0
 AreSendable datagrams = All IsSendable datagrams
 

@@ -3,6 +3,7 @@ use Rattle.std.specs.Prelude.{ℕ}
 use Rattle.wire_spec.specs.Causes.{raised}
 use Rattle.service_counts.specs.declared.counts.ServiceCounts.{ServiceCounts}
 
+-- the sums of the numbers of a service, which stay at 2^64 - 1 once they are there
 abbrev pub raised_counts : ServiceCounts → ServiceCounts → ServiceCounts
 raised_counts a b = record {
   heard = raised a.heard b.heard;

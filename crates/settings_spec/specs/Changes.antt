@@ -14,6 +14,7 @@ pub record MovedValues (R : Type 0) : Type 0 where
   pub pid : Option ℕ
   pub rules : Option (List R)
 
+-- a change with services by their names, and nothing of what stays
 pub record ChangeValues (R : Type 0) : Type 0 where
   pub at : ℕ
   pub moved : List (MovedValues R)

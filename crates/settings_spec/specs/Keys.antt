@@ -43,6 +43,7 @@ abbrev pub list_of : Items → List Data
 list_of no_items = []
 list_of (item d ds) = d ∷ list_of ds
 
+-- the items of an array that a value is
 abbrev pub as_list : Data → Option (List Data)
 as_list value = option_map list_of (as_array value)
 
@@ -51,15 +52,19 @@ abbrev pub natural : ℤ → Option ℕ
 natural (pos n) = Some n
 natural (negsuc n) = None
 
+-- the whole number from 0 on that a value is
 abbrev pub as_natural : Data → Option ℕ
 as_natural d = option_and_then natural (as_integer d)
 
+-- the value is a whole number
 abbrev pub is_integer : Data → Bool
 is_integer d = is_some (as_integer d)
 
+-- the value is a text
 abbrev pub is_text : Data → Bool
 is_text d = is_some (as_str d)
 
+-- the value is a table
 abbrev pub is_table : Data → Bool
 is_table d = is_some (as_table d)
 
@@ -106,9 +111,11 @@ pub record KeyRule : Type 0 where
   pub is_required : Bool
   pub values : Values
 
+-- a key that must be there
 abbrev pub required : List ℕ → Values → KeyRule
 required name values = record { name = name; is_required = true; values = values }
 
+-- a key that may be missing
 abbrev pub optional : List ℕ → Values → KeyRule
 optional name values = record { name = name; is_required = false; values = values }
 
@@ -169,6 +176,7 @@ address_or default key entries = unwrap_or (option_and_then mac_of_text (option_
 unfoldable pub items_at : List ℕ → Members → List Data
 items_at key entries = unwrap_or (option_and_then as_list (get_member key entries)) []
 
+-- the texts of a list, none where there is no list
 abbrev pub texts_at : List ℕ → Members → List (List ℕ)
 texts_at key entries = filter_map as_str (items_at key entries)
 
@@ -176,8 +184,10 @@ texts_at key entries = filter_map as_str (items_at key entries)
 unfoldable pub texts_if_any : List ℕ → Members → Option (List (List ℕ))
 texts_if_any key entries = option_map (λ items. filter_map as_str items) (option_and_then as_list (get_member key entries))
 
+-- the tables of a list, none where there is no list
 abbrev pub tables_at : List ℕ → Members → List Members
 tables_at key entries = filter_map as_table (items_at key entries)
 
+-- the table at a key, where there is one
 unfoldable pub table_at : List ℕ → Members → Option Members
 table_at key entries = option_and_then as_table (get_member key entries)

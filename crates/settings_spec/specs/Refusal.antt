@@ -18,6 +18,7 @@ pub record IsDocument (bytes : List ℕ) (top : Members) : Type 0 where
   pub text : IsUtf8 bytes
   pub read : parse_document bytes ≡ Some top
 
+-- the bytes are no document
 abbrev pub IsNoDocument : List ℕ → Type 0
 IsNoDocument bytes = IsUtf8 bytes → parse_document bytes ≡ None
 
@@ -74,6 +75,7 @@ HasNoRule top = (rules : List (ServiceRules Rule)) (changes : List (ChangeValues
 
 -- The checks over the whole, each by its fault: which of them fail, and their order.
 
+-- the check over the whole that has this fault fails
 abbrev pub Fails : Members → SettingsFault → Type 0
 Fails top wrong_carrier = has_wrong_carrier (plan_of top) ≡ true
 Fails top same_name = has_same_name (plan_of top) ≡ true
@@ -90,6 +92,7 @@ Fails top (wrong_type key) = ⊥
 Fails top (out_of_range key) = ⊥
 Fails top unknown_key = ⊥
 
+-- the checks over the whole by their faults, in their order
 abbrev pub whole_checks : List SettingsFault
 whole_checks = wrong_carrier ∷ same_name ∷ same_pid ∷ wrong_change ∷ wrong_rules ∷ no_stamps ∷ wrong_window ∷ short_gap ∷ long_cycle ∷ []
 

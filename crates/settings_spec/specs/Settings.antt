@@ -17,6 +17,7 @@ says_baseband top = bytes_eq (text_or (codes "ts") (codes "carrier") top) (codes
 
 -- The keys.
 
+-- the keys of the top table that are neither tables nor lists of them
 abbrev pub value_keys : List KeyRule
 value_keys =
     optional (codes "carrier") (one_of (codes "ts" ∷ codes "bb" ∷ []))
@@ -30,9 +31,11 @@ value_keys =
 abbrev pub int_key : Members → KeyRule
 int_key top = record { name = codes "int"; is_required = is_some (get_member (codes "change") top); values = one_table }
 
+-- the list of services: 1 to 16 of baseband frames, 1 to 64 of transport packets
 abbrev pub service_key : Members → KeyRule
 service_key top = required (codes "service") (tables (if says_baseband top then 16 else 64))
 
+-- the keys of the top table, in order, but for the changes
 abbrev pub top_keys : Members → List KeyRule
 top_keys top = value_keys ++ int_key top ∷ service_key top ∷ []
 
@@ -40,6 +43,7 @@ top_keys top = value_keys ++ int_key top ∷ service_key top ∷ []
 abbrev pub change_key : KeyRule
 change_key = optional (codes "change") (tables 31)
 
+-- the keys of a change: the record from which on it holds, and the services that it moves
 abbrev pub change_keys : List KeyRule
 change_keys = required (codes "at") (range 2 4194304) ∷ required (codes "service") (tables 64) ∷ []
 
@@ -54,6 +58,7 @@ names_of rules = map (λ (rule : KeyRule). rule.name) rules
 abbrev pub top_names : Members → List (List ℕ)
 top_names top = names_of (top_keys top) ++ codes "change" ∷ []
 
+-- the keys of the INT, in order
 abbrev pub int_keys : List KeyRule
 int_keys =
     required (codes "pid") (range 32 8190)
@@ -92,9 +97,11 @@ rules_key = required (codes "rules") texts
 abbrev pub urgent_key : KeyRule
 urgent_key = optional (codes "urgent") texts
 
+-- the addresses that a filter wants
 abbrev pub filter_key : KeyRule
 filter_key = optional (codes "filter") addresses
 
+-- the last keys of a service, of every kind
 abbrev pub last_keys : List KeyRule
 last_keys =
     optional (codes "unicast") address_text
@@ -102,19 +109,24 @@ last_keys =
     ∷ optional (codes "component_tag") (range 0 255)
     ∷ []
 
+-- the keys of a service of kind "ule", in order
 abbrev pub ule_keys : List KeyRule
 ule_keys =
     name_key ∷ kind_key ∷ pid_key ∷ address_key ∷ optional (codes "packing") flag ∷ rules_key ∷ filter_key ∷ last_keys
 
+-- the keys of a service of kind "mpe", in order
 abbrev pub mpe_keys : List KeyRule
 mpe_keys = name_key ∷ kind_key ∷ pid_key ∷ rules_key ∷ filter_key ∷ last_keys
 
+-- the keys of a service of kind "fec" and mode "indexed", in order
 abbrev pub indexed_keys : List KeyRule
 indexed_keys = name_key ∷ kind_key ∷ pid_key ∷ (frame_keys ++ rules_key ∷ last_keys)
 
+-- the keys of a service of kind "fec" and mode "sliced", in order
 abbrev pub sliced_keys : List KeyRule
 sliced_keys = name_key ∷ kind_key ∷ pid_key ∷ (frame_keys ++ window_keys ++ rules_key ∷ last_keys)
 
+-- the keys of a service of kind "gse", in order
 abbrev pub gse_keys : List KeyRule
 gse_keys = name_key ∷ kind_key ∷ required (codes "isi") (range 0 255) ∷ address_key ∷ rules_key ∷ urgent_key ∷ filter_key ∷ last_keys
 
@@ -140,21 +152,26 @@ kind_fault service =
 unfoldable pub service_fault : Members → Option SettingsFault
 service_fault service = first_of (key_fault kind_key service) (kind_fault service)
 
+-- the first fault of services, in order
 abbrev pub services_fault : List Members → Option SettingsFault
 services_fault [] = None
 services_fault (service ∷ services) = first_of (service_fault service) (services_fault services)
 
+-- the fault of the INT, where there is one
 unfoldable pub int_fault : Option Members → Option SettingsFault
 int_fault None = None
 int_fault (Some int) = table_fault int_keys int
 
+-- the first fault of the services that a change moves
 abbrev pub moved_fault : List Members → Option SettingsFault
 moved_fault [] = None
 moved_fault (moved ∷ others) = first_of (table_fault moved_keys moved) (moved_fault others)
 
+-- the fault of a change: of its own keys, then of the services that it moves
 unfoldable pub change_fault : Members → Option SettingsFault
 change_fault change = first_of (table_fault change_keys change) (moved_fault (tables_at (codes "service") change))
 
+-- the first fault of changes, in order
 abbrev pub changes_fault : List Members → Option SettingsFault
 changes_fault [] = None
 changes_fault (change ∷ changes) = first_of (change_fault change) (changes_fault changes)
@@ -163,7 +180,8 @@ changes_fault (change ∷ changes) = first_of (change_fault change) (changes_fau
 abbrev pub top_fault : Members → Option SettingsFault
 top_fault top = first_of (unknown_fault (top_names top) top) (keys_fault (top_keys top) top)
 
--- the top table first, then int, then each service in order, then the list of changes, then each change and the services that it moves
+-- the first fault of all tables: the top table first, then int, then each service in order, then the list of changes, then each change and the services that it
+-- moves
 unfoldable pub tables_fault : Members → Option SettingsFault
 tables_fault top =
     first_of (top_fault top) (first_of (int_fault (table_at (codes "int") top)) (first_of (services_fault (tables_at (codes "service") top))
@@ -171,15 +189,18 @@ tables_fault top =
 
 -- The plan.
 
+-- the form of recording that a text names
 abbrev pub recording_of : List ℕ → RecordingForm
 recording_of text =
     if bytes_eq text (codes "stamped") then stamped else
     if bytes_eq text (codes "m2ts") then m2ts else
     plain
 
+-- the window that the keys of a service give
 abbrev pub window_of : Members → WindowFields
 window_of service = record { start = number_or 0 (codes "window_start") service; length = number_or 0 (codes "window_length") service }
 
+-- the kind of a service, by its keys or their defaults
 unfoldable pub kind_of : Members → KindFields
 kind_of service =
     if bytes_eq (kind_text service) (codes "ule") then
@@ -203,10 +224,12 @@ service_of place service = record {
   component_tag = number_or place (codes "component_tag") service;
 }
 
+-- services of the list, the first of them at this place, still without rules
 abbrev pub services_of : ℕ → List Members → List ServiceFields
 services_of place [] = []
 services_of place (service ∷ services) = service_of place service ∷ services_of (place + 1) services
 
+-- the INT that the keys of its table give
 abbrev pub int_of : Members → IntFields
 int_of int = record {
   pid = number_or 0 (codes "pid") int;
@@ -220,7 +243,7 @@ int_of int = record {
 unfoldable pub changes_at : Members → List (ChangeValues (List ℕ))
 changes_at top = map change_values (tables_at (codes "change") top)
 
--- the plan, still without rules
+-- the plan that the values or their defaults give, still without rules
 unfoldable pub plan_of : Members → PlanFields
 plan_of top = record {
   recording = recording_of (text_or (codes "plain") (codes "recording") top);

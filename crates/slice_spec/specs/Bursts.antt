@@ -5,7 +5,7 @@ use Rattle.ts_spec.specs.Recording.{RecordingForm}
 use Rattle.slice_spec.specs.Moments.{units_per_second, ten, moment_of}
 use Rattle.slice_spec.specs.Sections.{SectionTime, tens_between}
 
--- how a service is sliced: packets in a second, slots in a cycle, and the first slot and the length of its window in each cycle
+-- how a service is sliced: form of recording, packets in a second, slots in a cycle, and the first slot and the length of its window in each cycle
 pub record Slicing : Type 0 where
   pub form : RecordingForm
   pub rate : ℕ
@@ -30,7 +30,7 @@ moment_in s c n = moment_of s.form s.rate (slot_of s c n)
 abbrev pub delta_to_next : Slicing → ℕ → ℕ → ℕ
 delta_to_next s c n = tens_between (moment_in s c n) (moment_in s (c + 1) 0) (ten s.form)
 
--- the time of a section that begins in this packet; the last burst of a service announces none
+-- the time of a section that begins in this packet; the last burst of a service announces none (EN 301 192 clause 9)
 abbrev pub time_in : Slicing → Bool → ℕ → ℕ → SectionTime
 time_in s is_last c n = record { moment = moment_in s c n; delta = if is_last then 0 else delta_to_next s c n }
 

@@ -2,7 +2,7 @@
 use Rattle.std.specs.Prelude.{ℕ, ◌*◌, ◌/◌}
 use Rattle.ts_spec.specs.Recording.{RecordingForm, plain, stamped, m2ts}
 
--- microseconds, or ticks at 27 MHz
+-- the unit of moments, by how many a second has: microseconds, or ticks at 27 MHz
 abbrev pub units_per_second : RecordingForm → ℕ
 units_per_second plain = 1000000
 units_per_second stamped = 1000000

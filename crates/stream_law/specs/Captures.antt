@@ -4,7 +4,7 @@ use Rattle.pcap_file.specs.Reading.{link_at}
 use Rattle.pcap_file.specs.Captured.{captured_datagram}
 use Rattle.pcap_file.specs.declared.captured.LinkType.{LinkType}
 
--- the datagram in a record, by the link type of the capture
+-- the datagram in a record, by the link type of the capture (draft-ietf-opsawg-pcap)
 abbrev pub datagram_in : Option LinkType → List ℕ → Option (List ℕ)
 datagram_in None captured = None
 datagram_in (Some link) captured = captured_datagram link captured

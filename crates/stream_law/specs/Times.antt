@@ -15,9 +15,9 @@ use Rattle.stream_spec.specs.Services.{kind_at, IsPidOf, AreCarried, Carries}
 abbrev pub times_over : List ℕ → (ℕ → List (List TimedSection)) → List (List SectionTime)
 times_over pids frames = flat_map (λ pid. map times_of (frames pid)) pids
 
--- The frames of a service are timed over all its PIDs as on one. Without time slicing they are numbered from 0 on. With it a delta_t above 0
--- announces a moment that is after the sections of its own frame and not after one of a later frame, on this PID or the next; and delta_t is 0
--- exactly in the last frame of all
+-- The frames of a service are timed over all its PIDs as on one (EN 301 192 clause 9). Without time slicing they are numbered from 0 on. With it a delta_t
+-- above 0 announces a moment that is after the sections of its own frame and not after one of a later frame, on this PID or the next; and delta_t is 0 exactly
+-- in the last frame of all
 pub record TimesOfService (form : RecordingForm) (is_sliced : Bool) (pids : List ℕ) (frames : ℕ → List (List TimedSection)) : Type 0 where
   pub timed : HasTiming (timing_in form is_sliced) 0 (times_over pids frames)
   pub last : is_sliced ≡ true → (i : ℕ) (x : SectionTime) → IsOf (times_over pids frames) i x

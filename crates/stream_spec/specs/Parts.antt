@@ -34,13 +34,13 @@ packets_from k (service ∷ services) packets schedules datagrams =
 abbrev pub service_packets : PartFields → List (List PacketFields)
 service_packets part = packets_from 0 part.plan.services part.packets_before part.schedules part.datagrams
 
--- the packets of the INT in a cycle: its section is packetized anew in each, and the counter goes on
+-- the packets of the INT in a cycle: its section is packetized anew in each, and the counter goes on (EN 301 192 clause 8.4)
 abbrev pub int_packets : PartFields → Option IntFields → ℕ → List PacketFields
 int_packets part None cycle = []
 int_packets part (Some int) cycle =
     packetized section_form true int.pid ((part.table_before + cycle * table_packets part.plan) % 16) (table_bytes (table_of part.plan int) ∷ [])
 
--- the packet as it is written
+-- the packet as it is written (ISO/IEC 13818-1 clause 2.4.3.2)
 abbrev pub written : PacketFields → List ℕ
 written packet = packet_bytes packet.pid packet.starts packet.counter packet.payload
 
@@ -60,7 +60,7 @@ stamp_bytes m2ts rate s = to_be_bytes w32 (s * 27000000 / rate % 2 ^ 30)
 abbrev pub packet_counts : List (List PacketFields) → List ℕ
 packet_counts services = map (λ packets. length packets) services
 
--- how many of them go out in rotation: those of a sliced service go out in its windows
+-- how many of them go out in rotation: none of a sliced service, whose packets go out in its windows
 abbrev pub turn_count : Bool → List PacketFields → ℕ
 turn_count is_sliced packets = if is_sliced then 0 else length packets
 

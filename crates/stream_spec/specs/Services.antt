@@ -14,7 +14,7 @@ use Rattle.carriage_spec.specs.Delivered.{carried_by_sndu}
 use Rattle.plan_spec.specs.Plan.{KindFields, ule, mpe, fec, gse, pid_of, PlanFields, kinds}
 use Rattle.plan_spec.specs.Changes.{pid_in, pids_in, has_pid, versions}
 
--- the datagram that a section carries, as a list of at most one
+-- the datagram that a section carries, as a list of at most one (EN 301 192 clause 7)
 abbrev pub carried_by_section : List ℕ → List (List ℕ)
 carried_by_section unit = option_to_list (option_map (λ (m : MpeFields). m.datagram) (mpe_of (section_fields unit)))
 
@@ -22,13 +22,14 @@ carried_by_section unit = option_to_list (option_map (λ (m : MpeFields). m.data
 abbrev pub kind_at : PlanFields → ℕ → KindFields
 kind_at plan k = slice_index_or (kinds plan) k (mpe 0)
 
--- the kind of unit of a service, and the datagram that one carries by itself
+-- the kind of unit of a service
 abbrev pub form_of_kind : KindFields → UnitForm
 form_of_kind (ule pid address packing) = sndu_form
 form_of_kind (mpe pid) = section_form
 form_of_kind (fec pid rows parity window) = section_form
 form_of_kind (gse isi address) = section_form
 
+-- the datagram that a unit of a kind carries by itself, as a list of at most one; none of one with frames
 abbrev pub carried_by_unit : KindFields → List ℕ → List (List ℕ)
 carried_by_unit (ule pid address packing) unit = carried_by_sndu unit
 carried_by_unit (mpe pid) unit = carried_by_section unit
@@ -45,8 +46,9 @@ abbrev pub datagrams_on : PlanFields → (ℕ → ℕ → List (List ℕ)) → �
 datagrams_on plan datagrams k pid =
     flat_map (λ version. if has_pid (pid_in plan version k) pid then datagrams version k else []) (versions plan)
 
--- How units on a PID carry datagrams: each one by itself, or in frames, which are numbered from `before` on. moments n is the moment
--- of the packet in which unit n begins. Services of GSE packets have no PID.
+-- How units on a PID carry datagrams, by kind: each one by itself, or in MPE-FEC frames, which without time slicing are numbered from `before` on, and with it
+-- timed by the moments of the packets in which units begin (EN 301 192 clause 9). moments n is the moment of the packet in which unit n begins. Services of GSE
+-- packets have no PID.
 abbrev pub AreCarried : RecordingForm → KindFields → ℕ → List (List ℕ) → (ℕ → ℕ) → List (List ℕ) → Type 0
 AreCarried form (ule pid address packing) before units moments datagrams =
     datagrams ≡ flat_map (carried_by_unit (ule pid address packing)) units

@@ -10,6 +10,7 @@ pub data Slot : Type 0 where
   of_service : (k n : ℕ) → Slot
   empty : Slot
 
+-- the slot carries a packet of a service
 abbrev pub is_of_service : Slot → Bool
 is_of_service (of_table n) = false
 is_of_service (of_service k n) = true

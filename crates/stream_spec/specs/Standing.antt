@@ -28,7 +28,7 @@ pub record IsInOwnPart (plan : PlanFields) (begin : ℕ → ℕ) (k pid place : 
   pub part : IsInPart begin version place
   pub own : pid_in plan version k ≡ Some pid
 
--- the INT's packets carry sections, and one that says a version above 0 of the plan stands whole in the part of that version
+-- the INT's packets carry sections, and one that says a version above 0 of the plan stands whole in the part of that version (EN 301 192 clause 8.4)
 pub record Signals (plan : PlanFields) (int : IntFields) (sent : List Record) (begin : ℕ → ℕ) : Type 0 where
   pub sections : List (List ℕ)
   pub starts : ℕ → ℕ

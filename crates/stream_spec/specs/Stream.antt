@@ -16,17 +16,19 @@ use Rattle.stream_spec.specs.Parts.{PartFields, slot_in, records_of_slots}
 abbrev pub earlier : ℕ → List ℕ
 earlier version = range_with_len 0 version
 
--- how many frames service k has in a version, and in all those before it
+-- how many frames service k has in a version
 abbrev pub frame_count_in : PlanFields → (ℕ → ℕ → List (List ℕ)) → ℕ → ℕ → ℕ
 frame_count_in plan datagrams k version = frame_count (service_in plan version k).kind (datagrams version k)
 
+-- and in all versions before it, whatever its PID was
 abbrev pub frame_count_before : PlanFields → (ℕ → ℕ → List (List ℕ)) → ℕ → ℕ → ℕ
 frame_count_before plan datagrams k version = sum_by (frame_count_in plan datagrams k) (earlier version)
 
--- it has frames in a version after it
+-- a service has frames in a version
 abbrev pub has_frames : PlanFields → (ℕ → ℕ → List (List ℕ)) → ℕ → ℕ → Bool
 has_frames plan datagrams k version = nat_lt 0 (frame_count_in plan datagrams k version)
 
+-- it has frames in a version after it
 abbrev pub has_frames_after : PlanFields → (ℕ → ℕ → List (List ℕ)) → ℕ → ℕ → Bool
 has_frames_after plan datagrams k version =
     list_any (has_frames plan datagrams k) (range_with_len (version + 1) (length plan.changes - version))
@@ -90,7 +92,7 @@ pub record IsPartCount (plan : PlanFields) (datagrams : ℕ → ℕ → List (Li
 abbrev pub are_on_pids : PlanFields → Bool
 are_on_pids plan = list_all (λ kind. is_some (pid_of kind)) (kinds plan)
 
--- the records, one after another, are the stream of these datagrams, whose services are all on PIDs
+-- the records, one after another, are the stream of these datagrams, whose services are all on PIDs: one part for each version
 pub record IsStream (plan : PlanFields) (datagrams : ℕ → ℕ → List (List ℕ)) (records : List (List ℕ)) : Type 0 where
   pub defined : are_on_pids plan ≡ true
   pub slots : ℕ → ℕ

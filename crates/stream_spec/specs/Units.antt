@@ -15,15 +15,15 @@ use Rattle.frame_spec.specs.Sender.{datagrams_in_frames, fits_table, frame_of, s
 use Rattle.unit_stream.specs.Packing.{packetized}
 use Rattle.plan_spec.specs.Plan.{WindowFields, KindFields, ule, mpe, fec, gse, ServiceFields}
 
--- the address of the receivers that a datagram is for: that of its group, or the service's own
+-- the address of the receivers that a datagram is for: that of its group, or the service's own (RFC 4326 section 4.5, EN 301 192 clause 7)
 abbrev pub mac_for : List ℕ → List ℕ → List ℕ
 mac_for unicast datagram = mac_of_address (destination_of datagram) unicast
 
--- the SNDU of a datagram, with an NPA address where the service has them
+-- the SNDU of a datagram, with an NPA address where the service has them (RFC 4326 section 4)
 abbrev pub sndu_of : Bool → List ℕ → List ℕ → List ℕ
 sndu_of address unicast datagram = sndu_bytes (if address then Some (mac_for unicast datagram) else None) (ether_type_of datagram) datagram
 
--- the datagram_section of a datagram
+-- the datagram_section of a datagram (EN 301 192 clause 7)
 abbrev pub section_of : List ℕ → List ℕ → List ℕ
 section_of unicast datagram = mpe_bytes (mpe_to_write (mac_for unicast datagram) None datagram)
 
@@ -48,19 +48,19 @@ pub record FrameSchedule : Type 0 where
   pub slots_before : ℕ
   pub goes_on : Bool
 
--- the units of a frame with so many rows, of whose RS data table so many columns are sent: a section of each datagram, and then one of each
--- column; section i has delta_t delta i
+-- the units of a frame with so many rows, of whose RS data table so many columns are sent: a section of each datagram, and then one of each column; section i
+-- has delta_t delta i (EN 301 192 clause 9)
 abbrev pub units_with_delta : ℕ → ℕ → List ℕ → (ℕ → ℕ) → List (List ℕ) → List (List ℕ)
 units_with_delta rows columns unicast delta datagrams =
     map section_unit (sections_to_send rows (frame_of rows columns datagrams) (mac_for unicast) delta)
 
 -- Without time slicing delta_t of a section is the number of its frame modulo 4096.
 
--- the datagrams of each frame, where frames have so many rows
+-- without time slicing, the datagrams of each frame: as many as its table has room for
 abbrev pub datagrams_by_frame : ℕ → List (List ℕ) → List (List (List ℕ))
 datagrams_by_frame rows datagrams = datagrams_in_frames (fits_table rows) datagrams
 
--- the units of the frame of this number
+-- without time slicing, the units of the frame of this number, all with the number modulo 4,096 as delta_t (EN 301 192 clause 9)
 abbrev pub units_of_frame : ℕ → ℕ → List ℕ → ℕ → List (List ℕ) → List (List ℕ)
 units_of_frame rows columns unicast number datagrams = units_with_delta rows columns unicast (λ i. number % 4096) datagrams
 
@@ -90,7 +90,7 @@ packet_of_section rows columns datagrams i =
 abbrev pub fits_window : ℕ → ℕ → ℕ → List (List ℕ) → Bool
 fits_window rows columns slots datagrams = fits_table rows datagrams && nat_le (burst_size rows columns datagrams) slots
 
--- the datagrams of each burst
+-- with time slicing, the datagrams of each burst: as many as fit
 abbrev pub datagrams_by_burst : ℕ → ℕ → ℕ → List (List ℕ) → List (List (List ℕ))
 datagrams_by_burst rows columns slots datagrams = datagrams_in_frames (fits_window rows columns slots) datagrams
 
@@ -104,14 +104,15 @@ slicing_in_part schedule window = record {
   length = window.length;
 }
 
--- the moment of packet n of the burst in a cycle of the part, and the time from it to the window in the next cycle
+-- the moment of packet n of the burst in a cycle of the part, and the time from it to the window in the next cycle (EN 301 192 clause 9)
 abbrev pub burst_moment : FrameSchedule → WindowFields → ℕ → ℕ → ℕ
 burst_moment schedule window c n = moment_in (slicing_in_part schedule window) c n
 
 abbrev pub delta_after : FrameSchedule → WindowFields → ℕ → ℕ → ℕ
 delta_after schedule window c n = delta_to_next (slicing_in_part schedule window) c n
 
--- the units of the burst of a cycle; the last burst of all announces none
+-- the units of the burst of a cycle: delta_t is the time to the window in the next cycle, and 0 in the last burst of all, which announces none (EN 301 192
+-- clause 9)
 abbrev pub units_of_burst : ℕ → ℕ → List ℕ → FrameSchedule → WindowFields → Bool → ℕ → List (List ℕ) → List (List ℕ)
 units_of_burst rows columns unicast schedule window is_last c datagrams =
     units_with_delta rows columns unicast
@@ -158,7 +159,7 @@ units_of_kind (fec pid rows parity (Some window)) unicast schedule datagrams =
     (units_by_burst rows parity unicast schedule window 0 (datagrams_by_burst rows parity window.length datagrams))
 units_of_kind (gse isi address) unicast schedule datagrams = []
 
--- The packets that carry them, with counters from one on: those of all units together, or of each burst by itself.
+-- the packets that carry them, with counters from one on: those of all units together, or of each burst by itself. Of GSE there are none
 abbrev pub packets_of_kind : KindFields → List ℕ → ℕ → FrameSchedule → List (List ℕ) → List PacketFields
 packets_of_kind (ule pid address packing) unicast counter schedule datagrams =
     packetized sndu_form packing pid counter (units_of_kind (ule pid address packing) unicast schedule datagrams)

@@ -38,6 +38,6 @@ of_owner sizes cycle (Some owner) = of_burst owner.0 (sizes owner.0) cycle owner
 abbrev pub sliced_at : ℕ → List OwnedWindow → (ℕ → List ℕ) → ℕ → Option Slot
 sliced_at cycle windows sizes s = of_owner sizes (s / cycle) (owner_of windows (s % cycle))
 
--- the INT's packets first, then those of bursts
+-- what slot s is kept for: a packet of the INT first, then one of a burst
 abbrev pub kept_for_bursts : ℕ → ℕ → List OwnedWindow → (ℕ → List ℕ) → ℕ → Option Slot
 kept_for_bursts cycle table windows sizes s = option_or (kept_for_table cycle table s) (sliced_at cycle windows sizes s)

@@ -15,7 +15,7 @@ fields_in packet = record {
   payload = packet.payload.now;
 }
 
--- the first test that 188 bytes fail
+-- the first test that 188 bytes fail: NoSync, Marked, Adaptation, NoPayload, Scrambled (ISO/IEC 13818-1 clause 2.4.3.2)
 abbrev pub refusal : List ℕ → Option PacketFault
 refusal b =
     if lacks_sync b then Some NoSync else
@@ -25,6 +25,6 @@ refusal b =
     if is_scrambled b then Some Scrambled else
     None
 
--- the fields of a packet that is written without an adaptation field
+-- the fields of a packet that is written without an adaptation field (ISO/IEC 13818-1 clause 2.4.3.2)
 abbrev pub written_fields : ℕ → Bool → ℕ → List ℕ → PacketFields
 written_fields pid starts counter payload = record { pid = pid; starts = starts; counter = counter; broken = false; payload = payload }

@@ -5,7 +5,7 @@ use Rattle.ts_spec.specs.Received.{repeats}
 use Rattle.ts_packet.specs.declared.continuity.Link.{Link}
 use Rattle.ts_packet.specs.declared.continuity.Link.TheVariants.{First, Next, Repeat, Gap}
 
--- how a packet of these bytes follows the packet with the bytes before, where there is one
+-- how a packet of these bytes follows the packet with the bytes before, where there is one: First, Repeat, Next or Gap (ISO/IEC 13818-1 clause 2.4.3.3)
 abbrev pub link_of : Option (List ℕ) → List ℕ → Link
 link_of None bytes = First
 link_of (Some before) bytes =
@@ -13,6 +13,7 @@ link_of (Some before) bytes =
     if continues (fields_of before) (fields_of bytes) then Next else
     Gap
 
+-- the last of the packets, or the one before them
 abbrev pub last_or : Option (List ℕ) → List (List ℕ) → Option (List ℕ)
 last_or before [] = before
 last_or before (bytes ∷ behind) = last_or (Some bytes) behind

@@ -5,7 +5,7 @@ use Rattle.ts_spec.specs.Packet.{PacketFields, pointer_fits}
 use Rattle.ts_spec.specs.Received.{Arrival, packet_of}
 use Rattle.ts_spec.specs.Reassembly.{bytes_from, Outcome, candidate, bad_length, delimit, no_outcome, outcome_of, unit_starts}
 
--- a unit with the moment of its first packet; a unit whose check fails; a unit lost to a delimiting error; a bad length
+-- what reassembly reports of a start: a unit with the moment of its first packet; a unit whose check fails; a unit lost to a delimiting error; a bad length
 pub data Event : Type 0 where
   unit_event : ℕ → List ℕ → Event
   bad_check_event : Event

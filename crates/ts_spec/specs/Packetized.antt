@@ -3,12 +3,15 @@ use Rattle.std.specs.Prelude.{◌≡◌, ◌⊎◌, ℕ, ◌+◌, ◌<◌, ◌�
 use Rattle.ts_spec.specs.Form.{UnitForm, IsUnit}
 use Rattle.ts_spec.specs.Packet.{PacketFields, continues, pointer, unit_bytes}
 
+-- the packet without payload, for places where none is
 abbrev pub no_packet : PacketFields
 no_packet = record { pid = 0; starts = false; counter = 0; broken = false; payload = [] }
 
+-- the packet at a place
 abbrev pub packet_at : List PacketFields → ℕ → PacketFields
 packet_at packets m = slice_index_or packets m no_packet
 
+-- the unit at a place
 abbrev pub unit_at : List (List ℕ) → ℕ → List ℕ
 unit_at units n = slice_index_or units n []
 
@@ -16,7 +19,7 @@ unit_at units n = slice_index_or units n []
 abbrev pub joined_payloads : List PacketFields → List ℕ
 joined_payloads packets = flat_map unit_bytes packets
 
--- where the bytes of packet m begin among the joined_payloads ones
+-- where the bytes of packet m begin among the joined payloads
 unfoldable pub edge : List PacketFields → ℕ → ℕ
 edge packets m = length (joined_payloads (take m packets))
 
@@ -26,7 +29,7 @@ pub record IsIn (packets : List PacketFields) (m place : ℕ) : Type 0 where
   pub from : edge packets m ≤ place
   pub below : place < edge packets (m + 1)
 
--- bytes FF from where a unit ends up to the end of the packet in which it ends
+-- bytes FF from where a unit ends up to the end of the packet in which it ends (ISO/IEC 13818-1 clause 2.4.4, RFC 4326 section 4.3)
 pub record IsStuffed (packets : List PacketFields) (end next : ℕ) : Type 0 where
   pub last : ℕ
   pub within : last < length packets
@@ -41,7 +44,8 @@ pub record IsFirstIn (units : List (List ℕ)) (packets : List PacketFields) (be
   pub starts : IsIn packets m (begin n)
   pub first : (k : ℕ) → k < length units → IsIn packets m (begin k) → begin n ≤ begin k
 
--- the packets carry the units in order; begin n is the place of unit n among the joined_payloads payloads
+-- the packets carry the units in order: counters, payloads, stuffing, start indicators and pointers (ISO/IEC 13818-1 clause 2.4.4, RFC 4326 section 6). begin n
+-- is the place of unit n among the joined payloads
 pub record Packetizes (form : UnitForm) (units : List (List ℕ)) (packets : List PacketFields) (begin : ℕ → ℕ) : Type 0 where
   pub each : (n : ℕ) → n < length units → IsUnit form (unit_at units n)
   pub continuous : (m : ℕ) → m + 1 < length packets → continues (packet_at packets m) (packet_at packets (m + 1)) ≡ true

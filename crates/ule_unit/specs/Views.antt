@@ -10,6 +10,6 @@ use Rattle.ule_unit.specs.declared.sndu.UleFault.TheVariants.{Length, Crc}
 abbrev pub fields_in : Sndu → SnduFields
 fields_in s = record { npa = s.npa; first_type = s.first_type; bytes = s.bytes.now }
 
--- why bytes are no SNDU: the first test that fails
+-- why bytes are no SNDU: the first test that fails, Length, then Crc (RFC 4326 section 4)
 abbrev pub refusal : List ℕ → Option UleFault
 refusal b = if has_right_length b then (if ends_with_crc b then None else Some Crc) else Some Length

@@ -15,7 +15,7 @@ use Rattle.receive_command.specs.declared.faults.ReceiveFault.TheVariants as fau
 
 -- The file.
 
--- its name, before ".pcap"
+-- the name of the file, before ".pcap"
 abbrev pub bridge_name : List ℕ
 bridge_name = codes "bridge"
 
@@ -23,7 +23,7 @@ bridge_name = codes "bridge"
 abbrev pub bridge_capture : BridgeCarrier → List (List ℕ) → List ℕ
 bridge_capture carrier pieces = ethernet_capture (received_ethernet_frames carrier pieces)
 
--- it was added with a text, and all of this is flushed or nothing
+-- bridge.pcap was added with a text, and all of this is flushed or nothing
 abbrev pub AddsBridge : Bool → List ℕ → Option (List File) → Option (List File) → Type 0
 AddsBridge is_flushed text old new = AddsFile old new (file_with is_flushed bridge_name text)
 

@@ -17,7 +17,7 @@ pub record Place : Type 0 where
   pub moment : ℕ
   pub at : ℕ
 
--- What a joiner holds.
+-- what a joiner holds: all events given and the unit under way; or a place from which starts are to be given; or an outcome to be given before that
 pub data JoinerState : Type 0 where
   -- all events are given; the unit under way, where there is one
   drained : List Open → JoinerState
@@ -26,7 +26,7 @@ pub data JoinerState : Type 0 where
   -- the outcome of the unit that began at this moment is to be given, then the starts from a place on, where there are some
   giving : ℕ → Outcome → Option Place → JoinerState
 
--- the events of the starts from a place on
+-- the events of the starts from a place on (RFC 4326 section 7)
 abbrev pub events_from : UnitForm → PacketFields → Place → List Event
 events_from form packet place =
     flat_map (λ start. event_by form place.moment (outcome_of form (bytes_from start packet []))) (starts_from form packet.payload place.at)
@@ -65,11 +65,11 @@ pub record IsGiving (form : UnitForm) (state : JoinerState) (packet : PacketFiel
   pub events : given ++ left_events form packet state ≡ events_of form packets
   pub under_way : left_open form packet state ≡ open_units form packets
 
--- how the next packet follows the packets before it; where there are none it does not matter
+-- how the next packet follows the packets before it; where there are none it does not matter (ISO/IEC 13818-1 clause 2.4.3.3)
 abbrev pub IsLinked : Link → List Arrival → Arrival → Type 0
 IsLinked link packets next = (packets ≡ []) ⊎ (link ≡ link_of (last_bytes None packets) next.bytes)
 
--- the packets with one more, unless it is a duplicate
+-- the packets with one more, unless it is a duplicate (ISO/IEC 13818-1 clause 2.4.3.3)
 abbrev pub packets_with : Link → List Arrival → Arrival → List Arrival
 packets_with First packets next = packets ++ next ∷ []
 packets_with Next packets next = packets ++ next ∷ []

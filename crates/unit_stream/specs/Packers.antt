@@ -26,7 +26,7 @@ AreRising start from (end ∷ ends) = (from + start ≤ end) × AreRising start 
 abbrev pub end_of : List ℕ → ℕ → ℕ
 end_of ends begun = slice_index (0 ∷ ends) begun
 
--- the units stand one after another in a buffer of this size, and have so many bytes at least
+-- the places are in order, START bytes or more apart, and within the buffer
 pub record AreEnds (start size : ℕ) (ends : List ℕ) : Type 0 where
   pub rising : AreRising start 0 ends
   pub within : end_of ends (length ends) ≤ size

@@ -15,11 +15,13 @@ pub record Filling : Type 0 where
 abbrev pub stuffed : ℕ → List (List ℕ) → Filling
 stuffed room units = record { bytes = replicate room 0xFF; rest = []; units = units }
 
+-- what stands in a packet after the end of a unit
 abbrev pub behind_unit : List ℕ → Filling → Filling
 behind_unit unit filling = record { bytes = unit ++ filling.bytes; rest = filling.rest; units = filling.units }
 
--- the first of the units begins where there is room for so many bytes; where it ends there, the next one
--- follows at once if packing is on and its first bytes have room
+-- what stands in a packet after the end of the unit before: units as long as they have room, then bytes FF (ISO/IEC 13818-1 clause 2.4.4, RFC 4326 section 6).
+-- The first of them begins where there is room for so many bytes; where it ends there, the next one follows at once if packing is on and its first bytes have
+-- room
 abbrev pub filled : ℕ → Bool → ℕ → List (List ℕ) → Filling
 filled start packing room [] = stuffed room []
 filled start packing room (unit ∷ units) =
@@ -34,8 +36,8 @@ pub record Piece : Type 0 where
   pub starts : Bool
   pub payload : List ℕ
 
--- the next unit may begin in a packet that carries the rest of the one before: where nothing is left of that,
--- or packing is on and the rest leaves room for its first bytes after the pointer
+-- the next unit may begin in a packet that carries the rest of the one before: where nothing is left of that, or packing is on and the rest leaves room for its
+-- first bytes after the pointer (RFC 4326 section 6)
 abbrev pub may_begin : ℕ → Bool → List ℕ → List (List ℕ) → Bool
 may_begin start packing rest [] = false
 may_begin start packing rest (unit ∷ units) = (length rest == 0) || (packing && nat_le (length rest + start) 183)
@@ -49,7 +51,7 @@ begin_piece rest filling next =
 abbrev pub middle_piece : List ℕ → Piece
 middle_piece rest = record { starts = false; payload = take 184 rest ++ replicate (184 - length rest) 0xFF }
 
--- the packets of the rest of a unit and the units after it, at most so many
+-- the packets, without headers, of the rest of a unit and the units after it, at most so many
 abbrev pub pieces : ℕ → ℕ → Bool → List ℕ → List (List ℕ) → List Piece
 pieces zero start packing rest units = []
 pieces (suc most) start packing rest units =
@@ -63,14 +65,14 @@ abbrev pub byte_count : List (List ℕ) → ℕ
 byte_count [] = 0
 byte_count (unit ∷ units) = length unit + byte_count units
 
--- the packets of one PID, with counters that go on from the first
+-- the packets of one PID, with counters that go on from the first (ISO/IEC 13818-1 clause 2.4.3.3)
 abbrev pub numbered : ℕ → ℕ → List Piece → List PacketFields
 numbered pid counter [] = []
 numbered pid counter (piece ∷ behind) =
     record { pid = pid; starts = piece.starts; counter = counter; broken = false; payload = piece.payload }
     ∷ numbered pid ((counter + 1) % 16) behind
 
--- the one packetization of the units
+-- the one packetization of the units (RFC 4326 section 6)
 abbrev pub packetized : UnitForm → Bool → ℕ → ℕ → List (List ℕ) → List PacketFields
 packetized form packing pid counter units =
     numbered pid counter (pieces (byte_count units) form.start packing [] units)

@@ -63,6 +63,7 @@ FitsEnded (how.Unit unit) size = unit.size ≤ size
 FitsEnded how.Delimit size = Unit {0}
 FitsEnded how.BadLength size = Unit {0}
 
+-- its buffer holds the unit under way, or the one that ended; the length that is kept of the unit under way is what its bytes tell
 abbrev pub FitsState : UnitForm → State → List ℕ → Type 0
 FitsState form (now.Drained under_way) buffer = FitsUnderWay form under_way buffer
 FitsState form (now.Reading position) buffer = Unit {0}

@@ -3,7 +3,7 @@
 use Rattle.std.specs.Prelude.{◌≡◌, ℕ, ◌<◌, List, [], ◌∷◌, ◌++◌, length, get_or, take, set, Option, None, Some, Result, MatchResult, ⊤}
 use Rattle.std.specs.Io.KnownBytes.{Appends}
 
--- what is told stays as it was
+-- what an object reports is as it was
 abbrev pub Stays : {X : Type 0} → Option X → Option X → Type 0
 Stays None new = ⊤
 Stays (Some x) None = ⊥
@@ -34,7 +34,7 @@ grown file bytes = record { name = file.name; bytes = file.bytes ++ bytes; flush
 abbrev pub flushed_file : File → File
 flushed_file file = record { name = file.name; bytes = file.bytes; flushed = length file.bytes }
 
--- one more file stands after those that were there
+-- one more file follows those that were there
 abbrev pub AddsFile : Option (List File) → Option (List File) → File → Type 0
 AddsFile None new file = ⊤
 AddsFile (Some files) None file = ⊥
