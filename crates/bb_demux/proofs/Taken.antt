@@ -8,13 +8,13 @@ use Rattle.bb_reception_spec.specs.Delivered.{delivered_pairs, pairs_of_frame}
 use Rattle.bb_reception_law.proofs.FrameByFrame.{pairs_more}
 use Rattle.outlet_spec.specs.Pairs.{Delivers, DeliversFront}
 use Rattle.outlet_spec.proofs.Pairs.{delivers_then, front_then}
-use Rattle.bb_demux.specs.Receiving.{FrameReceiverState, HasReceived}
+use Rattle.bb_demux.specs.Receiving.{BbReceiverState, HasReceived}
 use Rattle.bb_demux.specs.Taking.{frames_in, HasTakenFrames, HasStoppedInFrame, TookFrames, StoppedInFrame}
 
 frames_more : (records : List Record) (r : Record) → frames_in (records ++ r ∷ []) ≡ frames_in records ++ r.bytes ∷ []
 frames_more records r = map-append (λ (it : Record). it.bytes) records (r ∷ [])
 
-module _ (start mid now : FrameReceiverState) (old mids new : List (ℕ × List ℕ) → Type 0) (faults mid_faults now_faults : ℕ) (records : List Record) (r : Record)
+module _ (start mid now : BbReceiverState) (old mids new : List (ℕ × List ℕ) → Type 0) (faults mid_faults now_faults : ℕ) (records : List Record) (r : Record)
     (took : TookFrames start mid old mids faults mid_faults records)
     (received : (plan : PlanFields) (frames : List (List ℕ)) → HasReceived plan frames mid → HasReceived plan (frames ++ r.bytes ∷ []) now) where
   pub took_frame : ((plan : PlanFields) (frames : List (List ℕ)) → HasReceived plan frames mid → Delivers mids new (pairs_of_frame plan (frames ++ r.bytes ∷ []) (length frames)))

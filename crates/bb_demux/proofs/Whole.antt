@@ -6,7 +6,7 @@ use Rattle.gse_spec.specs.Received.{is_foreign}
 use Rattle.bb_reception_spec.specs.Numbers.{recording_numbers}
 use Rattle.loss_report.specs.declared.counts.StreamCounts.{StreamCounts}
 use Rattle.bb_demux.specs.Counts.{stream_counts_of}
-use Rattle.bb_demux.specs.Receiving.{FrameReceiverState, AreOn, HasReceived}
+use Rattle.bb_demux.specs.Receiving.{BbReceiverState, AreOn, HasReceived}
 use Rattle.bb_demux.specs.declared.services.IsiReceiver.{IsiReceiver}
 use Rattle.bb_demux.proofs.OneFrame.{refused_off, none_on}
 use Rattle.bb_demux.proofs.Counted.{raised_to, refused_more, other_more, own_more}
@@ -19,7 +19,7 @@ module _ (plan own : PlanFields) (same : own ≡ plan) (frames : List (List ℕ)
   abbrev raised : ℕ → ℕ → StreamCounts
   raised unreadable other = record { records = s.records + 1; tail_bytes = s.tail_bytes; unreadable = unreadable; without_payload = s.without_payload; other = other }
 
-  abbrev state : Bool → StreamCounts → List IsiReceiver → FrameReceiverState
+  abbrev state : Bool → StreamCounts → List IsiReceiver → BbReceiverState
   state is_open stream services = record { plan = own; is_open = is_open; stream = stream; services = services }
 
   foreign_here : (t : Bool) → is_foreign (isis own) b ≡ t → is_foreign (isis plan) b ≡ t

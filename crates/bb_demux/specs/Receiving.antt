@@ -9,7 +9,7 @@ use Rattle.bb_demux.specs.Counts.{stream_counts_of}
 use Rattle.bb_demux.specs.declared.services.IsiReceiver.{IsiReceiver}
 
 -- a receiver: its plan, whether it may be given frames, what it has counted of the recording, and the receivers of each service
-pub record FrameReceiverState : Type 0 where
+pub record BbReceiverState : Type 0 where
   pub plan : PlanFields
   pub is_open : Bool
   pub stream : StreamCounts
@@ -26,7 +26,7 @@ pub record AreOn (plan : PlanFields) (receivers : List IsiReceiver) (frames : Li
   pub each : (k : ℕ) (receiver : IsiReceiver) → slice_get receivers k ≡ Some receiver → IsOn (service_at plan k) receiver frames
 
 -- the receiver was given these frames under this plan. The end of a recording gives nothing: fragments without a last one carry no PDU
-pub record HasReceived (plan : PlanFields) (frames : List (List ℕ)) (receiver : FrameReceiverState) : Type 0 where
+pub record HasReceived (plan : PlanFields) (frames : List (List ℕ)) (receiver : BbReceiverState) : Type 0 where
   pub plan_is : receiver.plan ≡ plan
   pub stream : receiver.stream ≡ stream_counts_of (recording_numbers plan frames)
   pub all : AreOn plan receiver.services frames

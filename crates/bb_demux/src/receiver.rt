@@ -19,20 +19,20 @@ use std::marker::Model;
 
 /// The receiver of all services of a plan of baseband frames.
 #[derive(Drop)]
-pub struct FrameReceiver<'a> {
+pub struct BbReceiver<'a> {
     plan: &'a Plan,
     is_open: bool,
     stream: StreamCounts,
     services: Vec<IsiReceiver<'a>, &'a Bump>,
 }
 
-impl<'a> Model for FrameReceiver<'a> {
+impl<'a> Model for BbReceiver<'a> {
     ghost use Rattle.std.specs.Prelude.{◌≡◌, ◌≤◌, ◌^◌, true, length};
     ghost use Rattle.plan_spec.specs.Plan.{is_baseband};
     ghost use Rattle.plan.specs.PlanView.{plan_fields};
-    ghost use Rattle.bb_demux.specs.Receiving.{FrameReceiverState};
+    ghost use Rattle.bb_demux.specs.Receiving.{BbReceiverState};
 
-    ghost Value = { FrameReceiverState };
+    ghost Value = { BbReceiverState };
 
     ghost view = { λ receiver. record {
       plan = plan_fields receiver.plan.now;
@@ -45,17 +45,17 @@ impl<'a> Model for FrameReceiver<'a> {
         × (length receiver.services.items ≡ length (plan_fields receiver.plan.now).services) × (receiver.stream.records ≤ 2 ^ 32) };
 }
 
-impl<'a> FrameReceiver<'a> {
+impl<'a> BbReceiver<'a> {
     /// A receiver that was given nothing, of a plan of baseband frames. All its buffers lie in the arena, 16,778,240 bytes and 256 slots
     /// for each service, and none is taken later.
-    pub fn open(arena: &'a Bump, plan: &'a Plan) -> Result<FrameReceiver<'a>, OutOfMemory>
+    pub fn open(arena: &'a Bump, plan: &'a Plan) -> Result<BbReceiver<'a>, OutOfMemory>
         requires baseband { is_baseband (plan_fields plan.now) ≡ true }
         ensures received { IfOk result (λ receiver. HasReceived (plan_fields plan.now) [] receiver) }
         ensures is_open { IfOk result (λ receiver. receiver.is_open ≡ true) }
         ensures plan { IfOk result (λ receiver. receiver.plan ≡ plan_fields plan.now) }
     {
         let services = open_receivers(arena, &plan.services)?;
-        Ok(FrameReceiver {
+        Ok(BbReceiver {
             plan,
             is_open: true,
             stream: nothing_counted(),

@@ -1,7 +1,7 @@
 //! Classes: what arrives of the urgent datagrams of a service, and of the ordinary ones.
 ghost use Rattle.std.specs.Prelude.{◌≡◌, ℕ, ◌<◌, List, [], length, filter, flat_map, Contains};
 ghost use Rattle.wire_spec.specs.Lists.{IsSubsequence};
-ghost use Rattle.carriage_spec.specs.Carried.{IsRising};
+ghost use Rattle.channel_spec.specs.Carried.{IsRising};
 ghost use Rattle.plan_spec.specs.Plan.{PlanFields};
 ghost use Rattle.plan_spec.specs.Offered.{offered_in_all};
 ghost use Rattle.stream_law.specs.Captures.{given_by};

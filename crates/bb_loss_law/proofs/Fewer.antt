@@ -2,7 +2,7 @@
 use Rattle.std.proofs.Common.{◌≡◌, ℕ, zero, suc, ◌<◌, true, false, not, Option, Some, None, List, [], ◌∷◌, length, map, inl, inr, refl, ap, sym, ◌∙◌, subst, arith}
 use Rattle.std.specs.Prelude.{Contains, option_to_list, slice_index_or}
 use Rattle.std.specs.List.{list_any, filter_map, cons_option}
-use Rattle.carriage_law.proofs.Member.{Member, contains_member, member_contains}
+use Rattle.channel_law.proofs.Member.{Member, contains_member, member_contains}
 use Rattle.plan_spec.specs.Plan.{KindFields, ServiceFields, PlanFields, isi_of, isis}
 use Rattle.plan_spec.specs.Changes.{no_service}
 use Rattle.gse_spec.specs.Received.{is_frame_of, is_foreign}

@@ -1,7 +1,7 @@
 //! What the services of a plan deliver of what was sent in frames.
 ghost use Rattle.std.specs.Prelude.{ℕ, ◌<◌, List, length, flat_map, Contains};
 ghost use Rattle.wire_spec.specs.Lists.{IsSubsequence};
-ghost use Rattle.carriage_spec.specs.Carried.{IsRising};
+ghost use Rattle.channel_spec.specs.Carried.{IsRising};
 ghost use Rattle.plan_spec.specs.Plan.{PlanFields, isis};
 ghost use Rattle.gse_spec.specs.Received.{carried_by_pdu, received_pdus, delivered_by_pdu};
 ghost use Rattle.gse_spec.specs.Channel.{FrameChannel};

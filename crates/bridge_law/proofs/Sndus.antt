@@ -11,7 +11,7 @@ use Rattle.ts_spec.specs.Received.{is_of}
 use Rattle.ts_spec.specs.Reassembly.{PlacedUnit, accepted_units}
 use Rattle.ts_spec.specs.Sndu.{SnduFields, sndu_form, sndu_fields, sndu_bytes, is_sndu}
 use Rattle.ts_spec.specs.Chain.{chain_end, frame_at}
-use Rattle.carriage_spec.specs.Carried.{packets_sent}
+use Rattle.channel_spec.specs.Carried.{packets_sent}
 use Rattle.unit_stream.specs.Packers.{written}
 use Rattle.ts_packet.specs.Fields.{written_fields}
 use Rattle.ule_unit.specs.Writable.{IsWritable}

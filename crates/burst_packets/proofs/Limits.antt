@@ -9,19 +9,19 @@ use Rattle.wire_spec.specs.Lists.{joined}
 use Rattle.wire_spec.specs.Datagram.{IsDatagram}
 use Rattle.section_spec.specs.Mpe.{IsRows}
 use Rattle.section_spec.specs.Section.{section_form}
-use Rattle.frame_spec.specs.Sections.{FrameSection, data_section, parity_section}
-use Rattle.frame_spec.specs.Frame.{datagram_at}
-use Rattle.frame_spec.specs.Sender.{frame_of, section_of_datagram, section_of_column, section_unit}
+use Rattle.fec_frame_spec.specs.Sections.{FrameSection, data_section, parity_section}
+use Rattle.fec_frame_spec.specs.Frame.{datagram_at}
+use Rattle.fec_frame_spec.specs.Sender.{frame_of, section_of_datagram, section_of_column, section_unit}
 use Rattle.unit_stream.specs.Packing.{byte_count, packetized, pieces}
 use Rattle.unit_stream.proofs.Written.{length-numbered}
 use Rattle.unit_stream.specs.Packers.{AreRising, end_of}
 use Rattle.window_law.specs.Packets.{AreSome}
 use Rattle.window_law.proofs.Filling.{few_packets}
-use Rattle.sent_frame_law.specs.Frames.{AreSendable, IsSendable}
+use Rattle.fec_sent_law.specs.Frames.{AreSendable, IsSendable}
 use Rattle.stream_spec.specs.Units.{mac_for, sized_units, burst_size}
 use Rattle.stream_law.proofs.Framed.{byte_both, data_size, column_size, all_data, all_columns}
-use Rattle.frame_units.specs.Parts.{part_of}
-use Rattle.frame_units.specs.Bursts.{parts_from}
+use Rattle.fec_units.specs.Parts.{part_of}
+use Rattle.fec_units.specs.Bursts.{parts_from}
 
 pub all_head : {X : Type 0} (P : X → Type 0) (x : X) (xs : List X) → All P (x ∷ xs) → P x
 all_head P x xs all = all 0 x (omega arith)

@@ -6,8 +6,8 @@ use Rattle.wire_spec.specs.Lists.{joined}
 use Rattle.unit_stream.specs.Packers.{end_of}
 use Rattle.unit_stream.proofs.Between.{end_of-next, rises, below_last}
 use Rattle.stream_spec.specs.Units.{datagrams_by_burst}
-use Rattle.frame_units.specs.Parts.{part_of}
-use Rattle.frame_units.specs.Bursts.{AreBurstEnds, parts_from}
+use Rattle.fec_units.specs.Parts.{part_of}
+use Rattle.fec_units.specs.Bursts.{AreBurstEnds, parts_from}
 use Rattle.burst_packets.proofs.Limits.{all_head}
 
 parts_at : (from : ℕ) (ends : List ℕ) (list : List (List ℕ)) (n : ℕ) → n < length ends

@@ -11,12 +11,12 @@ use Rattle.slice_spec.specs.Bursts.{IsSliceable}
 use Rattle.unit_stream.specs.Packing.{packetized}
 use Rattle.unit_stream.specs.Packers.{PackerState, AreEnds, IsOnWay, end_of, packets_left, units_of}
 use Rattle.unit_stream.proofs.Numbers.{eqb_true, eqb_false}
-use Rattle.sent_frame_law.specs.Frames.{AreSendable}
+use Rattle.fec_sent_law.specs.Frames.{AreSendable}
 use Rattle.stream_spec.specs.Units.{burst_size, datagrams_by_burst, packet_of_section, units_by_burst, units_of_burst, packetized_apart}
 use Rattle.stream_law.proofs.Apart.{size_is}
 use Rattle.stream_law.proofs.Bursts.{burst_size_is, length-bursts}
-use Rattle.frame_units.specs.Parts.{part_of}
-use Rattle.frame_units.specs.Bursts.{AreBurstEnds, AreFirst, HeldUnits, HoldsUnits, units_by_packet}
+use Rattle.fec_units.specs.Parts.{part_of}
+use Rattle.fec_units.specs.Bursts.{AreBurstEnds, AreFirst, HeldUnits, HoldsUnits, units_by_packet}
 use Rattle.burst_packets.specs.Timing.{schedule_in, slicing_in, window_in}
 use Rattle.burst_packets.specs.Bursts.{AreUnderWay, Begins, all_packets, bursts_in, bursts_seen, delta_in, ends_in, packets_after, packets_in}
 use Rattle.burst_packets.specs.declared.bursts.Shape.{Shape}

@@ -7,8 +7,8 @@ use Rattle.section_spec.specs.Mpe.{IsRows}
 use Rattle.slice_spec.specs.Bursts.{IsSliceable}
 use Rattle.unit_stream.specs.Packers.{PackerState, AreEnds, IsOnWay, packets_left}
 use Rattle.stream_spec.specs.Units.{FrameSchedule, burst_size, burst_sizes, datagrams_by_burst, delta_after, packets_of_kind, packetized_apart, units_by_burst}
-use Rattle.sent_frame_law.specs.Frames.{AreSendable}
-use Rattle.frame_units.specs.Bursts.{AreBurstEnds, HeldUnits}
+use Rattle.fec_sent_law.specs.Frames.{AreSendable}
+use Rattle.fec_units.specs.Bursts.{AreBurstEnds, HeldUnits}
 use Rattle.burst_packets.specs.Timing.{IsTimedBy, schedule_in, slicing_in, window_in}
 use Rattle.burst_packets.specs.declared.bursts.Shape.{Shape}
 use Rattle.burst_packets.specs.declared.timing.Timing.{Timing}

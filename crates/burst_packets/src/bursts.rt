@@ -2,12 +2,12 @@
 ghost use Rattle.std.specs.Prelude.{◌≡◌, ℕ, ◌+◌, ◌<◌, ◌≤◌, ◌^◌, not, ◌&&◌, nat_eq, length, All};
 ghost use Rattle.slice_spec.specs.Bursts.{IsSliceable};
 ghost use Rattle.unit_stream.specs.Packers.{end_of};
-ghost use Rattle.frame_units.specs.Bursts.{AreFirst};
+ghost use Rattle.fec_units.specs.Bursts.{AreFirst};
 ghost use Rattle.burst_packets.specs.Timing.{slicing_in};
 ghost use Rattle.burst_packets.specs.Bursts.{delta_in, ends_in};
 
 use crate::timing::Timing;
-use frame_units::BurstBuffer;
+use fec_units::BurstBuffer;
 use ip_datagram::DatagramList;
 use section_codec::SectionForm;
 use std::alloc::{AllocError as OutOfMemory, Global};
@@ -104,9 +104,9 @@ impl<'a> BurstPackets<'a> {
     ghost use Rattle.ts_spec.specs.Packet.{PacketFields};
     ghost use Rattle.section_spec.specs.Mpe.{IsRows};
     ghost use Rattle.slice_spec.specs.Bursts.{IsSliceable};
-    ghost use Rattle.sent_frame_law.specs.Frames.{AreSendable};
+    ghost use Rattle.fec_sent_law.specs.Frames.{AreSendable};
     ghost use Rattle.stream_spec.specs.Parts.{written};
-    ghost use Rattle.frame_units.specs.Bursts.{AreBurstEnds};
+    ghost use Rattle.fec_units.specs.Bursts.{AreBurstEnds};
     ghost use Rattle.burst_packets.specs.Timing.{slicing_in};
     ghost use Rattle.burst_packets.specs.Bursts.{Begins};
 

@@ -1,6 +1,6 @@
 //! The bursts of a sliced service (EN 301 192 clause 9), on their way into the packets of its PID.
 //!
-//! Sending: datagrams of a service -> frame_units -> [burst_packets] -> ts_mux.
+//! Sending: datagrams of a service -> fec_units -> [burst_packets] -> ts_mux.
 //! Begin with `BurstPackets::new`.
 #![tactic(auto)]
 

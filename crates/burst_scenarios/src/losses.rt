@@ -13,7 +13,7 @@
 //! The INT is the first record of each cycle, all others are null packets. Addresses of datagrams go on rising from the datagrams
 //! that are left of one burst to those of the next, so that the announced moment alone separates the two.
 use crate::sent::{FIVE_IN_M2TS, MOVING, Sent, TWO_BURSTS, TWO_IN_M2TS};
-use frame_scenarios::cast::{Due, Span, comes_as_told, stream_of};
+use fec_scenarios::cast::{Due, Span, comes_as_told, stream_of};
 use std::alloc::Global;
 use std::test::Fail;
 use test_recordings::Harm::{self, Drop, Repeat};

@@ -2,7 +2,7 @@
 //!
 //! An independent program sent the same, and gave the numbers.
 use crate::deltas::{Burst, has_deltas};
-use frame_scenarios::cast::{Cast, stream_of};
+use fec_scenarios::cast::{Cast, stream_of};
 use std::alloc::Global;
 use std::test::Fail;
 use test_recordings::settings::{INT, STAMPED};

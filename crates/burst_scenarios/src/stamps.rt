@@ -11,7 +11,7 @@
 //! A record each 100 microseconds, or each 2,700 ticks at 27 MHz.
 use crate::losses::{BOTH, OTHERS, comes};
 use crate::sent::{M2TS, SHORT, SMALL, TWO_BURSTS};
-use frame_scenarios::cast::stream_of;
+use fec_scenarios::cast::stream_of;
 use ipencap_engine::Status;
 use scenario_runs::{ran, sent};
 use std::alloc::Global;

@@ -11,8 +11,8 @@ use Rattle.section_spec.specs.Mpe.{IsRows}
 use Rattle.unit_stream.specs.Joining.{Stands}
 use Rattle.reassembly_law.specs.Records.{last_bytes}
 use Rattle.slice_spec.specs.Sections.{Timing}
-use Rattle.frame_spec.specs.Sections.{TimedSection, sections_of, sections_of_unit}
-use Rattle.frame_spec.specs.Groups.{timing_in, received_frames, closed_frames}
+use Rattle.fec_frame_spec.specs.Sections.{TimedSection, sections_of, sections_of_unit}
+use Rattle.fec_frame_spec.specs.Groups.{timing_in, received_frames, closed_frames}
 use Rattle.fec_frame.specs.Stands.{Stands as TableStands}
 use Rattle.plan_spec.specs.Plan.{KindFields, ule, mpe, fec, gse, WindowFields, ServiceFields, pid_of}
 use Rattle.plan_spec.specs.Changes.{with_pid}
@@ -28,12 +28,12 @@ use Rattle.service_reception.specs.Services.{IsUle, IsMpe}
 use Rattle.service_reception.specs.Reception as one
 use Rattle.service_reception.specs.Counting.{service_counts_of}
 use Rattle.service_reception.proofs.Fronts.{received_stays}
-use Rattle.frame_reception.specs.Frames.{open_sections, last_time, is_unread, closed_in}
-use Rattle.frame_reception.specs.Reception.{FrameReceptionState, FramesState, IsOver}
-use Rattle.frame_reception.specs.Counting.{unread_alone}
-use Rattle.frame_reception.specs.Reception as framed
-use Rattle.frame_reception.proofs.Fronts.{frames_stay}
-use Rattle.frame_reception.proofs.Served.{served_frames, served_rows, served_told, served_units, served_numbers}
+use Rattle.fec_reception.specs.Frames.{open_sections, last_time, is_unread, closed_in}
+use Rattle.fec_reception.specs.Reception.{FecReceptionState, FramesState, IsOver}
+use Rattle.fec_reception.specs.Counting.{unread_alone}
+use Rattle.fec_reception.specs.Reception as framed
+use Rattle.fec_reception.proofs.Fronts.{frames_stay}
+use Rattle.fec_reception.proofs.Served.{served_frames, served_rows, served_told, served_units, served_numbers}
 use Rattle.demux_core.specs.Services.{counts_in, ReadsFrames, ReadsKind, HasFramesOf, HasTakenFrames, IsReception, IsFresh}
 use Rattle.demux_core.specs.declared.service.ByKind.{ByKind}
 use Rattle.demux_core.specs.declared.service.ByKind.TheVariants.{Ule, Mpe, Fec}
@@ -67,14 +67,14 @@ closed_plain form it records plain =
 -- Services with frames.
 
 -- its rows and its timing, and what its reception has taken
-pub record IsFramed (form : RecordingForm) (it : ServiceFields) (pid : ℕ) (state : FrameReceptionState) (records : List Record) : Type 0 where
+pub record IsFramed (form : RecordingForm) (it : ServiceFields) (pid : ℕ) (state : FecReceptionState) (records : List Record) : Type 0 where
   pub rows : ℕ
   pub parity : ℕ
   pub window : Option WindowFields
   pub kind_is : it.kind ≡ fec pid rows parity window
   pub taken : framed.HasTaken (timing_in form (is_some window)) rows pid state records
 
-pub framed_of : (form : RecordingForm) (it : ServiceFields) (pid : ℕ) (state : FrameReceptionState) (records : List Record)
+pub framed_of : (form : RecordingForm) (it : ServiceFields) (pid : ℕ) (state : FecReceptionState) (records : List Record)
     → ReadsFrames form state.frames it.kind → HasTakenFrames false form it.kind state records → pid_of it.kind ≡ Some pid → IsFramed form it pid state records
 framed_of form it pid state records reads taken on = by_kind it.kind refl reads taken on
   where
@@ -103,13 +103,13 @@ module _ (form : RecordingForm) (it : ServiceFields) (pid rows parity : ℕ) (wi
   abbrev timing : Timing
   timing = timing_in form (is_some window)
 
-  pub has_taken : (state : FrameReceptionState) (records : List Record) → framed.HasTaken timing rows pid state records → IsReception false form it (Fec state) records
+  pub has_taken : (state : FecReceptionState) (records : List Record) → framed.HasTaken timing rows pid state records → IsReception false form it (Fec state) records
   has_taken state records taken = record {
     reads = subst (λ (kind : KindFields). ReadsFrames form state.frames kind) (sym kind_is) taken.over;
     received = subst (λ (kind : KindFields). HasTakenFrames false form kind state records) (sym kind_is) taken;
   }
 
-  pub has_ended : (state : FrameReceptionState) (records : List Record) → framed.HasEnded timing rows pid state records → IsReception true form it (Fec state) records
+  pub has_ended : (state : FecReceptionState) (records : List Record) → framed.HasEnded timing rows pid state records → IsReception true form it (Fec state) records
   has_ended state records ended = record {
     reads = subst (λ (kind : KindFields). ReadsFrames form state.frames kind) (sym kind_is) ended.over;
     received = subst (λ (kind : KindFields). HasTakenFrames true form kind state records) (sym kind_is) ended;
@@ -127,14 +127,14 @@ module _ (form : RecordingForm) (it : ServiceFields) (pid rows parity : ℕ) (wi
 
 -- Receptions of frames that were given nothing.
 
-pub fresh_kind : (form : RecordingForm) (it : ServiceFields) (pid rows parity : ℕ) (window : Option WindowFields) (new : FrameReceptionState) → it.kind ≡ fec pid rows parity window
+pub fresh_kind : (form : RecordingForm) (it : ServiceFields) (pid rows parity : ℕ) (window : Option WindowFields) (new : FecReceptionState) → it.kind ≡ fec pid rows parity window
     → framed.HasTaken (timing_in form (is_some window)) rows pid new [] → IsFresh form it (Fec new)
 fresh_kind form it pid rows parity window new is taken = record {
   reads = subst (λ (kind : KindFields). ReadsFrames form new.frames kind) (sym is) taken.over;
   received = λ other on. subst (λ (kind : KindFields). HasTakenFrames false form kind new []) (sym is) taken;
 }
 
-pub fresh_again : (form : RecordingForm) (it : ServiceFields) (old : FramesState) (new : FrameReceptionState) → ReadsFrames form old it.kind
+pub fresh_again : (form : RecordingForm) (it : ServiceFields) (old : FramesState) (new : FecReceptionState) → ReadsFrames form old it.kind
     → ((timing : Timing) (rows pid : ℕ) → IsOver timing rows old → framed.HasTaken timing rows pid new []) → IsFresh form it (Fec new)
 fresh_again form it old new reads begun = by_kind it.kind refl reads
   where
@@ -156,7 +156,7 @@ none_counted : (ended : Bool) (form : RecordingForm) (it : ServiceFields) (recor
 none_counted ended form it records none = ap (λ (frames : List (List TimedSection)). frame_numbers (rows_of it.kind) (closed_frames ended frames)) (sym none)
 
 module _ (form : RecordingForm) (it : ServiceFields) (pid rows parity : ℕ) (window : Option WindowFields) (kind_is : it.kind ≡ fec pid rows parity window)
-    (state : FrameReceptionState) (records : List Record) where
+    (state : FecReceptionState) (records : List Record) where
   counted_by_frames : (ended : Bool) → state.frames.on_pid ≡ pid_numbers section_form pid records
       → unread_alone state.frames.unread ≡ unit_numbers it (units_of it records)
       → state.frames.of_frames ≡ frame_numbers rows (closed_in ended (timing_in form (is_some window)) rows pid records)
@@ -258,7 +258,7 @@ plain_blank it pid state records on packets numbers units none = record {
 abbrev frames_of : Timing → ℕ → List Arrival → List (List TimedSection)
 frames_of timing rows packets = received_frames timing rows (flat_map (sections_of_unit rows) (accepted_in section_form packets))
 
-framed_blank : (timing : Timing) (rows pid : ℕ) (state : FrameReceptionState) (records : List Record) → received_packets pid records ≡ []
+framed_blank : (timing : Timing) (rows pid : ℕ) (state : FecReceptionState) (records : List Record) → received_packets pid records ≡ []
     → pid_numbers section_form pid records ≡ no_numbers → framed.HasTaken timing rows pid state [] → framed.HasTaken timing rows pid state records
 framed_blank timing rows pid state records packets numbers none = record {
   over = none.over;

@@ -15,7 +15,7 @@ use Rattle.loss_report.specs.declared.counts.StreamCounts.{StreamCounts}
 use Rattle.demux_core.specs.Counts.{stream_counts_of}
 use Rattle.demux_core.specs.Services.{HaveAllReceived}
 use Rattle.demux_core.specs.declared.service.ServiceReceiver.{ServiceReceiver}
-use Rattle.demux_core.specs.declared.table.TableReceiver.{TableReceiver}
+use Rattle.demux_core.specs.declared.table.IntReceiver.{IntReceiver}
 use Rattle.demux_core.proofs.Laws.{Laws}
 use Rattle.demux_core.proofs.Whole.{Misses, int_passes, all_passed, nothing_given}
 
@@ -220,17 +220,17 @@ module _ (plan : PlanFields) (laws : Laws plan) (records : List Record) (r : Rec
 pub misses_none : (r : Record) → IsOnNone r → (receivers : List ServiceReceiver) → Misses r receivers
 misses_none r none receivers = λ k receiver found. none receiver.pid
 
-pub all_miss : (plan : PlanFields) (laws : Laws plan) (receivers : List ServiceReceiver) (table : Option TableReceiver) (records : List Record) (r : Record) → IsOnNone r
+pub all_miss : (plan : PlanFields) (laws : Laws plan) (receivers : List ServiceReceiver) (table : Option IntReceiver) (records : List Record) (r : Record) → IsOnNone r
     → HaveAllReceived false plan receivers table records → HaveAllReceived false plan receivers table (records ++ r ∷ [])
 all_miss plan laws receivers table records r none all = all_passed plan laws receivers table records r all (λ pid own. none pid) (misses_none r none receivers)
 
-pub none_given : (plan : PlanFields) (laws : Laws plan) (receivers : List ServiceReceiver) (table : Option TableReceiver) (records : List Record) (r : Record) → IsOnNone r
+pub none_given : (plan : PlanFields) (laws : Laws plan) (receivers : List ServiceReceiver) (table : Option IntReceiver) (records : List Record) (r : Record) → IsOnNone r
     → HaveAllReceived false plan receivers table records → pairs_of_record plan (records ++ r ∷ []) (length records) ≡ []
 none_given plan laws receivers table records r none all =
     nothing_given plan laws receivers table records r all (misses_none r none receivers) (int_passes plan laws receivers table records r all (λ pid own. none pid)).1
 
 -- the same under equal plans, receivers and records
-pub all_along : (ended : Bool) (a b : PlanFields) (xs ys : List ServiceReceiver) (table : Option TableReceiver) (rs ss : List Record) → a ≡ b → xs ≡ ys → rs ≡ ss
+pub all_along : (ended : Bool) (a b : PlanFields) (xs ys : List ServiceReceiver) (table : Option IntReceiver) (rs ss : List Record) → a ≡ b → xs ≡ ys → rs ≡ ss
     → HaveAllReceived ended a xs table rs → HaveAllReceived ended b ys table ss
 all_along ended a b xs ys table rs ss plans receivers records all =
     subst (λ (t : List Record). HaveAllReceived ended b ys table t) records

@@ -17,20 +17,20 @@ use Rattle.service_reception.proofs.Records.{is_of_read}
 use Rattle.demux_core.specs.Services.{IsReception, IsReceivingOne, HaveAllReceived, is_table_pid}
 use Rattle.demux_core.specs.declared.service.ServiceReceiver.{ServiceReceiver}
 use Rattle.demux_core.specs.declared.services.Services.{Services}
-use Rattle.demux_core.specs.declared.table.TableReceiver.{TableReceiver}
+use Rattle.demux_core.specs.declared.table.IntReceiver.{IntReceiver}
 use Rattle.demux_core.proofs.Laws.{Laws}
 use Rattle.demux_core.proofs.OnPids.{found_at, not_found, place_known}
 use Rattle.demux_core.proofs.One.{is_receiving}
 use Rattle.demux_core.proofs.Whole.{known, misses_all, still_in_force, none_took, nothing_given, service_took, given_by_one}
 
 -- what left the receivers as they were
-pub left_as : (plan : PlanFields) (old new : Services) (table left : Option TableReceiver) (records : List Record) → new ≡ old → left ≡ table
+pub left_as : (plan : PlanFields) (old new : Services) (table left : Option IntReceiver) (records : List Record) → new ≡ old → left ≡ table
     → HaveAllReceived false plan old.receivers.items table records → HaveAllReceived false plan new.receivers.items left records
 left_as plan old new table left records same same_table all =
-    subst (λ (t : Option TableReceiver). HaveAllReceived false plan new.receivers.items t records) (sym same_table)
+    subst (λ (t : Option IntReceiver). HaveAllReceived false plan new.receivers.items t records) (sym same_table)
     (subst (λ (s : Services). HaveAllReceived false plan s.receivers.items table records) (sym same) all)
 
-module _ (plan : PlanFields) (laws : Laws plan) (right : has_wrong_change plan ≡ false) (receivers : List ServiceReceiver) (table : Option TableReceiver) (records : List Record)
+module _ (plan : PlanFields) (laws : Laws plan) (right : has_wrong_change plan ≡ false) (receivers : List ServiceReceiver) (table : Option IntReceiver) (records : List Record)
     (moment : ℕ) (bytes : List ℕ) (pid : ℕ) (readable : is_packet bytes ≡ true) (of_pid : (fields_of bytes).pid ≡ pid)
     (off : is_table_pid table pid ≡ false) (all : HaveAllReceived false plan receivers table records) where
   abbrev r : Record

@@ -29,7 +29,7 @@ use Rattle.service_reception.proofs.Fronts.{table_stays}
 use Rattle.demux_core.specs.Moving.{AllFollow, closed_by_switch}
 use Rattle.demux_core.specs.Services.{IsReception, HasReceivedOne, HaveReceived, HasReceivedBy, HasReceivedInt, HaveAllReceived, is_table_pid, is_service_pid, version_of_table}
 use Rattle.demux_core.specs.declared.service.ServiceReceiver.{ServiceReceiver}
-use Rattle.demux_core.specs.declared.table.TableReceiver.{TableReceiver}
+use Rattle.demux_core.specs.declared.table.IntReceiver.{IntReceiver}
 use Rattle.demux_core.proofs.Laws.{Laws}
 use Rattle.demux_core.proofs.OnPids.{neither, some_at, set_same, set_other, receiver_pids, none_passes, pids_apart, any_by_pid}
 use Rattle.demux_core.proofs.One.{one_passes, one_took, one_follows}
@@ -85,11 +85,11 @@ differ_in plan version most right =
     (neither _ (list_any (moves_wrongly plan) plan.changes || has_pair (λ a b. a == b) (all_pids plan)) right).1).1
 
 -- The version that the INT's receiver has.
-pub version_is : (plan : PlanFields) (laws : Laws plan) (table : Option TableReceiver) (records : List Record) → HasReceivedInt plan table records
+pub version_is : (plan : PlanFields) (laws : Laws plan) (table : Option IntReceiver) (records : List Record) → HasReceivedInt plan table records
     → version_of_table table ≡ version_at_end plan records
 version_is plan laws table records has = by_int plan.table refl table has
   where
-    by_int : (int : Option IntFields) → plan.table ≡ int → (t : Option TableReceiver) → HasReceivedBy plan int t records → version_of_table t ≡ version_at_end plan records
+    by_int : (int : Option IntFields) → plan.table ≡ int → (t : Option IntReceiver) → HasReceivedBy plan int t records → version_of_table t ≡ version_at_end plan records
     by_int None is None h = sym (laws.without_table records is)
     by_int None is (Some t) h = absurd h
     by_int (Some int) is None h = absurd h
@@ -100,11 +100,11 @@ version_is plan laws table records has = by_int plan.table refl table has
         ∙ sym (laws.in_force records)
 
 -- The section that the INT's receiver shows.
-abbrev pub shown_of : Option TableReceiver → Option (List ℕ)
+abbrev pub shown_of : Option IntReceiver → Option (List ℕ)
 shown_of None = None
 shown_of (Some receiver) = receiver.reception.kept.shown
 
-pub shown_is : (plan : PlanFields) (laws : Laws plan) (table : Option TableReceiver) (records : List Record) → HasReceivedInt plan table records
+pub shown_is : (plan : PlanFields) (laws : Laws plan) (table : Option IntReceiver) (records : List Record) → HasReceivedInt plan table records
     → shown_of table ≡ table_section plan records
 shown_is plan laws table records has = by_int plan.table refl table has
   where
@@ -115,7 +115,7 @@ shown_is plan laws table records has = by_int plan.table refl table has
     none_shown true = refl
     none_shown false = refl
 
-    by_int : (int : Option IntFields) → plan.table ≡ int → (t : Option TableReceiver) → HasReceivedBy plan int t records → shown_of t ≡ table_section plan records
+    by_int : (int : Option IntFields) → plan.table ≡ int → (t : Option IntReceiver) → HasReceivedBy plan int t records → shown_of t ≡ table_section plan records
     by_int None is None h =
         none_shown (version_at_end plan records == 0)
         ∙ ap (λ (o : Option IntFields). shown_by (version_at_end plan records) (units_on section_form (table_pid o) records)) (sym is)
@@ -127,7 +127,7 @@ shown_is plan laws table records has = by_int plan.table refl table has
         ∙ ap (λ (o : Option IntFields). shown_among plan (units_on section_form (table_pid o) records)) (sym is)
         ∙ ap (λ (version : ℕ). shown_by version (table_sections plan records)) (sym (laws.in_force records))
 
-module _ (plan : PlanFields) (laws : Laws plan) (receivers : List ServiceReceiver) (table : Option TableReceiver) (records : List Record) (r : Record)
+module _ (plan : PlanFields) (laws : Laws plan) (receivers : List ServiceReceiver) (table : Option IntReceiver) (records : List Record) (r : Record)
     (all : HaveAllReceived false plan receivers table records) where
   abbrev after : List Record
   after = records ++ r ∷ []
@@ -142,7 +142,7 @@ module _ (plan : PlanFields) (laws : Laws plan) (receivers : List ServiceReceive
     each = λ k receiver found. one_passes plan laws k receiver records r (all.services.each k receiver found) (misses k receiver found);
   }
 
-  int_by : (int : Option IntFields) → plan.table ≡ int → (t : Option TableReceiver) → ((pid : ℕ) → is_table_pid t pid ≡ true → is_on pid r ≡ false)
+  int_by : (int : Option IntFields) → plan.table ≡ int → (t : Option IntReceiver) → ((pid : ℕ) → is_table_pid t pid ≡ true → is_on pid r ≡ false)
       → HasReceivedBy plan int t records → HasReceivedBy plan int t after × (version_at_end plan after ≡ now)
   int_by None is None none has = (tt, laws.without_table after is ∙ sym (laws.without_table records is))
   int_by None is (Some t) none has = absurd has
@@ -186,7 +186,7 @@ module _ (plan : PlanFields) (laws : Laws plan) (receivers : List ServiceReceive
     receivers_differ = ap (has_pair (λ a b. a == b)) (sym same) ∙ services_differ plan.table (service_pids (plan_in plan now)) pids_differ
 
     -- whether the PID is one of the plan
-    known_by : (int : Option IntFields) (t : Option TableReceiver) → HasReceivedBy plan int t records
+    known_by : (int : Option IntFields) (t : Option IntReceiver) → HasReceivedBy plan int t records
         → list_any (λ other. other == pid) (table_pids int ++ service_pids (plan_in plan now)) ≡ (is_table_pid t pid || is_service_pid receivers pid)
     known_by None None has = ap (list_any (λ other. other == pid)) same ∙ sym (any_by_pid receivers pid)
     known_by None (Some t) has = absurd has
@@ -203,7 +203,7 @@ module _ (plan : PlanFields) (laws : Laws plan) (receivers : List ServiceReceive
         (λ is. true_false (sym own ∙ ap p (sym is) ∙ none_passes p receivers k receiver none found))
 
     -- a packet of the INT's PID misses all services
-    int_misses : (int : Option IntFields) (t : Option TableReceiver) → HasReceivedBy plan int t records
+    int_misses : (int : Option IntFields) (t : Option IntReceiver) → HasReceivedBy plan int t records
         → has_pair (λ a b. a == b) (table_pids int ++ service_pids (plan_in plan now)) ≡ false → is_table_pid t pid ≡ true → Misses r receivers
     int_misses None None has apart own = absurd (cc)
     int_misses None (Some t) has apart own = absurd has
@@ -232,7 +232,7 @@ module _ (plan : PlanFields) (laws : Laws plan) (receivers : List ServiceReceive
     none_took off none = all_passed (off_int off) (misses_all none)
 
     -- the INT's receiver took it, and left the version in force, or all receivers follow
-    module _ (new : Option TableReceiver) (own : is_table_pid table pid ≡ true) (took : HasReceivedInt plan new after) where
+    module _ (new : Option IntReceiver) (own : is_table_pid table pid ≡ true) (took : HasReceivedInt plan new after) where
       pub int_took : version_of_table new ≡ version_of_table table → HaveAllReceived false plan receivers new after
       int_took stays = record {
         services = subst (λ (v : ℕ). HaveReceived false plan v receivers after)
@@ -249,7 +249,7 @@ module _ (plan : PlanFields) (laws : Laws plan) (receivers : List ServiceReceive
           → pairs_of_record plan after (length records) ≡ delivered.pairs_of plan (closed_by_switch plan now version records)
       int_gives on version is_version = by_int plan.table refl table all.int own
         where
-          by_int : (int : Option IntFields) → plan.table ≡ int → (t : Option TableReceiver) → HasReceivedBy plan int t records → is_table_pid t pid ≡ true
+          by_int : (int : Option IntFields) → plan.table ≡ int → (t : Option IntReceiver) → HasReceivedBy plan int t records → is_table_pid t pid ≡ true
               → pairs_of_record plan after (length records) ≡ delivered.pairs_of plan (closed_by_switch plan now version records)
           by_int None is None has mine = absurd (cc)
           by_int None is (Some t) has mine = absurd has

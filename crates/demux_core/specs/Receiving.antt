@@ -7,7 +7,7 @@ use Rattle.loss_report.specs.declared.counts.StreamCounts.{StreamCounts}
 use Rattle.demux_core.specs.Counts.{stream_counts_of}
 use Rattle.demux_core.specs.Services.{HaveAllReceived}
 use Rattle.demux_core.specs.declared.service.ServiceReceiver.{ServiceReceiver}
-use Rattle.demux_core.specs.declared.table.TableReceiver.{TableReceiver}
+use Rattle.demux_core.specs.declared.table.IntReceiver.{IntReceiver}
 
 -- a receiver: its plan, whether it may be given records, what it has counted of the stream, the receivers of each service
 -- and of the INT
@@ -16,7 +16,7 @@ pub record ReceiverState : Type 0 where
   pub is_open : Bool
   pub stream : StreamCounts
   pub services : List ServiceReceiver
-  pub table : Option TableReceiver
+  pub table : Option IntReceiver
 
 -- the receiver was given these records under this plan, and the recording has ended, or more may come
 pub record HasReceived (ended : Bool) (plan : PlanFields) (records : List Record) (receiver : ReceiverState) : Type 0 where

@@ -3,7 +3,7 @@ use Rattle.std.specs.Prelude.{◌≡◌, ℕ, ◌^◌, ◌<◌, ◌≤◌, ◌==
 use Rattle.std.specs.List.{list_any}
 use Rattle.ts_spec.specs.Recording.{RecordingForm, Record}
 use Rattle.slice_spec.specs.Sections.{Timing}
-use Rattle.frame_spec.specs.Groups.{timing_in}
+use Rattle.fec_frame_spec.specs.Groups.{timing_in}
 use Rattle.plan_spec.specs.Plan.{KindFields, ule, mpe, fec, gse, pid_of, ServiceFields, IntFields, PlanFields}
 use Rattle.plan_spec.specs.Changes.{pid_in, has_wrong_change}
 use Rattle.reception_spec.specs.Frames.{no_frames}
@@ -13,15 +13,15 @@ use Rattle.service_counts.specs.declared.counts.ServiceCounts.{ServiceCounts}
 use Rattle.service_reception.specs.Counting.{service_counts_of}
 use Rattle.service_reception.specs.Services.{IsUle, IsMpe}
 use Rattle.service_reception.specs.Reception as one
-use Rattle.frame_reception.specs.Reception.{FramesState, FrameReceptionState, IsOver}
-use Rattle.frame_reception.specs.Reception as framed
-use Rattle.frame_reception.specs.Counting.{unread_alone}
+use Rattle.fec_reception.specs.Reception.{FramesState, FecReceptionState, IsOver}
+use Rattle.fec_reception.specs.Reception as framed
+use Rattle.fec_reception.specs.Counting.{unread_alone}
 use Rattle.demux_core.specs.Counts.{counts_before}
 use Rattle.service_reception.specs.Table.{HasReceivedTable}
 use Rattle.demux_core.specs.declared.service.ByKind.{ByKind}
 use Rattle.demux_core.specs.declared.service.ByKind.TheVariants.{Ule, Mpe, Fec}
 use Rattle.demux_core.specs.declared.service.ServiceReceiver.{ServiceReceiver}
-use Rattle.demux_core.specs.declared.table.TableReceiver.{TableReceiver}
+use Rattle.demux_core.specs.declared.table.IntReceiver.{IntReceiver}
 
 -- One service.
 
@@ -45,11 +45,11 @@ ReadsKind form (Mpe reception) kind = IsMpe kind
 ReadsKind form (Fec reception) kind = ReadsFrames form reception.frames kind
 
 -- these records were received of a service with frames: no more can come (ended), or more may
-abbrev pub HasFramesOf : Bool → Timing → ℕ → ℕ → FrameReceptionState → List Record → Type 0
+abbrev pub HasFramesOf : Bool → Timing → ℕ → ℕ → FecReceptionState → List Record → Type 0
 HasFramesOf true timing rows pid reception records = framed.HasEnded timing rows pid reception records
 HasFramesOf false timing rows pid reception records = framed.HasTaken timing rows pid reception records
 
-abbrev pub HasTakenFrames : Bool → RecordingForm → KindFields → FrameReceptionState → List Record → Type 0
+abbrev pub HasTakenFrames : Bool → RecordingForm → KindFields → FecReceptionState → List Record → Type 0
 HasTakenFrames ended form (ule pid address packing) reception records = ⊥
 HasTakenFrames ended form (mpe pid) reception records = ⊥
 HasTakenFrames ended form (fec pid rows parity window) reception records = HasFramesOf ended (timing_in form (is_some window)) rows pid reception records
@@ -104,22 +104,22 @@ is_service_pid receivers pid = list_any (λ (receiver : ServiceReceiver). receiv
 -- The INT.
 
 -- the receiver of the INT's PID, where the plan has one
-abbrev pub HasReceivedBy : PlanFields → Option IntFields → Option TableReceiver → List Record → Type 0
+abbrev pub HasReceivedBy : PlanFields → Option IntFields → Option IntReceiver → List Record → Type 0
 HasReceivedBy plan None None records = Unit {0}
 HasReceivedBy plan None (Some receiver) records = ⊥
 HasReceivedBy plan (Some int) None records = ⊥
 HasReceivedBy plan (Some int) (Some receiver) records = (int.pid ≡ receiver.pid) × HasReceivedTable plan int receiver.pid receiver.reception records
 
-abbrev pub HasReceivedInt : PlanFields → Option TableReceiver → List Record → Type 0
+abbrev pub HasReceivedInt : PlanFields → Option IntReceiver → List Record → Type 0
 HasReceivedInt plan table records = HasReceivedBy plan plan.table table records
 
 -- the PID is the INT's
-abbrev pub is_table_pid : Option TableReceiver → ℕ → Bool
+abbrev pub is_table_pid : Option IntReceiver → ℕ → Bool
 is_table_pid None pid = false
 is_table_pid (Some receiver) pid = receiver.pid == pid
 
 -- the version that the INT put in force
-abbrev pub version_of_table : Option TableReceiver → ℕ
+abbrev pub version_of_table : Option IntReceiver → ℕ
 version_of_table None = 0
 version_of_table (Some receiver) = receiver.reception.kept.version
 
@@ -127,11 +127,11 @@ version_of_table (Some receiver) = receiver.reception.kept.version
 
 -- there is a receiver for each service of the plan, of which there are 64 at most; what changes the plan is right, and makes 32 versions
 -- at most, up to the last one of the INT's receiver
-abbrev pub IsUpToLast : PlanFields → Option TableReceiver → Type 0
+abbrev pub IsUpToLast : PlanFields → Option IntReceiver → Type 0
 IsUpToLast plan None = Unit {0}
 IsUpToLast plan (Some receiver) = receiver.reception.kept.last_version ≡ length plan.changes
 
-pub record FitsPlan (plan : PlanFields) (count : ℕ) (table : Option TableReceiver) : Type 0 where
+pub record FitsPlan (plan : PlanFields) (count : ℕ) (table : Option IntReceiver) : Type 0 where
   pub count_is : count ≡ length plan.services
   pub few : length plan.services ≤ 64
   pub right_changes : has_wrong_change plan ≡ false
@@ -139,6 +139,6 @@ pub record FitsPlan (plan : PlanFields) (count : ℕ) (table : Option TableRecei
   pub up_to_last : IsUpToLast plan table
 
 -- all receivers were given these records, and the services are on their PIDs of the version that is then in force
-pub record HaveAllReceived (ended : Bool) (plan : PlanFields) (receivers : List ServiceReceiver) (table : Option TableReceiver) (records : List Record) : Type 0 where
+pub record HaveAllReceived (ended : Bool) (plan : PlanFields) (receivers : List ServiceReceiver) (table : Option IntReceiver) (records : List Record) : Type 0 where
   pub services : HaveReceived ended plan (version_at_end plan records) receivers records
   pub int : HasReceivedInt plan table records

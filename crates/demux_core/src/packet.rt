@@ -13,18 +13,18 @@ ghost use Rattle.demux_core.specs.Places.{AreFound};
 ghost use Rattle.outlet_spec.specs.Pairs.{Delivers, DeliversFront};
 ghost use Rattle.demux_core.specs.Services.{FitsPlan, HaveAllReceived, is_table_pid};
 
+use crate::int_receiver::{IntReceiver, take_for_int, version_in_force};
 use crate::services::{Services, place_of};
 use crate::switch::move_services;
-use crate::table::{TableReceiver, take_for_table, version_in_force};
 use ipe_io::{Failed, Outlet};
 use plan::Plan;
 use ts_packet::Packet;
 
 /// Takes a packet where it is one of the INT's PID, and says whether it is. Where it puts another version of the plan in
 /// force, all services move to their PIDs of that version.
-fn receive_table<T: Outlet>(
+fn receive_int<T: Outlet>(
     plan: &Plan,
-    table: &mut Option<TableReceiver<'_>>,
+    table: &mut Option<IntReceiver<'_>>,
     services: &mut Services<'_>,
     bytes: &[u8; 188],
     packet: &Packet<'_>,
@@ -51,7 +51,7 @@ fn receive_table<T: Outlet>(
     ensures found { AreFound services.new }
 {
     let before = version_in_force(table);
-    if !take_for_table(table, bytes, packet, moment) {
+    if !take_for_int(table, bytes, packet, moment) {
         return Ok(false);
     }
     let version = version_in_force(table);
@@ -64,7 +64,7 @@ fn receive_table<T: Outlet>(
 /// Takes a packet, delivers what ends in it, and says whether its PID is one of the plan, in the version in force.
 pub(crate) fn receive_packet<T: Outlet>(
     plan: &Plan,
-    table: &mut Option<TableReceiver<'_>>,
+    table: &mut Option<IntReceiver<'_>>,
     services: &mut Services<'_>,
     bytes: &[u8; 188],
     packet: &Packet<'_>,
@@ -91,7 +91,7 @@ pub(crate) fn receive_packet<T: Outlet>(
     ensures services { T.services outlet.new ≡ T.services outlet.old }
     ensures cause { HasCause (T.faults outlet.old) (T.faults outlet.new) result }
 {
-    if receive_table(plan, table, services, bytes, packet, moment, outlet)? {
+    if receive_int(plan, table, services, bytes, packet, moment, outlet)? {
         return Ok(true);
     }
     let at = match place_of(services, packet.pid) {

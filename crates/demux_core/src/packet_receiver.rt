@@ -15,10 +15,10 @@ ghost use Rattle.outlet_spec.specs.Pairs.{Delivers, DeliversFront};
 ghost use Rattle.demux_core.specs.Receiving.{HasReceived};
 
 use crate::content::{Content, content_of};
+use crate::int_receiver::{IntReceiver, open_int, version_in_force};
 use crate::packet::receive_packet;
 use crate::services::{Services, open_services};
 use crate::switch::close_services;
-use crate::table::{TableReceiver, open_table, version_in_force};
 use bumpalo::Bump;
 use ipe_io::{Failed, OutOfMemory, Outlet};
 use loss_report::{ServiceCounts, StreamCounts};
@@ -33,7 +33,7 @@ pub struct PacketReceiver<'a> {
     is_open: bool,
     stream: StreamCounts,
     services: Services<'a>,
-    table: Option<TableReceiver<'a>>,
+    table: Option<IntReceiver<'a>>,
 }
 
 impl<'a> Model for PacketReceiver<'a> {
@@ -65,7 +65,7 @@ impl<'a> PacketReceiver<'a> {
         ensures is_open { IfOk result (λ receiver. receiver.is_open ≡ true) }
         ensures plan { IfOk result (λ receiver. receiver.plan ≡ plan_fields plan.now) }
     {
-        let table = open_table(arena, &plan.table, plan.changes.len() as u8)?;
+        let table = open_int(arena, &plan.table, plan.changes.len() as u8)?;
         let services = open_services(arena, &plan.services, plan.recording)?;
         Ok(PacketReceiver {
             plan,

@@ -18,7 +18,7 @@ ghost use Rattle.demux_core.specs.Counts.{stream_counts_of, counts_of_service};
 ghost use Rattle.demux_core.specs.Carriers.{plan_of, is_open_in, stream_of, HasReceivedPackets, HasReceivedFrames};
 
 use crate::packet_receiver::PacketReceiver;
-use bb_demux::FrameReceiver;
+use bb_demux::BbReceiver;
 use bumpalo::Bump;
 use ipe_io::{Failed, OutOfMemory, Outlet};
 use loss_report::{ServiceCounts, StreamCounts};
@@ -32,7 +32,7 @@ pub(crate) enum ByCarrier<'a> {
     /// Of transport packets.
     Packets(PacketReceiver<'a>),
     /// Of baseband frames.
-    Frames(FrameReceiver<'a>),
+    Frames(BbReceiver<'a>),
 }
 
 /// The receiver of all services of a plan.
@@ -65,7 +65,7 @@ impl<'a> Receiver<'a> {
                 part: ByCarrier::Packets(PacketReceiver::open(arena, plan)?),
             }),
             Some(_) => Ok(Receiver {
-                part: ByCarrier::Frames(FrameReceiver::open(arena, plan)?),
+                part: ByCarrier::Frames(BbReceiver::open(arena, plan)?),
             }),
         }
     }

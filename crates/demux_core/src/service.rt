@@ -21,7 +21,7 @@ use addr_rules::MacList;
 use bumpalo::Bump;
 use byte_slices::zeros;
 use fec_frame::Table;
-use frame_reception::FrameReception;
+use fec_reception::FecReception;
 use ipe_io::{Failed, OutOfMemory, Outlet, Recording};
 use plan::Kind;
 use section_codec::SectionForm;
@@ -39,7 +39,7 @@ pub(crate) enum ByKind<'a> {
     /// Of datagram_sections.
     Mpe(Reception<SectionForm, &'a Bump>),
     /// Of the sections of MPE-FEC frames.
-    Fec(FrameReception<&'a Bump>),
+    Fec(FecReception<&'a Bump>),
 }
 
 /// The receiver of one service.
@@ -98,7 +98,7 @@ fn fec_reception(
     let buffer = zeros(arena, SectionForm::LONGEST)?;
     let table = Table::over(rows, bytes, marks, work);
     let ten = ten_milliseconds(recording);
-    Ok(ByKind::Fec(FrameReception::over(buffer, table, sliced, ten)))
+    Ok(ByKind::Fec(FecReception::over(buffer, table, sliced, ten)))
 }
 
 impl<'a> ByKind<'a> {

@@ -9,7 +9,7 @@ use Rattle.fec_spec.specs.Codeword.{row_value, IsCodeword}
 use Rattle.fec_spec.specs.Row.{is_among, Agrees}
 use Rattle.field_law.proofs.Field.{product_fits, product_sum_left, product_sum_right, product_assoc, product_comm, product_zero_right, product_one_left}
 use Rattle.field_law.proofs.Products.{xor_swap}
-use Rattle.erasure_law.specs.Roots.{combined, differences, eliminated, place_power, root_polynomial, times_root, values_of}
+use Rattle.erasure_law.specs.Roots.{combined, differences, eliminated, place_power, root_polynomial, times_root, syndromes_of}
 use Rattle.erasure_law.proofs.Sums.{sum_of, value_is_differences, weight_of, combined_is, combined_zero, length-roots, row_value_none, row_value_more}
 use Rattle.erasure_law.proofs.Unique.{term, sum_same, one_left, differences_none, weight_is, length-map_powers}
 
@@ -108,7 +108,7 @@ weight_at places m i = ap (λ t. field_product (field_power (place_power i) m) t
 -- rows that agree but at the places
 pub eliminated_agree : (places c d : List ℕ) (m : ℕ) → length c ≡ 255 → length d ≡ 255
     → ((j : ℕ) → j < 255 → is_among j places ≡ false → get_or c j 0 ≡ get_or d j 0)
-    → eliminated places (values_of c) m ≡ eliminated places (values_of d) m
+    → eliminated places (syndromes_of c) m ≡ eliminated places (syndromes_of d) m
 eliminated_agree places c d m lc ld agree =
     let p : List ℕ = root_polynomial (map place_power places) in
     let w : ℕ → ℕ = weight_of p m in
@@ -138,7 +138,7 @@ only_difference a b x y h =
 -- a row of which one byte has e added
 pub eliminated_changed : (places c d : List ℕ) (i e : ℕ) → length c ≡ 255 → length d ≡ 255 → i < 255
     → ((j : ℕ) → j < 255 → (j ≡ i → ⊥) → get_or c j 0 ≡ get_or d j 0) → get_or d i 0 ≡ bit_xor (get_or c i 0) e
-    → eliminated places (values_of d) 0 ≡ bit_xor (eliminated places (values_of c) 0) (field_product e (differences (map place_power places) (place_power i)))
+    → eliminated places (syndromes_of d) 0 ≡ bit_xor (eliminated places (syndromes_of c) 0) (field_product e (differences (map place_power places) (place_power i)))
 eliminated_changed places c d i e lc ld low same added =
     let p : List ℕ = root_polynomial (map place_power places) in
     let w : ℕ → ℕ = weight_of p 0 in
@@ -156,23 +156,23 @@ eliminated_changed places c d i e lc ld low same added =
     ∙ ap (λ s. bit_xor s (field_product e at)) (sym (combined_is p c 0))
 
 -- of a codeword nothing is left
-pub eliminated_codeword : (places c : List ℕ) (m : ℕ) → IsCodeword c → m + length places < 64 → eliminated places (values_of c) m ≡ 0
+pub eliminated_codeword : (places c : List ℕ) (m : ℕ) → IsCodeword c → m + length places < 64 → eliminated places (syndromes_of c) m ≡ 0
 eliminated_codeword places c m is few =
     let p : List ℕ = root_polynomial (map place_power places) in
     let lp : length p ≡ suc (length (map place_power places)) = length-roots (map place_power places) in
     let lm : length (map place_power places) ≡ length places = length-map_powers places in
-    combined_zero p (values_of c) m 64 (omega arith) is.zeros
+    combined_zero p (syndromes_of c) m 64 (omega arith) is.zeros
 
 -- nor of a row that agrees with it but at the places
-pub nothing_left : (unknown row code : List ℕ) (m : ℕ) → IsCodeword code → length row ≡ 255 → Agrees unknown row code → m + length unknown < 64 → eliminated unknown (values_of row) m ≡ 0
+pub nothing_left : (unknown row code : List ℕ) (m : ℕ) → IsCodeword code → length row ≡ 255 → Agrees unknown row code → m + length unknown < 64 → eliminated unknown (syndromes_of row) m ≡ 0
 nothing_left unknown row code m is long agrees few =
     eliminated_agree unknown row code m long is.long agrees.known ∙ eliminated_codeword unknown code m is few
 
 pub codeword_left : (unknown row : List ℕ) → length row ≡ 255 → All (λ b. b < 256) row
-    → ((j : ℕ) → j < 64 → eliminated (drop (length unknown - j) unknown) (values_of row) (j - length unknown) ≡ 0)
+    → ((j : ℕ) → j < 64 → eliminated (drop (length unknown - j) unknown) (syndromes_of row) (j - length unknown) ≡ 0)
     → IsCodeword row
 codeword_left unknown row long bytes none = record {
   long = long;
   bytes = bytes;
-  zeros = zeros_left unknown (values_of row) (λ m. value_fits (field_power 2 m) row) none;
+  zeros = zeros_left unknown (syndromes_of row) (λ m. value_fits (field_power 2 m) row) none;
 }

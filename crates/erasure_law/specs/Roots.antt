@@ -42,5 +42,5 @@ abbrev pub eliminated : List ℕ → (ℕ → ℕ) → ℕ → ℕ
 eliminated places values m = combined (root_polynomial (map place_power places)) values m
 
 -- the values of a row at the powers of 2
-abbrev pub values_of : List ℕ → ℕ → ℕ
-values_of row m = row_value (field_power 2 m) row
+abbrev pub syndromes_of : List ℕ → ℕ → ℕ
+syndromes_of row m = row_value (field_power 2 m) row

@@ -5,7 +5,7 @@
 
 ghost use Rattle.std.specs.Prelude.{◌∷◌, ◌≡◌, ◌+◌, ◌-◌, ◌<◌, ◌≤◌, ◌≢◌, ℕ, List, drop, length, map, slice_index, suc, true};
 ghost use Rattle.wire_spec.specs.Bytes.{AreBytes};
-ghost use Rattle.erasure_law.specs.Roots.{combined, differences, eliminated, place_power, values_of, polynomial_value, root_polynomial, without};
+ghost use Rattle.erasure_law.specs.Roots.{combined, differences, eliminated, place_power, syndromes_of, polynomial_value, root_polynomial, without};
 ghost use Rattle.fec_spec.specs.Codeword.{IsCodeword, row_value};
 ghost use Rattle.fec_spec.specs.Field.{field_power, field_product, field_sum};
 ghost use Rattle.fec_spec.specs.Row.{Agrees, is_among, same_places};
@@ -33,15 +33,15 @@ pub fn one_place_is_eliminated()
 
 /// Of a row that agrees with a codeword but at the unknown places nothing is left when these are eliminated.
 pub fn nothing_is_left_of_a_codeword()
-    ensures { (unknown row code : List ℕ) (m : ℕ) → IsCodeword code → length row ≡ 255 → Agrees unknown row code → m + length unknown < 64 → eliminated unknown (values_of row) m ≡ 0 }
+    ensures { (unknown row code : List ℕ) (m : ℕ) → IsCodeword code → length row ≡ 255 → Agrees unknown row code → m + length unknown < 64 → eliminated unknown (syndromes_of row) m ≡ 0 }
 {}
 
 /// A row of which nothing is left, with no unknown place eliminated, with one, and so on, is a codeword.
 pub fn what_leaves_nothing_is_a_codeword()
-    ensures { (unknown row : List ℕ) → length row ≡ 255 → AreBytes row → ((j : ℕ) → j < 64 → eliminated (drop (length unknown - j) unknown) (values_of row) (j - length unknown) ≡ 0) → IsCodeword row }
+    ensures { (unknown row : List ℕ) → length row ≡ 255 → AreBytes row → ((j : ℕ) → j < 64 → eliminated (drop (length unknown - j) unknown) (syndromes_of row) (j - length unknown) ≡ 0) → IsCodeword row }
 {}
 
 /// A byte that is added at a place adds to what is left that byte times the product of the differences to the places.
 pub fn an_added_byte_adds()
-    ensures { (places row new : List ℕ) (i e : ℕ) → length row ≡ 255 → length new ≡ 255 → i < 255 → ((j : ℕ) → j < 255 → j ≢ i → slice_index row j ≡ slice_index new j) → slice_index new i ≡ field_sum (slice_index row i) e → eliminated places (values_of new) 0 ≡ field_sum (eliminated places (values_of row) 0) (field_product e (differences (map place_power places) (place_power i))) }
+    ensures { (places row new : List ℕ) (i e : ℕ) → length row ≡ 255 → length new ≡ 255 → i < 255 → ((j : ℕ) → j < 255 → j ≢ i → slice_index row j ≡ slice_index new j) → slice_index new i ≡ field_sum (slice_index row i) e → eliminated places (syndromes_of new) 0 ≡ field_sum (eliminated places (syndromes_of row) 0) (field_product e (differences (map place_power places) (place_power i))) }
 {}

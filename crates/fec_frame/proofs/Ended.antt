@@ -3,9 +3,9 @@ use Rattle.std.proofs.Common.{◌≡◌, ℕ, ◌+◌, ◌*◌, ◌/◌, ◌%◌
 use Rattle.std.specs.Prelude.{is_none, is_some, count_by}
 use Rattle.std.specs.List.{range_with_len}
 use Rattle.std.proofs.lemmas.Nat.{div-add-mod', div_below, mod_below}
-use Rattle.frame_spec.specs.Sections.{FrameSection, data_of}
-use Rattle.frame_spec.specs.Known.{known_byte}
-use Rattle.frame_spec.specs.Corrected.{byte_of_row, corrected_byte, mended_rows, left_rows}
+use Rattle.fec_frame_spec.specs.Sections.{FrameSection, data_of}
+use Rattle.fec_frame_spec.specs.Known.{known_byte}
+use Rattle.fec_frame_spec.specs.Corrected.{byte_of_row, corrected_byte, mended_rows, left_rows}
 use Rattle.fec_frame.specs.Marks.{is_known_mark, marked_byte, AreEdgesMarked, AreStartsMarked}
 use Rattle.fec_frame.specs.Runs.{AreRowsSolved, is_mended, is_left}
 use Rattle.fec_frame.specs.Stands.{IsOf, IsSolved}

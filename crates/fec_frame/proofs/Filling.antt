@@ -3,7 +3,7 @@ use Rattle.std.proofs.Common.{◌≡◌, ◌⊎◌, inl, inr, ℕ, ◌+◌, ◌-
 use borrow.Rule.Slice.PartMut.{put_mid}
 use Rattle.std.proofs.lemmas.Bool.{cases_eq, cases_lt, agree_below_at, and_from, and_left, and_right, lt-ltb, le-ltb, le-leb, lt-leb, cond-true, cond-false}
 use Rattle.std.proofs.lemmas.List.{get_or-set_same, get_or-set_other, get_or_append_left, get_or-append_right, get_or-take, get_or-drop, length-take-le}
-use Rattle.frame_spec.specs.Known.{is_in}
+use Rattle.fec_frame_spec.specs.Known.{is_in}
 use Rattle.fec_frame.specs.Marks.{is_known_mark, is_start_mark, marked_byte}
 use Rattle.fec_frame.specs.Filled.{AreMarkedKnown, ArePut, IsFilled}
 

@@ -2,7 +2,7 @@
 use Rattle.std.proofs.Common.{◌≡◌, ◌⊎◌, inl, inr, ℕ, zero, suc, ◌+◌, ◌-◌, ◌<◌, ◌≤◌, true, false, List, ◌∷◌, length, get_or, drop, take, Option, Some, None, refl, ap, sym, ◌∙◌, arith}
 use Rattle.std.proofs.lemmas.Bool.{cond-true, cond-false, cases_lt}
 use Rattle.std.proofs.lemmas.List.{drop_more}
-use Rattle.frame_spec.specs.Starts.{run_on, run_within}
+use Rattle.fec_frame_spec.specs.Starts.{run_on, run_within}
 use Rattle.fec_frame.specs.Marks.{is_known_mark, marked_byte, marked_run, IsRun}
 
 -- the known bytes of a run

@@ -8,7 +8,7 @@ use Rattle.ip_datagram.specs.Hint.{hint_of, ipv4_hint, ipv6_hint}
 use Rattle.ip_datagram.specs.declared.hint.Hint.{Hint}
 use Rattle.ip_datagram.specs.declared.hint.Hint.TheVariants.{More, Padding, Length, Bad}
 use Rattle.section_spec.specs.Mpe.{MpeFields}
-use Rattle.frame_spec.specs.Starts.{run_on, run_within, known_run, IsTold, AreTold, IsDatagramStart}
+use Rattle.fec_frame_spec.specs.Starts.{run_on, run_within, known_run, IsTold, AreTold, IsDatagramStart}
 use Rattle.fec_frame.specs.Marks.{is_known_mark, is_start_mark, marked_byte, marked_run, IsRun, AreEdgesMarked, AreStartsMarked}
 use Rattle.fec_frame.proofs.KnownRuns.{marked_run_is}
 use Rattle.fec_frame.specs.Marking.{IsEndTold, AreMarkedUpTo}

@@ -8,7 +8,7 @@ use Rattle.std.proofs.lemmas.List.{map-id}
 use Rattle.std.proofs.lemmas.List.Elements.{filter-append, filter_agree, All-filter, All-from_get_or}
 use Rattle.std.proofs.lemmas.List.Kept.{IsStrictlyIncreasing-filter}
 use Rattle.std.proofs.lemmas.List.FromFn.{map-range_with_len_more, get_or-range_with_len, length-range_with_len}
-use Rattle.frame_spec.specs.Corrected.{known_row, unknown_columns, corrected_row, codeword_with, lacks_data}
+use Rattle.fec_frame_spec.specs.Corrected.{known_row, unknown_columns, corrected_row, codeword_with, lacks_data}
 use Rattle.fec_frame.specs.Marks.{is_known_mark, marked_byte}
 use Rattle.fec_frame.specs.Runs.{unmarked}
 

@@ -6,12 +6,12 @@ use Rattle.std.proofs.lemmas.List.{get_or-set_same, get_or-set_other, get_or_pas
 use Rattle.std.proofs.lemmas.List.Elements.{Contains-append_left, Contains-push, Contains-push_cases}
 use Rattle.std.proofs.lemmas.List.Concat.{flat_map-append}
 use Rattle.section_spec.specs.Mpe.{MpeFields, FecFields}
-use Rattle.frame_spec.specs.Sections.{FrameSection, data_section, parity_section, data_end, data_part, data_of}
-use Rattle.frame_spec.specs.Known.{is_in, told_byte, first_told}
-use Rattle.frame_spec.specs.Starts.{IsSectionEdge}
-use Rattle.frame_law.specs.Summary.{Summary, summary_more, is_apart, is_cut_by_summary, IsSummaryOf}
-use Rattle.frame_law.proofs.Known.{known_more}
-use Rattle.frame_law.proofs.Summary.{cut_by_summary, summary_next, summary_none}
+use Rattle.fec_frame_spec.specs.Sections.{FrameSection, data_section, parity_section, data_end, data_part, data_of}
+use Rattle.fec_frame_spec.specs.Known.{is_in, told_byte, first_told}
+use Rattle.fec_frame_spec.specs.Starts.{IsSectionEdge}
+use Rattle.fec_frame_law.specs.Summary.{Summary, summary_more, is_apart, is_cut_by_summary, IsSummaryOf}
+use Rattle.fec_frame_law.proofs.Known.{known_more}
+use Rattle.fec_frame_law.proofs.Summary.{cut_by_summary, summary_next, summary_none}
 use Rattle.fec_frame.specs.Marks.{is_known_mark, is_start_mark, marked_byte, AreEdgesMarked, IsStartSet}
 use Rattle.fec_frame.proofs.Marking.{known_set}
 use Rattle.fec_frame.specs.declared.place.State.{State}

@@ -9,8 +9,8 @@ use Rattle.std.proofs.lemmas.List.{get_or-set_same, get_or-set_other}
 use Rattle.fec_spec.specs.Row.{Agrees, IsCorrectable, is_among}
 use Rattle.fec_spec.specs.Table.{table_row}
 use Rattle.erasure_law.proofs.Tables.{get_or-table_row}
-use Rattle.frame_spec.specs.Corrected.{unknown_columns, corrected_row, byte_of_row, corrected_byte, lacks_data}
-use Rattle.frame_law.proofs.Corrected.{corrected_none, row_done, row_left, row_has_data, byte_at}
+use Rattle.fec_frame_spec.specs.Corrected.{unknown_columns, corrected_row, byte_of_row, corrected_byte, lacks_data}
+use Rattle.fec_frame_law.proofs.Corrected.{corrected_none, row_done, row_left, row_has_data, byte_at}
 use Rattle.rs_erasure.specs.Correction.{IsCorrectedBut}
 use Rattle.fec_frame.specs.Marks.{is_known_mark, is_start_mark, marked_byte}
 use Rattle.fec_frame.specs.Runs.{unmarked, IsPattern, is_good, IsMarked, IsColumnMarked, is_mended, is_left, AreRowsSolved}

@@ -3,8 +3,8 @@ use Rattle.std.proofs.Common.{◌≡◌, ◌⊎◌, inl, inr, ℕ, ◌+◌, ◌-
 use Rattle.std.specs.Prelude.{is_some}
 use Rattle.std.proofs.lemmas.Bool.{cases_Bool, cases_lt}
 use Rattle.section_spec.specs.Mpe.{MpeFields, FecFields}
-use Rattle.frame_spec.specs.Sections.{data_section, parity_section, data_end}
-use Rattle.frame_spec.specs.Known.{is_in, told_byte, first_told}
+use Rattle.fec_frame_spec.specs.Sections.{data_section, parity_section, data_end}
+use Rattle.fec_frame_spec.specs.Known.{is_in, told_byte, first_told}
 use Rattle.fec_frame.specs.Marks.{is_known_mark, marked_byte, IsRun}
 use Rattle.fec_frame.specs.declared.place.State.{State}
 use Rattle.fec_frame.specs.Stands.{TakesIn, TellsKnown}

@@ -1,6 +1,6 @@
 -- What a section does to the bytes and marks of a table.
 use Rattle.std.specs.Prelude.{◌≡◌, ℕ, ◌||◌, List, length, slice_index, if◌then◌else◌, Some}
-use Rattle.frame_spec.specs.Known.{is_in}
+use Rattle.fec_frame_spec.specs.Known.{is_in}
 use Rattle.fec_frame.specs.Marks.{is_known_mark, is_start_mark, marked_byte}
 
 -- the places from one on and before another have these bytes; all else is as it was

@@ -1,7 +1,7 @@
 -- Marks of the places of a table: whether the byte at a place is known (1), and whether a datagram can start there (2).
 use Rattle.std.specs.Prelude.{◌≡◌, ◌≢◌, ◌⊎◌, ℕ, ◌-◌, ◌*◌, ◌<◌, ◌≤◌, Bool, true, false, not, List, length, slice_index, bit_and, ◌==◌, if◌then◌else◌, Option, Some, None}
 use Rattle.section_spec.specs.Mpe.{MpeFields}
-use Rattle.frame_spec.specs.Starts.{run_within, IsSectionEdge, IsDatagramStart}
+use Rattle.fec_frame_spec.specs.Starts.{run_within, IsSectionEdge, IsDatagramStart}
 
 abbrev pub is_known_mark : ℕ → Bool
 is_known_mark mark = not (bit_and mark 1 == 0)

@@ -1,7 +1,7 @@
 -- Runs of rows that lack the same columns, corrected one after another.
 use Rattle.std.specs.Prelude.{◌≡◌, ◌⊎◌, ℕ, ◌+◌, ◌*◌, ◌<◌, ◌≤◌, Bool, not, ◌&&◌, ◌||◌, List, length, filter, count_by, slice_index, ◌==◌, Option, is_some, is_none}
 use Rattle.std.specs.List.{range_with_len}
-use Rattle.frame_spec.specs.Corrected.{corrected_row, corrected_byte, lacks_data}
+use Rattle.fec_frame_spec.specs.Corrected.{corrected_row, corrected_byte, lacks_data}
 use Rattle.fec_frame.specs.Marks.{is_known_mark, is_start_mark, marked_byte}
 
 -- the first n columns, those in which row r is not marked as known

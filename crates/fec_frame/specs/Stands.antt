@@ -1,10 +1,10 @@
 -- A table stands for the sections that were placed in it.
 use Rattle.std.specs.Prelude.{◌≡◌, ℕ, ◌*◌, ◌<◌, ◌≤◌, Bool, false, true, List, [], ◌++◌, length, slice_index, ◌==◌, Option, Some, option_map, is_some}
 use Rattle.section_spec.specs.Mpe.{MpeFields, FecFields}
-use Rattle.frame_spec.specs.Sections.{FrameSection, data_of, data_part}
-use Rattle.frame_spec.specs.Known.{first_told, told_byte, known_byte}
-use Rattle.frame_spec.specs.Corrected.{corrected_byte}
-use Rattle.frame_law.specs.Summary.{Summary, is_apart, IsSummaryOf}
+use Rattle.fec_frame_spec.specs.Sections.{FrameSection, data_of, data_part}
+use Rattle.fec_frame_spec.specs.Known.{first_told, told_byte, known_byte}
+use Rattle.fec_frame_spec.specs.Corrected.{corrected_byte}
+use Rattle.fec_frame_law.specs.Summary.{Summary, is_apart, IsSummaryOf}
 use Rattle.fec_frame.specs.Marks.{is_known_mark, marked_byte, AreEdgesMarked, AreStartsMarked}
 use Rattle.fec_frame.specs.declared.place.Column.{Column}
 use Rattle.fec_frame.specs.declared.place.State.{State}

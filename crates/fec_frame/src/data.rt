@@ -1,8 +1,8 @@
 //! Datagram_sections placed in a table.
 ghost use Rattle.std.specs.Prelude.{◌≡◌, ◌≢◌, ◌↔◌, ◌⊎◌, ◌+◌, ◌-◌, ◌*◌, ◌<◌, ◌≤◌, ◌∷◌, ◌++◌, [], ◌==◌, Bool, List, length, if◌then◌else◌, false, true, ℕ};
-ghost use Rattle.frame_spec.specs.Sections.{FrameSection, data_section};
-ghost use Rattle.frame_spec.specs.Groups.{is_cut_by_table};
-ghost use Rattle.frame_law.specs.Summary.{is_cut_by_summary, summary_more};
+ghost use Rattle.fec_frame_spec.specs.Sections.{FrameSection, data_section};
+ghost use Rattle.fec_frame_spec.specs.Groups.{is_cut_by_table};
+ghost use Rattle.fec_frame_law.specs.Summary.{is_cut_by_summary, summary_more};
 ghost use Rattle.fec_frame.specs.Stands.{IsOf, IsSameSummary, TakesIn, TellsKnown, data_fields, summary_of};
 
 use crate::fill::fill_piece;

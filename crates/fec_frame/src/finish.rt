@@ -1,8 +1,8 @@
 //! A frame that ended: its rows corrected, and the starts of its datagrams marked.
 ghost use Rattle.std.specs.Prelude.{◌≡◌, ◌*◌, ◌<◌, ◌≤◌, List, length};
-ghost use Rattle.frame_spec.specs.Sections.{FrameSection};
-ghost use Rattle.frame_spec.specs.Known.{known_byte};
-ghost use Rattle.frame_spec.specs.Corrected.{left_rows, mended_rows};
+ghost use Rattle.fec_frame_spec.specs.Sections.{FrameSection};
+ghost use Rattle.fec_frame_spec.specs.Known.{known_byte};
+ghost use Rattle.fec_frame_spec.specs.Corrected.{left_rows, mended_rows};
 ghost use Rattle.fec_frame.specs.Stands.{IsOf, IsSolved, TellsKnown};
 
 use crate::place::State;

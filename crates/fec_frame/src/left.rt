@@ -7,7 +7,7 @@ ghost use Rattle.rs_erasure.specs.Values.{HasLeft};
 
 use crate::fill::is_known;
 use arrayvec::ArrayVec;
-use rs_erasure::find_run_values;
+use rs_erasure::find_run_syndromes;
 
 /// Columns before this one are of the application data table (EN 301 192 clause 9).
 const DATA_COLUMNS: u8 = 191;
@@ -118,17 +118,17 @@ pub fn find_left(
     requires low { All (λ p. p < 255) others.now }
     requires few { length others.now ≤ 64 }
     requires most { left.old.to ≤ rows }
-    requires values { (r : ℕ) → from ≤ r → r < left.old.to → HasLeft rows left.old.others.items bytes.now work.old r }
+    requires syndromes { (r : ℕ) → from ≤ r → r < left.old.to → HasLeft rows left.old.others.items bytes.now work.old r }
     ensures least { to ≤ left.new.to }
     ensures most { left.new.to ≤ rows }
     ensures same { left.new.others.items ≡ others.now }
-    ensures values { (r : ℕ) → from ≤ r → r < left.new.to → HasLeft rows others.now bytes.now work.new r }
+    ensures syndromes { (r : ℕ) → from ≤ r → r < left.new.to → HasLeft rows others.now bytes.now work.new r }
 {
     if to <= left.to && are_same(left.others.as_slice(), others) {
         return;
     }
     let end = lacking_end(marks, rows, to);
-    find_run_values(bytes, rows, from, end, others, work);
+    find_run_syndromes(bytes, rows, from, end, others, work);
     *left = Left {
         to: end,
         others: kept(others),

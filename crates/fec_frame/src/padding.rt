@@ -1,6 +1,6 @@
 //! The padding columns of a frame to send.
 ghost use Rattle.std.specs.Prelude.{◌≡◌, ◌*◌, ◌≤◌, ◌<◌};
-ghost use Rattle.frame_spec.specs.Sender as sender;
+ghost use Rattle.fec_frame_spec.specs.Sender as sender;
 
 /// padding_columns of a frame of which so many bytes of the application data table are used (EN 301 192 clause 9).
 pub fn padding_of(rows: u16, used: usize) -> u8

@@ -1,8 +1,8 @@
 //! MPE-FEC sections placed in a table.
 ghost use Rattle.std.specs.Prelude.{◌≡◌, ◌≢◌, ◌↔◌, ◌⊎◌, ◌+◌, ◌-◌, ◌*◌, ◌<◌, ◌≤◌, ◌∷◌, ◌++◌, [], Bool, List, Some, length, option_map, true, false, ℕ};
-ghost use Rattle.frame_spec.specs.Sections.{FrameSection, parity_section};
-ghost use Rattle.frame_spec.specs.Groups.{are_apart, is_cut_by_table};
-ghost use Rattle.frame_law.specs.Summary.{is_apart, is_cut_by_summary, summary_more};
+ghost use Rattle.fec_frame_spec.specs.Sections.{FrameSection, parity_section};
+ghost use Rattle.fec_frame_spec.specs.Groups.{are_apart, is_cut_by_table};
+ghost use Rattle.fec_frame_law.specs.Summary.{is_apart, is_cut_by_summary, summary_more};
 ghost use Rattle.fec_frame.specs.Stands.{IsOf, IsSameSummary, TakesIn, TellsKnown, column_fields, column_of, summary_of};
 ghost use Rattle.fec_frame.specs.Filled.{IsFilled};
 ghost use Rattle.fec_frame.specs.Marks.{marked_byte};

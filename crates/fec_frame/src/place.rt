@@ -1,6 +1,6 @@
 //! What is kept of the sections placed in a table, and what a section does to it.
 ghost use Rattle.std.specs.Prelude.{◌≡◌, ◌&&◌, ◌<◌, ◌≤◌, Some, length, slice_index, true, if◌then◌else◌, ℕ};
-ghost use Rattle.frame_spec.specs.Known.{is_in};
+ghost use Rattle.fec_frame_spec.specs.Known.{is_in};
 ghost use Rattle.fec_frame.specs.Marks.{IsStartSet, is_start_mark, marked_byte};
 
 use crate::fill::{fill_zeros, with_start};

@@ -1,7 +1,7 @@
 //! Rows of a table, corrected in runs that lack the same columns.
 ghost use Rattle.std.specs.Prelude.{◌≡◌, ◌+◌, ◌*◌, ◌-◌, ◌<◌, ◌≤◌, ◌||◌, List, false, true, count_by, length, slice_index, ◌==◌, if◌then◌else◌, ℕ};
 ghost use Rattle.std.specs.List.{range_with_len};
-ghost use Rattle.frame_spec.specs.Sections.{FrameSection};
+ghost use Rattle.fec_frame_spec.specs.Sections.{FrameSection};
 ghost use Rattle.fec_frame.specs.Marks.{is_known_mark, is_start_mark};
 ghost use Rattle.fec_frame.specs.Stands.{TellsKnown};
 ghost use Rattle.fec_frame.specs.Runs.{AreRowsSolved, IsColumnMarked, IsMarked, IsPattern, is_good};
@@ -12,7 +12,7 @@ use crate::left::{Left, data_columns, find_left, lacks_data, others_of};
 use crate::pattern::{pattern_end, unknown_in};
 use crate::place::{State, has_all_data};
 use arrayvec::ArrayVec;
-use rs_erasure::decode_run_with_values;
+use rs_erasure::decode_run_with_syndromes;
 
 /// Rows that lacked a byte of the application data table.
 #[derive(Clone, Copy, PartialEq, Eq)]
@@ -120,11 +120,11 @@ fn solve_run(
     requires within { to ≤ rows }
     requires pattern { IsPattern rows marks.old 255 from to }
     requires most { left.old.to ≤ rows }
-    requires values { (r : ℕ) → from ≤ r → r < left.old.to → HasLeft rows left.old.others.items bytes.old work.old r }
+    requires syndromes { (r : ℕ) → from ≤ r → r < left.old.to → HasLeft rows left.old.others.items bytes.old work.old r }
     ensures solved { AreRowsSolved rows from to bytes.old marks.old bytes.new marks.new result.mended result.left }
     ensures few { result.mended + result.left ≤ to - from }
     ensures most { left.new.to ≤ rows }
-    ensures values { (r : ℕ) → to ≤ r → r < left.new.to → HasLeft rows left.new.others.items bytes.new work.new r }
+    ensures syndromes { (r : ℕ) → to ≤ r → r < left.new.to → HasLeft rows left.new.others.items bytes.new work.new r }
 {
     if !lacks_data(marks, rows, from) {
         return RowCounts { mended: 0, left: 0 };
@@ -141,7 +141,7 @@ fn solve_run(
     let wanted = data_columns(columns);
     let others = others_of(columns, wanted);
     find_left(bytes, marks, work, rows, from, to, others, left);
-    decode_run_with_values(bytes, rows, from, to, &unknown, wanted, work, bad);
+    decode_run_with_syndromes(bytes, rows, from, to, &unknown, wanted, work, bad);
     mark_rows(marks, rows, from, to, bad);
     let mended = count_good(bad, from, to);
     RowCounts {
@@ -168,13 +168,13 @@ fn solve_lacking(
     let mut mended = 0u32;
     let mut left = 0u32;
     let mut from = 0;
-    let mut values = Left {
+    let mut syndromes = Left {
         to: 0,
         others: ArrayVec::new(),
     };
     while from < rows {
         let to = pattern_end(marks, rows, from);
-        let counts = solve_run(bytes, marks, work, bad, rows, from, to, &mut values);
+        let counts = solve_run(bytes, marks, work, bad, rows, from, to, &mut syndromes);
         mended += counts.mended;
         left += counts.left;
         from = to;

@@ -35,10 +35,10 @@ impl<A: Allocator> Model for Table<A> {
 impl<A: Allocator> Table<A> {
     ghost use Rattle.std.specs.Prelude.{◌≡◌, ◌≢◌, ◌↔◌, ◌+◌, ◌*◌, ◌<◌, ◌≤◌, ◌∷◌, ◌++◌, [], Bool, List, Some, length, slice_index, vec_len, is_some, true, ℕ};
     ghost use Rattle.section_spec.specs.Mpe.{IsRows};
-    ghost use Rattle.frame_spec.specs.Sections.{FrameSection, data_section, parity_section};
-    ghost use Rattle.frame_spec.specs.Groups.{is_cut_by_table};
-    ghost use Rattle.frame_spec.specs.Known.{known_byte};
-    ghost use Rattle.frame_spec.specs.Corrected.{left_rows, mended_rows};
+    ghost use Rattle.fec_frame_spec.specs.Sections.{FrameSection, data_section, parity_section};
+    ghost use Rattle.fec_frame_spec.specs.Groups.{is_cut_by_table};
+    ghost use Rattle.fec_frame_spec.specs.Known.{known_byte};
+    ghost use Rattle.fec_frame_spec.specs.Corrected.{left_rows, mended_rows};
     ghost use Rattle.fec_frame.specs.Marks.{is_known_mark};
     ghost use Rattle.fec_frame.specs.Stands.{IsSolved, Stands, column_of, data_fields, table_byte};
 

@@ -1,7 +1,7 @@
 -- What a walk finds, place by place.
 use Rattle.std.proofs.Common.{◌≡◌, ◌⊎◌, inl, inr, ℕ, zero, suc, ◌+◌, ◌-◌, ◌<◌, ◌≤◌, Bool, true, false, cond, List, [], ◌∷◌, ◌++◌, length, get_or, drop, take, Option, Some, refl, ap, ap₂, ◌∙◌, arith}
 use Rattle.std.proofs.lemmas.Bool.{cond-true, cond-false, cases_lt}
-use Rattle.frame_spec.specs.Starts.{run_on, run_within}
+use Rattle.fec_frame_spec.specs.Starts.{run_on, run_within}
 use Rattle.fec_frame.specs.Marks.{is_start_mark, marked_byte, marked_run, IsRun}
 use Rattle.fec_frame.proofs.KnownRuns.{marked_run_is}
 use Rattle.frame_walk.specs.Found.{front_list, found_at, found_within, found_from}

@@ -5,14 +5,14 @@ use Rattle.std.proofs.lemmas.Bool.{cases_Bool}
 use Rattle.std.proofs.lemmas.List.Concat.{flat_map-append}
 use Rattle.wire_spec.specs.Datagram.{front_length}
 use Rattle.ip_datagram.specs.Hint.{hint_of}
-use Rattle.carriage_law.proofs.Member.{Member, member_parted}
+use Rattle.channel_law.proofs.Member.{Member, member_parted}
 use Rattle.section_spec.specs.Mpe.{MpeFields}
-use Rattle.frame_spec.specs.Sections.{FrameSection, data_of}
-use Rattle.frame_spec.specs.Known.{known_byte}
-use Rattle.frame_spec.specs.Corrected.{corrected_byte}
-use Rattle.frame_spec.specs.Delivered.{frame_datagrams}
-use Rattle.frame_spec.specs.Starts.{run_on, run_within, known_run, is_first_start, ends_at, tells_end, starts_below, front_datagram, datagram_from, found_datagrams}
-use Rattle.frame_law.proofs.Starts.{starts_are, start_in}
+use Rattle.fec_frame_spec.specs.Sections.{FrameSection, data_of}
+use Rattle.fec_frame_spec.specs.Known.{known_byte}
+use Rattle.fec_frame_spec.specs.Corrected.{corrected_byte}
+use Rattle.fec_frame_spec.specs.Delivered.{frame_datagrams}
+use Rattle.fec_frame_spec.specs.Starts.{run_on, run_within, known_run, is_first_start, ends_at, tells_end, starts_below, front_datagram, datagram_from, found_datagrams}
+use Rattle.fec_frame_law.proofs.Starts.{starts_are, start_in}
 use Rattle.fec_frame.specs.Marks.{is_start_mark, marked_byte, marked_run, AreStartsMarked}
 use Rattle.fec_frame.specs.Stands.{TableState, IsSolved}
 use Rattle.frame_walk.specs.Found.{front_list, found_at, found_within, found_from}

@@ -1,7 +1,7 @@
 -- The datagrams that a walk over the marks of a table finds.
 use Rattle.std.specs.Prelude.{ℕ, zero, suc, ◌+◌, ◌-◌, List, [], ◌++◌, slice_index, if◌then◌else◌}
 use Rattle.wire_spec.specs.Datagram.{front_length}
-use Rattle.frame_spec.specs.Starts.{front_datagram}
+use Rattle.fec_frame_spec.specs.Starts.{front_datagram}
 use Rattle.fec_frame.specs.Marks.{is_start_mark, marked_run}
 
 -- the datagram at the front of some bytes, as a list of at most one

@@ -45,8 +45,8 @@ pub struct Walk<'t> {
 
 impl<'t> Walk<'t> {
     ghost use Rattle.std.specs.Prelude.{◌≡◌, ◌≤◌, ◌<◌, ◌∷◌, ◌+◌, ◌*◌, List, IfNone, IfSome, length};
-    ghost use Rattle.frame_spec.specs.Sections.{FrameSection};
-    ghost use Rattle.frame_spec.specs.Delivered.{frame_datagrams};
+    ghost use Rattle.fec_frame_spec.specs.Sections.{FrameSection};
+    ghost use Rattle.fec_frame_spec.specs.Delivered.{frame_datagrams};
     ghost use Rattle.fec_frame.specs.Marks.{IsRun};
     ghost use Rattle.fec_frame.specs.Stands.{IsSolved};
     ghost use Rattle.frame_walk.specs.Found.{found_from};

@@ -5,9 +5,9 @@ use Rattle.ipe_io.specs.Told.{RackTold}
 use Rattle.ipe_io.proofs.Told.{stays-refl}
 use Rattle.ts_spec.specs.Recording.{plain, records_of}
 use Rattle.ts_spec.specs.Sndu.{sndu_form}
-use Rattle.carriage_law.proofs.Member.{contains_member}
-use Rattle.carriage_law.proofs.Spans.{whole_is_span}
-use Rattle.carriage_law.proofs.Isolation.{carried_same}
+use Rattle.channel_law.proofs.Member.{contains_member}
+use Rattle.channel_law.proofs.Spans.{whole_is_span}
+use Rattle.channel_law.proofs.Isolation.{carried_same}
 use Rattle.gse_law.proofs.ReceivedPdus.{delivers_intact}
 use Rattle.gse_law.proofs.Isolation.{delivered_by_itself}
 use Rattle.pcap_file.specs.Capture.{ethernet_capture}

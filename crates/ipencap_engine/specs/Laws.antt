@@ -4,9 +4,9 @@ use Rattle.wire_spec.specs.Lists.{IsCut}
 use Rattle.ts_spec.specs.Recording.{Record, plain, records_of}
 use Rattle.ts_spec.specs.Received.{arrivals}
 use Rattle.ts_spec.specs.Sndu.{sndu_form}
-use Rattle.carriage_spec.specs.Channel.{Channel}
-use Rattle.carriage_spec.specs.Carried.{NoUndetectedError}
-use Rattle.carriage_law.specs.Words.{timed_packet}
+use Rattle.channel_spec.specs.Channel.{Channel}
+use Rattle.channel_spec.specs.Carried.{NoUndetectedError}
+use Rattle.channel_law.specs.Words.{timed_packet}
 use Rattle.gse_spec.specs.Channel.{FrameChannel}
 use Rattle.gse_spec.specs.Carried.{NoUndetectedError as NoUndetectedErrorOfPdus, DeliversIntact}
 use Rattle.gse_law.specs.Streams.{frames_of}

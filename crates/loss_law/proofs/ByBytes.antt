@@ -8,7 +8,7 @@ use Rattle.plan_spec.specs.Plan.{ServiceFields, pid_of}
 use Rattle.reception_spec.specs.Numbers.{pid_numbers, service_pid_numbers, units_on, units_of}
 use Rattle.reception_spec.specs.Frames.{told_frames, rows_of, frame_numbers}
 use Rattle.reception_spec.specs.Delivered.{told_by}
-use Rattle.carriage_law.specs.Words.{timed_packet}
+use Rattle.channel_law.specs.Words.{timed_packet}
 use Rattle.loss_law.specs.Isolation.{reads_moments, packet_read, SamePackets}
 use Rattle.loss_law.proofs.OnePid.{numbers_same, units_same, service_units_same, service_numbers_same, told_frames_same, told_same}
 use Rattle.loss_law.proofs.Untimed.{still, stopped, arrivals-still, units_still, numbers_still, service_units_still, service_numbers_still, told_still, frame_numbers_still}

@@ -7,12 +7,12 @@ use Rattle.ts_spec.specs.Received.{record_at, arrival_at, arrivals}
 use Rattle.ts_spec.specs.Packetized.{IsIn}
 use Rattle.ts_spec.specs.Reassembly.{PlacedUnit}
 use Rattle.section_spec.specs.Section.{section_form}
-use Rattle.carriage_spec.specs.Channel.{Channel}
-use Rattle.carriage_spec.specs.Stamps.{KeepsStamps, IsOfPid, KeepsStampsOf}
-use Rattle.carriage_spec.specs.Spans.{IsSpanOf, HasNoLoneCopies}
-use Rattle.carriage_spec.specs.Carried.{packets_sent, IsSentUnit, NoUndetectedError, IsAccepted}
+use Rattle.channel_spec.specs.Channel.{Channel}
+use Rattle.channel_spec.specs.Stamps.{KeepsStamps, IsOfPid, KeepsStampsOf}
+use Rattle.channel_spec.specs.Spans.{IsSpanOf, HasNoLoneCopies}
+use Rattle.channel_spec.specs.Carried.{packets_sent, IsSentUnit, NoUndetectedError, IsAccepted}
 use Rattle.slice_spec.specs.Moments.{ten}
-use Rattle.frame_law.specs.Kept.{IsAcceptedOf}
+use Rattle.fec_frame_law.specs.Kept.{IsAcceptedOf}
 use Rattle.plan_spec.specs.Plan.{KindFields, ule, mpe, fec, gse, PlanFields}
 use Rattle.plan_spec.specs.Changes.{pids_in, all_pids}
 use Rattle.stream_spec.specs.Services.{kind_at, form_of_kind, IsPidOf, AreCarried}

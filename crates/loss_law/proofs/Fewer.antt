@@ -2,7 +2,7 @@
 use Rattle.std.proofs.Common.{ℕ, ◌<◌, List, length, refl}
 use Rattle.std.specs.Prelude.{Contains}
 use Rattle.ts_spec.specs.Recording.{Record}
-use Rattle.carriage_spec.specs.Channel.{Channel}
+use Rattle.channel_spec.specs.Channel.{Channel}
 use Rattle.plan_spec.specs.Plan.{PlanFields}
 use Rattle.plan_spec.specs.Changes.{pids_in, all_pids}
 use Rattle.loss_law.specs.Spans.{IsSameChannel}

@@ -9,21 +9,21 @@ use Rattle.ts_spec.specs.Reassembly.{PlacedUnit, accepted_units}
 use Rattle.ts_spec.specs.Packetized.{IsIn}
 use Rattle.section_spec.specs.Section.{section_form}
 use Rattle.slice_spec.specs.Sections.{sliced}
-use Rattle.frame_spec.specs.Sections.{TimedSection}
-use Rattle.frame_spec.specs.Frame.{FrameFields}
-use Rattle.frame_spec.specs.Carried.{AreFramesOf}
-use Rattle.frame_law.proofs.Timed.{timed_by_moments}
-use Rattle.carriage_spec.specs.Channel.{Channel}
-use Rattle.carriage_spec.specs.Stamps.{IsOfPid, KeepsStampsOf, KeepsTimesOf}
-use Rattle.carriage_spec.specs.Spans.{IsSpanOf, HasNoLoneCopies}
-use Rattle.carriage_spec.specs.Carried.{packets_sent, IsSentUnit}
-use Rattle.carriage_law.proofs.Member.{Member, member_at, member_contains, contains_member}
-use Rattle.carriage_law.proofs.Arrivals.{arrivals_above, ArrivesFrom, arrival_record, record_arrives}
-use Rattle.carriage_law.proofs.Received.{received_arrived, no_copy_of_arrival}
-use Rattle.carriage_law.proofs.Order.{at_received}
-use Rattle.carriage_law.proofs.Spans.{span_arrived}
-use Rattle.carriage_law.proofs.Channel.{span_alone}
-use Rattle.carriage_law.proofs.Stamps.{length-m2ts, moment-m2ts, moment_at, piece_at, times_shifted}
+use Rattle.fec_frame_spec.specs.Sections.{TimedSection}
+use Rattle.fec_frame_spec.specs.Frame.{FrameFields}
+use Rattle.fec_frame_spec.specs.Carried.{AreFramesOf}
+use Rattle.fec_frame_law.proofs.Timed.{timed_by_moments}
+use Rattle.channel_spec.specs.Channel.{Channel}
+use Rattle.channel_spec.specs.Stamps.{IsOfPid, KeepsStampsOf, KeepsTimesOf}
+use Rattle.channel_spec.specs.Spans.{IsSpanOf, HasNoLoneCopies}
+use Rattle.channel_spec.specs.Carried.{packets_sent, IsSentUnit}
+use Rattle.channel_law.proofs.Member.{Member, member_at, member_contains, contains_member}
+use Rattle.channel_law.proofs.Arrivals.{arrivals_above, ArrivesFrom, arrival_record, record_arrives}
+use Rattle.channel_law.proofs.Received.{received_arrived, no_copy_of_arrival}
+use Rattle.channel_law.proofs.Order.{at_received}
+use Rattle.channel_law.proofs.Spans.{span_arrived}
+use Rattle.channel_law.proofs.Channel.{span_alone}
+use Rattle.channel_law.proofs.Stamps.{length-m2ts, moment-m2ts, moment_at, piece_at, times_shifted}
 use Rattle.loss_law.specs.Frames.{HasMoments}
 use Rattle.loss_law.specs.Stamps.{falls}
 use Rattle.loss_law.proofs.Sections.{section_lawful}

@@ -11,8 +11,8 @@ use Rattle.section_spec.specs.Section.{section_form}
 use Rattle.plan_spec.specs.Plan.{IntFields, PlanFields, table_pids, pid_of}
 use Rattle.plan_spec.specs.Changes.{has_pid, pid_in, pids_in}
 use Rattle.plan_spec.specs.InForce.{version_behind}
-use Rattle.carriage_law.specs.Words.{timed_packet}
-use Rattle.carriage_law.proofs.Member.{Member, member_front, member_behind, contains_member}
+use Rattle.channel_law.specs.Words.{timed_packet}
+use Rattle.channel_law.proofs.Member.{Member, member_front, member_behind, contains_member}
 use Rattle.reception_spec.specs.Packets.{is_on}
 use Rattle.reception_spec.specs.Numbers.{no_numbers, units_on, units_of, unit_numbers}
 use Rattle.reception_spec.specs.Frames.{rows_of, no_frames, sum_of_frames, frame_numbers}

@@ -12,11 +12,11 @@ use Rattle.ts_spec.specs.Reassembly.{Given, given_by, given_behind, ended_by, wi
 use Rattle.ts_spec.specs.Events.{Event, unit_event, bad_check_event, delimit_event, bad_length_event, event_by, event_at, misfit_events, events_of}
 use Rattle.section_spec.specs.Section.{section_form}
 use Rattle.slice_spec.specs.Sections.{indexed}
-use Rattle.frame_spec.specs.Sections.{FrameSection, real_time_in, ends_frame, TimedSection, sections_of, frame_sections_in, timed_section, sections_of_unit, frame_sections}
-use Rattle.frame_spec.specs.Groups.{is_cut_by_table, last_section, is_cut, frames_from, received_frames, closed_frames}
-use Rattle.frame_spec.specs.Delivered.{frame_datagrams, datagrams_of_frames}
-use Rattle.frame_spec.specs.Known.{known_byte}
-use Rattle.frame_spec.specs.Corrected.{mended_rows, left_rows}
+use Rattle.fec_frame_spec.specs.Sections.{FrameSection, real_time_in, ends_frame, TimedSection, sections_of, frame_sections_in, timed_section, sections_of_unit, frame_sections}
+use Rattle.fec_frame_spec.specs.Groups.{is_cut_by_table, last_section, is_cut, frames_from, received_frames, closed_frames}
+use Rattle.fec_frame_spec.specs.Delivered.{frame_datagrams, datagrams_of_frames}
+use Rattle.fec_frame_spec.specs.Known.{known_byte}
+use Rattle.fec_frame_spec.specs.Corrected.{mended_rows, left_rows}
 use Rattle.plan_spec.specs.Plan.{KindFields, ule, mpe, fec, gse, ServiceFields, pid_of, sliced_of}
 use Rattle.stream_spec.specs.Services.{form_of_kind}
 use Rattle.reception_spec.specs.Units.{delivered_by_unit}

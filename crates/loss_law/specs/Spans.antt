@@ -3,8 +3,8 @@ use Rattle.std.specs.Prelude.{◌≡◌, ℕ, List, flat_map}
 use Rattle.wire_spec.specs.Lists.{IsSubsequence}
 use Rattle.ts_spec.specs.Recording.{Record}
 use Rattle.section_spec.specs.Section.{section_form}
-use Rattle.carriage_spec.specs.Channel.{Channel}
-use Rattle.carriage_spec.specs.Carried.{NoUndetectedError, IsAccepted}
+use Rattle.channel_spec.specs.Channel.{Channel}
+use Rattle.channel_spec.specs.Carried.{NoUndetectedError, IsAccepted}
 use Rattle.plan_spec.specs.Plan.{PlanFields}
 use Rattle.plan_spec.specs.Changes.{pids_in}
 use Rattle.stream_spec.specs.Services.{kind_at, form_of_kind, IsPidOf}

@@ -3,10 +3,10 @@ ghost use Rattle.std.specs.Prelude.{◌≡◌, ℕ, ◌<◌, true, List, [], ◌
 ghost use Rattle.ts_spec.specs.Recording.{Record, records_of};
 ghost use Rattle.ts_spec.specs.Received.{no_record};
 ghost use Rattle.section_spec.specs.Section.{section_form};
-ghost use Rattle.carriage_spec.specs.Channel.{Channel};
-ghost use Rattle.carriage_spec.specs.Stamps.{KeepsStamps};
-ghost use Rattle.carriage_spec.specs.Spans.{IsSpanOf, HasNoLoneCopies};
-ghost use Rattle.carriage_spec.specs.Carried.{NoUndetectedError, IsAccepted};
+ghost use Rattle.channel_spec.specs.Channel.{Channel};
+ghost use Rattle.channel_spec.specs.Stamps.{KeepsStamps};
+ghost use Rattle.channel_spec.specs.Spans.{IsSpanOf, HasNoLoneCopies};
+ghost use Rattle.channel_spec.specs.Carried.{NoUndetectedError, IsAccepted};
 ghost use Rattle.plan_spec.specs.Plan.{PlanFields, pid_of};
 ghost use Rattle.plan_spec.specs.Changes.{pids_in, all_pids};
 ghost use Rattle.stream_spec.specs.Services.{kind_at, form_of_kind, IsPidOf, Carries};

@@ -1,7 +1,7 @@
 //! Definitions of what is handed to an outlet: pairs of service and datagram, and calls up to the first that is refused.
 //!
 //! Words for contracts, and no code but examples of them.
-//! Below what receives: service_reception, frame_reception, gse_reception and the receivers over them.
+//! Below what receives: service_reception, fec_reception, gse_reception and the receivers over them.
 #![tactic(auto)]
 
 ghost use Rattle.std.specs.Prelude.{◌≡◌, [], ◌∷◌};

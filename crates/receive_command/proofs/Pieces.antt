@@ -6,7 +6,7 @@ use Rattle.std.proofs.lemmas.Nat.{mul-add-lt}
 use Rattle.std.specs.Io.KnownBytes.{Consumes}
 use Rattle.ts_spec.specs.Recording.{Record, RecordingForm, plain, stamped, m2ts, plain_record, stamped_record, m2ts_record, m2ts_stamp, moment_behind, m2ts_records, records_of}
 use Rattle.plan_spec.specs.Plan.{PlanFields}
-use Rattle.carriage_law.proofs.Late.{length-records}
+use Rattle.channel_law.proofs.Late.{length-records}
 use Rattle.reception_spec.specs.Delivered.{told_pairs as told_pairs_of_records, pairs_of_record}
 use Rattle.reception_law.proofs.DeliveredPairs.{pairs_more}
 use Rattle.bb_reception_spec.specs.Delivered.{delivered_pairs as pairs_of_frames, pairs_of_frame}

@@ -23,7 +23,7 @@ use Rattle.recording_reader.specs.declared.fault.ReadFault.{ReadFault}
 use Rattle.recording_reader.specs.declared.fault.ReadFault.TheVariants as fault
 use Rattle.recording_reader.specs.Reading.{Reads}
 use Rattle.recording_reader.proofs.Next.{records_none}
-use Rattle.carriage_law.proofs.Late.{length-records}
+use Rattle.channel_law.proofs.Late.{length-records}
 use Rattle.gse_law.proofs.Records.{frames_of_records}
 use Rattle.receive_command.specs.declared.outlet.Progress.{Progress}
 use Rattle.receive_command.specs.declared.outlet.Progress.TheVariants.{Whole, Stopped}

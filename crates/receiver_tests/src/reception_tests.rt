@@ -4,7 +4,7 @@ use addr_rules::MacList;
 use ipe_io::Failed;
 use section_codec::SectionForm;
 use service_counts::ServiceCounts;
-use service_reception::{Reception, TableReception, UnitReader};
+use service_reception::{IntReception, Reception, UnitReader};
 use std::alloc::Global;
 use std::test::Fail;
 use test_recordings::units::{DATAGRAM, INT, INT_OF_TWO, NEXT_INT, OTHER, SECTION, SNDU};
@@ -232,18 +232,14 @@ static TABLES: [Table; 5] = [
 ];
 
 /// A reception of an INT that has taken nothing.
-fn table_of(
-    alloc: Global,
-    platform: u32,
-    last_version: u8,
-) -> Result<TableReception<Global>, Fail> {
+fn table_of(alloc: Global, platform: u32, last_version: u8) -> Result<IntReception<Global>, Fail> {
     let buffer = vec![in alloc; 0u8; SectionForm::LONGEST]?;
     let kept = vec![in alloc; 0u8; SectionForm::LONGEST]?;
-    Ok(TableReception::over(buffer, kept, platform, last_version))
+    Ok(IntReception::over(buffer, kept, platform, last_version))
 }
 
 /// Takes the packet with a section.
-fn take_section(reception: &mut TableReception<Global>, counter: u8, section: &[u8]) {
+fn take_section(reception: &mut IntReception<Global>, counter: u8, section: &[u8]) {
     let bytes = start(counter, 0, section);
     if let Ok(packet) = parse(&bytes) {
         reception.take(&bytes, &packet, 0);

@@ -17,13 +17,13 @@ use Rattle.section_spec.specs.Section.{section_form}
 use Rattle.section_spec.specs.Mpe.{MpeFields}
 use Rattle.wire_spec.specs.Datagram.{front_length}
 use Rattle.slice_spec.specs.Sections.{Timing}
-use Rattle.frame_spec.specs.Sections.{FrameSection, TimedSection, ends_frame, data_of, sections_of, frame_sections_in, timed_section, sections_of_unit, frame_sections}
-use Rattle.frame_spec.specs.Groups.{timing_in, is_cut, frames_from, received_frames, closed_frames}
-use Rattle.frame_spec.specs.Known.{known_byte}
-use Rattle.frame_spec.specs.Corrected.{corrected_row, corrected_byte, lacks_data, mended_rows, left_rows}
-use Rattle.frame_spec.specs.Starts.{known_run, is_first_start, tells_end, starts_below, front_datagram, datagram_from}
-use Rattle.frame_spec.specs.Delivered.{frame_datagrams, datagrams_of_frames}
-use Rattle.frame_law.proofs.Units.{one_section}
+use Rattle.fec_frame_spec.specs.Sections.{FrameSection, TimedSection, ends_frame, data_of, sections_of, frame_sections_in, timed_section, sections_of_unit, frame_sections}
+use Rattle.fec_frame_spec.specs.Groups.{timing_in, is_cut, frames_from, received_frames, closed_frames}
+use Rattle.fec_frame_spec.specs.Known.{known_byte}
+use Rattle.fec_frame_spec.specs.Corrected.{corrected_row, corrected_byte, lacks_data, mended_rows, left_rows}
+use Rattle.fec_frame_spec.specs.Starts.{known_run, is_first_start, tells_end, starts_below, front_datagram, datagram_from}
+use Rattle.fec_frame_spec.specs.Delivered.{frame_datagrams, datagrams_of_frames}
+use Rattle.fec_frame_law.proofs.Units.{one_section}
 use Rattle.reassembly_law.specs.UnderWay.{unit_of_event}
 use Rattle.plan_spec.specs.Plan.{KindFields, ule, mpe, fec, gse, ServiceFields, PlanFields, pid_of}
 use Rattle.plan_spec.specs.Changes.{no_service, pids_in}

@@ -13,10 +13,10 @@ use Rattle.section_codec.specs.Spans.{section_lawful}
 use Rattle.reassembly_law.specs.UnderWay.{unit_of_event}
 use Rattle.reassembly_law.proofs.Units.{of_events}
 use Rattle.slice_spec.specs.Sections.{Timing}
-use Rattle.frame_spec.specs.Sections.{TimedSection, sections_of, ends_frame, timed_sections_in, sections_of_unit, frame_sections}
-use Rattle.frame_spec.specs.Groups.{timing_in, received_frames, closed_frames}
-use Rattle.frame_spec.specs.Delivered.{frame_datagrams, datagrams_of_frames}
-use Rattle.frame_law.proofs.ClosedFrames.{closed_more}
+use Rattle.fec_frame_spec.specs.Sections.{TimedSection, sections_of, ends_frame, timed_sections_in, sections_of_unit, frame_sections}
+use Rattle.fec_frame_spec.specs.Groups.{timing_in, received_frames, closed_frames}
+use Rattle.fec_frame_spec.specs.Delivered.{frame_datagrams, datagrams_of_frames}
+use Rattle.fec_frame_law.proofs.ClosedFrames.{closed_more}
 use Rattle.plan_spec.specs.Plan.{KindFields, ule, mpe, fec, gse, pid_of, ServiceFields}
 use Rattle.stream_spec.specs.Services.{carried_by_unit}
 use Rattle.reception_spec.specs.Units.{wants_unit, delivered_by_unit}

@@ -11,7 +11,7 @@ use Rattle.ts_spec.specs.Received.{Arrival, is_of, no_record, arrival_of, arriva
 use Rattle.ts_spec.specs.Reassembly.{PlacedUnit, accepted_in, accepted_units}
 use Rattle.ts_spec.specs.Events.{Event, events_of}
 use Rattle.section_codec.specs.Spans.{section_lawful}
-use Rattle.carriage_law.proofs.Sndu.{sndu_lawful}
+use Rattle.channel_law.proofs.Sndu.{sndu_lawful}
 use Rattle.reassembly_law.specs.Records.{last_bytes}
 use Rattle.reassembly_law.specs.UnderWay.{unit_of_event}
 use Rattle.reassembly_law.proofs.OneRecord.{one_more}

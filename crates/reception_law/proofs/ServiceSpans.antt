@@ -14,8 +14,8 @@ use Rattle.reception_spec.specs.Units.{delivered_by_unit}
 use Rattle.reception_spec.specs.Packets.{is_on}
 use Rattle.reception_spec.specs.Numbers.{PidNumbers, no_numbers, numbers_if_on, gaps_in, is_unit, is_bad_check, is_delimit, is_bad_length, units_on, units_of, unit_numbers}
 use Rattle.reception_spec.specs.Spans.{is_heard_on, span_from, span_of}
-use Rattle.frame_spec.specs.Sections.{TimedSection}
-use Rattle.frame_spec.specs.Groups.{closed_frames}
+use Rattle.fec_frame_spec.specs.Sections.{TimedSection}
+use Rattle.fec_frame_spec.specs.Groups.{closed_frames}
 use Rattle.reception_spec.specs.Frames.{frames_received, rows_of, frame_numbers}
 use Rattle.reception_spec.specs.Delivered.{delivered_datagrams, told_by, service_on}
 use Rattle.reception_spec.specs.Sums.{numbers_on, frame_numbers_on}

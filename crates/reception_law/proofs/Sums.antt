@@ -11,7 +11,7 @@ use Rattle.plan_law.proofs.Pids.{is_in, twice, pid_is_in}
 use Rattle.reception_spec.specs.Units.{delivered_by_unit, is_unread, is_filtered}
 use Rattle.reception_spec.specs.Numbers.{PidNumbers, no_numbers, UnitNumbers, units_of, unit_numbers}
 use Rattle.reception_spec.specs.Spans.{version_at_end, span_of}
-use Rattle.frame_spec.specs.Delivered.{datagrams_of_frames}
+use Rattle.fec_frame_spec.specs.Delivered.{datagrams_of_frames}
 use Rattle.reception_spec.specs.Frames.{told_frames, rows_of, FrameNumbers, no_frames, sum_of_frames}
 use Rattle.reception_spec.specs.Delivered.{delivered_datagrams, service_on, takes_no_more, told_on, told_of, delivered_on, delivered_of}
 use Rattle.reception_spec.specs.Sums.{sum_of_numbers, numbers_on, numbers_of, unit_numbers_of, frame_numbers_on, frame_numbers_of, told_frame_numbers}

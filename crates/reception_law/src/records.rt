@@ -6,7 +6,7 @@ ghost use Rattle.ts_spec.specs.Events.{events_of};
 ghost use Rattle.reassembly_law.specs.UnderWay.{unit_of_event};
 ghost use Rattle.section_spec.specs.Section.{section_form};
 ghost use Rattle.plan_spec.specs.Plan.{pid_of, ServiceFields, IntFields, PlanFields};
-ghost use Rattle.frame_spec.specs.Sections.{frame_sections, timed_sections_in};
+ghost use Rattle.fec_frame_spec.specs.Sections.{frame_sections, timed_sections_in};
 ghost use Rattle.plan_spec.specs.Changes.{on_pid};
 ghost use Rattle.stream_spec.specs.Services.{form_of_kind};
 ghost use Rattle.reception_spec.specs.Units.{delivered_by_unit};

@@ -3,7 +3,7 @@ use Rattle.std.specs.Prelude.{ℕ, ◌+◌, Bool, true, not, List, ◌++◌, tak
 use Rattle.std.specs.List.{range_with_len}
 use Rattle.ts_spec.specs.Recording.{RecordingForm, Record}
 use Rattle.plan_spec.specs.Plan.{ServiceFields, PlanFields}
-use Rattle.frame_spec.specs.Delivered.{datagrams_of_frames}
+use Rattle.fec_frame_spec.specs.Delivered.{datagrams_of_frames}
 use Rattle.plan_spec.specs.Changes.{on_pid, no_service, pid_in, pids_in, has_pid}
 use Rattle.reception_spec.specs.Units.{delivered_by_unit}
 use Rattle.reception_spec.specs.Numbers.{units_of}

@@ -1,11 +1,11 @@
 -- What is received of the MPE-FEC frames of a service on one PID (EN 301 192 clause 9).
 use Rattle.std.specs.Prelude.{ℕ, ◌+◌, Bool, List, [], length, sum_by, is_some}
 use Rattle.ts_spec.specs.Recording.{RecordingForm, Record}
-use Rattle.frame_spec.specs.Sections.{TimedSection, sections_of, frame_sections}
-use Rattle.frame_spec.specs.Groups.{timing_in, received_frames, closed_frames}
-use Rattle.frame_spec.specs.Known.{known_byte}
-use Rattle.frame_spec.specs.Corrected.{mended_rows, left_rows}
-use Rattle.frame_spec.specs.Delivered.{datagrams_of_frames}
+use Rattle.fec_frame_spec.specs.Sections.{TimedSection, sections_of, frame_sections}
+use Rattle.fec_frame_spec.specs.Groups.{timing_in, received_frames, closed_frames}
+use Rattle.fec_frame_spec.specs.Known.{known_byte}
+use Rattle.fec_frame_spec.specs.Corrected.{mended_rows, left_rows}
+use Rattle.fec_frame_spec.specs.Delivered.{datagrams_of_frames}
 use Rattle.plan_spec.specs.Plan.{KindFields, ule, mpe, fec, gse}
 
 -- the received frames of a service of this kind in a span, in recordings of this form: none where it has no frames (EN 301 192 clause 9)

@@ -7,7 +7,7 @@ use Rattle.section_spec.specs.Mpe.{mac_in}
 use Rattle.addr_rules.specs.Filter.{is_wanted}
 use Rattle.addr_rules.specs.declared.filter.Label.{Label}
 use Rattle.addr_rules.specs.declared.filter.Label.TheVariants.{Six, Broadcast}
-use Rattle.frame_spec.specs.Sections.{frame_sections_in}
+use Rattle.fec_frame_spec.specs.Sections.{frame_sections_in}
 use Rattle.plan_spec.specs.Plan.{KindFields, ule, mpe, fec, gse, ServiceFields}
 use Rattle.stream_spec.specs.Services.{carried_by_unit}
 

@@ -3,7 +3,7 @@ ghost use Rattle.std.specs.Prelude.{◌≡◌, ◌<◌, ◌^◌, IfOk, vec_len};
 
 use crate::outlet::{DATAGRAM, Noted, SERVICE, put_deliveries, put_rise};
 use fec_frame::Table;
-use frame_reception::FrameReception;
+use fec_reception::FecReception;
 use ipe_io::Failed;
 use mpe_section::{Fec, RealTime, write_fec, write_mpe};
 use service_counts::ServiceCounts;
@@ -84,7 +84,7 @@ fn zeros(alloc: Global, count: usize) -> Result<Vec<u8>, OutOfMemory>
 /// A reception of frames of 256 rows, its outlet, and the number of packets taken.
 #[derive(Drop)]
 struct Receiver {
-    reception: FrameReception<Global>,
+    reception: FecReception<Global>,
     outlet: Noted,
     packets: u8,
 }
@@ -95,7 +95,7 @@ fn new_receiver(alloc: Global, sliced: bool, room: u64) -> Result<Receiver, OutO
     let marks = zeros(alloc, 65_280)?;
     let table = Table::over(256, bytes, marks, zeros(alloc, 16_640)?);
     Ok(Receiver {
-        reception: FrameReception::over(zeros(alloc, 4096)?, table, sliced, 10),
+        reception: FecReception::over(zeros(alloc, 4096)?, table, sliced, 10),
         outlet: Noted::new(room),
         packets: 0,
     })

@@ -1,4 +1,4 @@
-//! Tests of what receives frames: packets and data fields by hand -> [frame_reception, gse_reception] -> datagrams and counts.
+//! Tests of what receives frames: packets and data fields by hand -> [fec_reception, gse_reception] -> datagrams and counts.
 //!
 //! Tests alone. They stand apart from the crates that they test, so that those are proved once.
 #![tactic(auto)]

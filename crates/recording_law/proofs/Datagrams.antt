@@ -11,11 +11,11 @@ use Rattle.ts_spec.specs.Chain.{ChainEnd, cut, ended, chain_end, datagram_at}
 use Rattle.ts_spec.specs.Sndu.{sndu_fields}
 use Rattle.section_spec.specs.Section.{SectionFields, section_fields}
 use Rattle.section_spec.specs.Mpe.{MpeFields, has_mpe_head, mpe_with, mpe_of}
-use Rattle.frame_spec.specs.Sections.{TimedSection, sections_of, data_of}
-use Rattle.frame_spec.specs.Known.{known_byte}
-use Rattle.frame_spec.specs.Corrected.{corrected_byte}
-use Rattle.frame_spec.specs.Starts.{known_run, front_datagram, datagram_from, starts_below}
-use Rattle.frame_spec.specs.Delivered.{frame_datagrams, datagrams_of_frames}
+use Rattle.fec_frame_spec.specs.Sections.{TimedSection, sections_of, data_of}
+use Rattle.fec_frame_spec.specs.Known.{known_byte}
+use Rattle.fec_frame_spec.specs.Corrected.{corrected_byte}
+use Rattle.fec_frame_spec.specs.Starts.{known_run, front_datagram, datagram_from, starts_below}
+use Rattle.fec_frame_spec.specs.Delivered.{frame_datagrams, datagrams_of_frames}
 use Rattle.plan_spec.specs.Plan.{KindFields, ule, mpe, fec, gse, ServiceFields, PlanFields, isi_of}
 use Rattle.plan_spec.specs.Changes.{pids_in}
 use Rattle.stream_spec.specs.Services.{carried_by_unit}

@@ -10,7 +10,7 @@ use Rattle.fec_spec.specs.Field.{field_product}
 use Rattle.fec_spec.specs.Row.{is_among}
 use Rattle.fec_spec.specs.Table.{table_row}
 use Rattle.field_law.proofs.Field.{product_assoc, product_comm, product_one_left, product_zero_right}
-use Rattle.erasure_law.specs.Roots.{differences, eliminated, place_power, values_of}
+use Rattle.erasure_law.specs.Roots.{differences, eliminated, place_power, syndromes_of}
 use Rattle.erasure_law.proofs.Unique.{clash, differences_some, length-map_powers, same_list}
 use Rattle.erasure_law.proofs.Elimination.{eliminated_agree, eliminated_changed}
 use Rattle.erasure_law.proofs.Tables.{length-table_row}
@@ -79,7 +79,7 @@ pub record IsStep (unknown : List ℕ) (lowest at scale : ℕ) (row new : List �
 -- the place is among the last ones, and nothing changes
 unchanged_behind : (unknown : List ℕ) (lowest at scale : ℕ) (row new : List ℕ) (column after : ℕ → ℕ) (k m : ℕ) → at < length unknown → k ≤ at
     → IsStep unknown lowest at scale row new column after
-    → eliminated (drop k unknown) (values_of new) m ≡ eliminated (drop k unknown) (values_of row) m
+    → eliminated (drop k unknown) (syndromes_of new) m ≡ eliminated (drop k unknown) (syndromes_of row) m
 unchanged_behind unknown lowest at scale row new column after k m lt le step =
     sym (eliminated_agree (drop k unknown) row new m step.row_long step.new_long
     (λ j low out. step.others j low (λ e. clash (ap (λ x. is_among x (drop k unknown)) e ∙ among_drop unknown at k lt le) out)))
@@ -87,13 +87,13 @@ unchanged_behind unknown lowest at scale row new column after k m lt le step =
 -- what is left changes by the added byte
 changed_before : (unknown : List ℕ) (lowest at scale : ℕ) (row new : List ℕ) (column after : ℕ → ℕ) (j : ℕ)
     → IsStep unknown lowest at scale row new column after
-    → eliminated (drop (length unknown - j) unknown) (values_of new) 0
-    ≡ bit_xor (eliminated (drop (length unknown - j) unknown) (values_of row) 0) (field_product (field_product (last_differences unknown at j) scale) (column (length unknown - 1 - at)))
+    → eliminated (drop (length unknown - j) unknown) (syndromes_of new) 0
+    ≡ bit_xor (eliminated (drop (length unknown - j) unknown) (syndromes_of row) 0) (field_product (field_product (last_differences unknown at j) scale) (column (length unknown - 1 - at)))
 changed_before unknown lowest at scale row new column after j step =
     let c : ℕ = column (length unknown - 1 - at) in
     let places : List ℕ = drop (length unknown - j) unknown in
     eliminated_changed places row new (get_or unknown at 0) (field_product scale c) step.row_long step.new_long step.place step.others step.added
-    ∙ ap (λ t. bit_xor (eliminated places (values_of row) 0) t) (product_turned (last_differences unknown at j) scale c)
+    ∙ ap (λ t. bit_xor (eliminated places (syndromes_of row) 0) t) (product_turned (last_differences unknown at j) scale c)
 
 pub place_corrected : (unknown : List ℕ) (lowest at scale : ℕ) (row new : List ℕ) (column after : ℕ → ℕ) → at + lowest < length unknown
     → IsStep unknown lowest at scale row new column after → IsBeingCorrected unknown lowest at row column → IsBeingCorrected unknown lowest (at + 1) new after

@@ -9,7 +9,7 @@ use Rattle.std.proofs.lemmas.List.{drop-map}
 use Rattle.fec_spec.specs.Codeword.{IsCodeword}
 use Rattle.fec_spec.specs.Row.{Agrees, HasCodeword, IsCorrectable, IsCorrected, is_among}
 use Rattle.fec_spec.specs.Table.{table_row}
-use Rattle.erasure_law.specs.Roots.{combined, eliminated, place_power, root_polynomial, values_of}
+use Rattle.erasure_law.specs.Roots.{combined, eliminated, place_power, root_polynomial, syndromes_of}
 use Rattle.erasure_law.proofs.Unique.{clash, length-map_powers, same_list}
 use Rattle.erasure_law.proofs.Elimination.{nothing_left}
 use Rattle.erasure_law.proofs.Tables.{get_or-table_row, length-table_row}
@@ -39,12 +39,12 @@ powers_behind unknown powers j is_powers =
     ap₂ (λ (k : ℕ) (l : List ℕ). drop (k - j) l) long is_powers ∙ drop-map place_power (length unknown - j) unknown
 
 -- the columns after the elimination hold what is left of the row
-pub left_in_column : (unknown powers : List ℕ) (values left : ℕ → ℕ) (j : ℕ) → powers ≡ map place_power unknown
-    → left j ≡ combined (root_polynomial (drop (length powers - j) powers)) values (j - length powers)
-    → left j ≡ eliminated (drop (length unknown - j) unknown) values (j - length unknown)
-left_in_column unknown powers values left j is_powers is =
+pub left_in_column : (unknown powers : List ℕ) (syndromes left : ℕ → ℕ) (j : ℕ) → powers ≡ map place_power unknown
+    → left j ≡ combined (root_polynomial (drop (length powers - j) powers)) syndromes (j - length powers)
+    → left j ≡ eliminated (drop (length unknown - j) unknown) syndromes (j - length unknown)
+left_in_column unknown powers syndromes left j is_powers is =
     let long : length powers ≡ length unknown = ap (λ (l : List ℕ). length l) is_powers ∙ length-map_powers unknown in
-    is ∙ ap₂ (λ (l : List ℕ) (m : ℕ). combined (root_polynomial l) values m) (powers_behind unknown powers j is_powers) (ap (λ k. j - k) long)
+    is ∙ ap₂ (λ (l : List ℕ) (m : ℕ). combined (root_polynomial l) syndromes m) (powers_behind unknown powers j is_powers) (ap (λ k. j - k) long)
 
 -- what is known of a row after all steps
 pub record Steps (unknown : List ℕ) (lowest : ℕ) (row new : List ℕ) (left column : ℕ → ℕ) (mark : ℕ) : Type 0 where
@@ -55,7 +55,7 @@ pub record Steps (unknown : List ℕ) (lowest : ℕ) (row new : List ℕ) (left 
   pub row_long : length row ≡ 255
   pub new_long : length new ≡ 255
   pub new_bytes : All (λ b. b < 256) new
-  pub is_left : (j : ℕ) → lowest ≤ j → j < 64 → left j ≡ eliminated (drop (length unknown - j) unknown) (values_of row) (j - length unknown)
+  pub is_left : (j : ℕ) → lowest ≤ j → j < 64 → left j ≡ eliminated (drop (length unknown - j) unknown) (syndromes_of row) (j - length unknown)
   pub marked : ((mark ≡ 0) × ((j : ℕ) → length unknown ≤ j → j < 64 → left j ≡ 0) × ((j : ℕ) → j < length unknown → column j ≡ left j))
       ⊎ ((mark ≡ 1) × ((j : ℕ) × (length unknown ≤ j) × (j < 64) × (left j ≡ 0 → ⊥)) × ((j : ℕ) → j < length unknown → column j ≡ 0))
   pub corrected : IsBeingCorrected unknown lowest 0 row column → (after : ℕ → ℕ) × IsBeingCorrected unknown lowest (length unknown - lowest) new after
@@ -63,10 +63,10 @@ pub record Steps (unknown : List ℕ) (lowest : ℕ) (row new : List ℕ) (left 
   pub known : (j : ℕ) → j < 255 → is_among j unknown ≡ false → get_or row j 0 ≡ get_or new j 0
 
 -- all columns of all places, where nothing is left
-left_whole : (unknown row : List ℕ) (j : ℕ) → length unknown ≤ j → eliminated (drop (length unknown - j) unknown) (values_of row) (j - length unknown) ≡ eliminated unknown (values_of row) (j - length unknown)
+left_whole : (unknown row : List ℕ) (j : ℕ) → length unknown ≤ j → eliminated (drop (length unknown - j) unknown) (syndromes_of row) (j - length unknown) ≡ eliminated unknown (syndromes_of row) (j - length unknown)
 left_whole unknown row j ge =
     let e : length unknown - j ≡ 0 = omega arith in
-    ap (λ k. eliminated (drop k unknown) (values_of row) (j - length unknown)) e
+    ap (λ k. eliminated (drop k unknown) (syndromes_of row) (j - length unknown)) e
 
 good_start : (unknown : List ℕ) (lowest : ℕ) (row new : List ℕ) (left column : ℕ → ℕ) (mark : ℕ) → Steps unknown lowest row new left column mark
     → ((j : ℕ) → length unknown ≤ j → j < 64 → left j ≡ 0) → ((j : ℕ) → j < length unknown → column j ≡ left j)
@@ -78,11 +78,11 @@ good_start unknown lowest row new left column mark is none same =
     record {
       to_do = λ j from lt.
           let e : j - u ≡ 0 = omega arith in
-          same j (omega arith) ∙ is.is_left j from (omega arith) ∙ ap (λ m. eliminated (drop (u - j) unknown) (values_of row) m) e;
+          same j (omega arith) ∙ is.is_left j from (omega arith) ∙ ap (λ m. eliminated (drop (u - j) unknown) (syndromes_of row) m) e;
       done = λ j ge lt. absurd (omega arith);
       rest = λ m lt.
           let e : m + u - u ≡ m = omega arith in
-          ap (λ k. eliminated unknown (values_of row) k) (sym e) ∙ sym (left_whole unknown row (m + u) (omega arith)) ∙ sym (is.is_left (m + u) (omega arith) lt) ∙ none (m + u) (omega arith) lt;
+          ap (λ k. eliminated unknown (syndromes_of row) k) (sym e) ∙ sym (left_whole unknown row (m + u) (omega arith)) ∙ sym (is.is_left (m + u) (omega arith) lt) ∙ none (m + u) (omega arith) lt;
     }
 
 -- with the wanted places corrected some codeword agrees but at the others
@@ -92,8 +92,8 @@ good_end unknown lowest row new left column after mark steps is =
     let u : ℕ = length unknown in
     let some : lowest ≤ u = steps.some in
     let end : u - lowest + lowest ≡ u = omega arith in
-    let none : (m : ℕ) → m + (u - (u - lowest)) < 64 → eliminated (drop (u - lowest) unknown) (values_of new) m ≡ 0 =
-    none_behind unknown (values_of new) (u - lowest) (omega arith) is.rest is.done in
+    let none : (m : ℕ) → m + (u - (u - lowest)) < 64 → eliminated (drop (u - lowest) unknown) (syndromes_of new) m ≡ 0 =
+    none_behind unknown (syndromes_of new) (u - lowest) (omega arith) is.rest is.done in
     has_codeword unknown steps.rising steps.low lowest (u - lowest) end new steps.new_long steps.new_bytes (λ m lt. none m (omega arith))
 
 -- a place that is no unknown one is none of the last

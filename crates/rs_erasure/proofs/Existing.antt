@@ -10,7 +10,7 @@ use Rattle.fec_spec.specs.Field.{field_power, field_product}
 use Rattle.fec_spec.specs.Row.{HasCodeword, is_among}
 use Rattle.field_law.proofs.Field.{product_fits, product_zero_right}
 use Rattle.field_law.proofs.Powers.{power_254}
-use Rattle.erasure_law.specs.Roots.{combined, differences, eliminated, place_power, root_polynomial, values_of}
+use Rattle.erasure_law.specs.Roots.{combined, differences, eliminated, place_power, root_polynomial, syndromes_of}
 use Rattle.erasure_law.proofs.Elimination.{eliminated_agree, eliminated_changed, eliminated_more, eliminated_none, value_fits}
 use Rattle.erasure_law.proofs.Unique.{clash, differences_fit}
 use Rattle.rs_erasure.proofs.Corrections.{behind_some}
@@ -66,17 +66,17 @@ combined_fits : (p : List ℕ) (t : ℕ → ℕ) (m : ℕ) → combined p t m < 
 combined_fits [] t m = lit< tt
 combined_fits (a ∷ p) t m = xor_lt 8 (field_product a (t m)) (combined p t (suc m)) (product_fits a (t m)) (combined_fits p t (suc m))
 
-left_fits : (places row : List ℕ) → eliminated places (values_of row) 0 < 2 ^ 8
-left_fits places row = combined_fits (root_polynomial (map place_power places)) (values_of row) 0
+left_fits : (places row : List ℕ) → eliminated places (syndromes_of row) 0 < 2 ^ 8
+left_fits places row = combined_fits (root_polynomial (map place_power places)) (syndromes_of row) 0
 
 -- of the last n places one after another is filled
 pub has_codeword : (unknown : List ℕ) → IsStrictlyIncreasing unknown → All (λ p. p < 255) unknown → (n d : ℕ) → d + n ≡ length unknown
-    → (row : List ℕ) → length row ≡ 255 → All (λ b. b < 256) row → ((m : ℕ) → m + n < 64 → eliminated (drop d unknown) (values_of row) m ≡ 0)
+    → (row : List ℕ) → length row ≡ 255 → All (λ b. b < 256) row → ((m : ℕ) → m + n < 64 → eliminated (drop d unknown) (syndromes_of row) m ≡ 0)
     → HasCodeword (drop d unknown) row
 has_codeword unknown rising low zero d end row long bytes none =
     let empty : drop d unknown ≡ [] = drop_all d unknown (omega arith) in
-    let zeros : (m : ℕ) → m < 64 → values_of row m ≡ 0 = λ m lt.
-    sym (eliminated_none (values_of row) m (value_fits (field_power 2 m) row)) ∙ ap (λ (l : List ℕ). eliminated l (values_of row) m) (sym empty) ∙ none m (omega arith) in
+    let zeros : (m : ℕ) → m < 64 → syndromes_of row m ≡ 0 = λ m lt.
+    sym (eliminated_none (syndromes_of row) m (value_fits (field_power 2 m) row)) ∙ ap (λ (l : List ℕ). eliminated l (syndromes_of row) m) (sym empty) ∙ none m (omega arith) in
     (row, record { long = long; bytes = bytes; zeros = zeros }, record { known = λ j lt out. refl })
 has_codeword unknown rising low (suc n) d end row long bytes none =
     let lt : d < length unknown = omega arith in
@@ -85,7 +85,7 @@ has_codeword unknown rising low (suc n) d end row long bytes none =
     let cut : drop d unknown ≡ x ∷ after = first_place unknown d lt in
     let x_low : x < 255 = low d 0 lt in
     let at : ℕ = differences (map place_power after) (place_power x) in
-    let left : ℕ = eliminated after (values_of row) 0 in
+    let left : ℕ = eliminated after (syndromes_of row) 0 in
     let added : ℕ = field_product left (field_power at 254) in
     let byte : ℕ = bit_xor (get_or row x 0) added in
     let new : List ℕ = set row x byte in
@@ -98,14 +98,14 @@ has_codeword unknown rising low (suc n) d end row long bytes none =
     let back : field_product added at ≡ left =
     divided_back left at (field_power at 254) (left_fits after row)
     (power_254 at (differences_fit (map place_power after) (place_power x)) (behind_some unknown d rising low lt)) in
-    let first : eliminated after (values_of new) 0 ≡ 0 =
+    let first : eliminated after (syndromes_of new) 0 ≡ 0 =
     eliminated_changed after row new x added long new_long x_low others here ∙ ap (λ t. bit_xor left t) back ∙ xor_self left in
-    let whole : (m : ℕ) → m < 64 - suc n → eliminated (x ∷ after) (values_of new) m ≡ 0 = λ m ml.
+    let whole : (m : ℕ) → m < 64 - suc n → eliminated (x ∷ after) (syndromes_of new) m ≡ 0 = λ m ml.
     sym (eliminated_agree (x ∷ after) row new m long new_long
     (λ j jl out. others j jl (λ same. clash (or_left (j == x) (is_among j after) (eq-eqb j x same)) out)))
-    ∙ ap (λ (l : List ℕ). eliminated l (values_of row) m) (sym cut) ∙ none m (omega arith) in
+    ∙ ap (λ (l : List ℕ). eliminated l (syndromes_of row) m) (sym cut) ∙ none m (omega arith) in
     let found : HasCodeword after new =
-    has_codeword unknown rising low n (d + 1) (omega arith) new new_long new_bytes (λ m ml. one_back x after (values_of new) (64 - suc n) whole first m (omega arith)) in (
+    has_codeword unknown rising low n (d + 1) (omega arith) new new_long new_bytes (λ m ml. one_back x after (syndromes_of new) (64 - suc n) whole first m (omega arith)) in (
       found.0,
       found.1,
       record {

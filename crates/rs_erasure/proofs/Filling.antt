@@ -55,19 +55,19 @@ known_step row clear unknown n i byte lt is out =
     let parts = or_parts (is_among i (take n unknown)) (i == p) (sym (is_among_push i p (take n unknown)) ∙ ap (λ l. is_among i l) (sym (take_more unknown n 0 lt)) ∙ out) in
     get_or-set_other row p i byte 0 (λ e. clash (eq-eqb i p e) (parts.1)) ∙ is (parts.0)
 
-pub found_step : (row unknown : List ℕ) (values : ℕ → ℕ) (n i byte : ℕ) → n < length unknown → get_or unknown n 0 < length row
-    → Fills values unknown (get_or unknown n 0) byte
-    → (is_among i (take n unknown) ≡ true → Fills values unknown i (get_or row i 0))
-    → is_among i (take (n + 1) unknown) ≡ true → Fills values unknown i (get_or (slice_set row (get_or unknown n 0) byte) i 0)
-found_step row unknown values n i byte lt room now is among =
+pub found_step : (row unknown : List ℕ) (syndromes : ℕ → ℕ) (n i byte : ℕ) → n < length unknown → get_or unknown n 0 < length row
+    → Fills syndromes unknown (get_or unknown n 0) byte
+    → (is_among i (take n unknown) ≡ true → Fills syndromes unknown i (get_or row i 0))
+    → is_among i (take (n + 1) unknown) ≡ true → Fills syndromes unknown i (get_or (slice_set row (get_or unknown n 0) byte) i 0)
+found_step row unknown syndromes n i byte lt room now is among =
     let p : ℕ = get_or unknown n 0 in
     elim (cases_eq i p) [
       | inl e ↦
-          subst (λ k. Fills values unknown k (get_or (slice_set row p byte) k 0)) (sym e)
-          (subst (λ b. Fills values unknown p b) (sym (get_or-set_same row p byte 0 room)) now)
+          subst (λ k. Fills syndromes unknown k (get_or (slice_set row p byte) k 0)) (sym e)
+          (subst (λ b. Fills syndromes unknown p b) (sym (get_or-set_same row p byte 0 room)) now)
       | inr ne ↦
           elim (or_cases (is_among i (take n unknown)) (i == p) (sym (is_among_push i p (take n unknown)) ∙ ap (λ l. is_among i l) (sym (take_more unknown n 0 lt)) ∙ among)) [
-            | inl before ↦ subst (λ b. Fills values unknown i b) (sym (get_or-set_other row p i byte 0 ne)) (is before)
+            | inl before ↦ subst (λ b. Fills syndromes unknown i b) (sym (get_or-set_other row p i byte 0 ne)) (is before)
             | inr same ↦ absurd (ne (eqb-true i p same))
           ]
     ]
@@ -85,24 +85,24 @@ clear_unknown true x e = refl
 clear_unknown false x e = clash e refl
 
 -- what the steps of decoding say of their rows
-pub record Filled (row clear full unknown : List ℕ) (values : ℕ → ℕ) : Type 0 where
+pub record Filled (row clear full unknown : List ℕ) (syndromes : ℕ → ℕ) : Type 0 where
   pub cleared : (i : ℕ) → i < 255 → get_or clear i 0 ≡ (if is_among i unknown then 0 else get_or row i 0)
-  pub values_are : (m : ℕ) → m < 64 → values m ≡ row_value (field_power 2 m) clear
+  pub values_are : (m : ℕ) → m < 64 → syndromes m ≡ row_value (field_power 2 m) clear
   pub known : (i : ℕ) → i < 255 → is_among i unknown ≡ false → get_or full i 0 ≡ get_or clear i 0
-  pub found : (i : ℕ) → i < 255 → is_among i unknown ≡ true → Fills values unknown i (get_or full i 0)
+  pub found : (i : ℕ) → i < 255 → is_among i unknown ≡ true → Fills syndromes unknown i (get_or full i 0)
   pub clear_long : length clear ≡ 255
   pub full_long : length full ≡ 255
   pub bytes : All (λ b. b < 2 ^ 8) full
 
-pub filled_agrees : (row clear full unknown : List ℕ) (values : ℕ → ℕ) → Filled row clear full unknown values → Agrees unknown row full
-filled_agrees row clear full unknown values is = record {
+pub filled_agrees : (row clear full unknown : List ℕ) (syndromes : ℕ → ℕ) → Filled row clear full unknown syndromes → Agrees unknown row full
+filled_agrees row clear full unknown syndromes is = record {
   known = λ i low out. sym (is.known i low out ∙ is.cleared i low ∙ clear_known (is_among i unknown) (get_or row i 0) out);
 }
 
 -- a codeword that agrees is the filled row
-pub filled_is : (row clear full unknown code : List ℕ) (values : ℕ → ℕ) → Filled row clear full unknown values
+pub filled_is : (row clear full unknown code : List ℕ) (syndromes : ℕ → ℕ) → Filled row clear full unknown syndromes
     → All (λ p. p < 255) unknown → length unknown ≤ 64 → IsCodeword code → Agrees unknown row code → full ≡ code
-filled_is row clear full unknown code values is all few code_is agrees =
+filled_is row clear full unknown code syndromes is all few code_is agrees =
     let lf : length full ≡ 255 = is.full_long in
     let lc : length code ≡ 255 = code_is.long in
     let known : (i : ℕ) → i < 255 → is_among i unknown ≡ false → get_or clear i 0 ≡ get_or code i 0 =
@@ -116,7 +116,7 @@ filled_is row clear full unknown code values is all few code_is agrees =
     let none : get_or clear i 0 ≡ 0 = is.cleared i low ∙ clear_unknown (is_among i unknown) (get_or row i 0) among in
     let both : field_product (get_or full i 0) at ≡ field_product (get_or code i 0) at =
     is.found i low among
-    ∙ combined_same p values (λ m. row_value (field_power 2 m) clear) 0 64 (omega arith) is.values_are
+    ∙ combined_same p syndromes (λ m. row_value (field_power 2 m) clear) 0 64 (omega arith) is.values_are
     ∙ formula others code clear i code_is is.clear_long low (omega arith) none
     (λ j lt ne out. known j lt (sym (among-without i j unknown ne) ∙ out)) in
     let ff : get_or full i 0 < 2 ^ 8 = is.bytes i 0 (omega arith) in

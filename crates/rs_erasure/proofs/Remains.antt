@@ -6,13 +6,13 @@ use Rattle.fec_spec.specs.Field.{field_power, field_product}
 use Rattle.fec_spec.specs.Row.{is_among}
 use Rattle.fec_spec.specs.Table.{table_row}
 use Rattle.field_law.proofs.Field.{power_more, product_assoc, product_comm, product_zero_left, product_zero_right}
-use Rattle.erasure_law.specs.Roots.{combined, differences, eliminated, place_power, root_polynomial, values_of}
+use Rattle.erasure_law.specs.Roots.{combined, differences, eliminated, place_power, root_polynomial, syndromes_of}
 use Rattle.erasure_law.proofs.Elimination.{value_fits}
 use Rattle.erasure_law.proofs.Sums.{combined_is, sum_of, sum_more, sum_none, value_is_differences, weight_of}
 use Rattle.erasure_law.proofs.Tables.{length-table_row}
 use Rattle.erasure_law.proofs.Unique.{differences_none}
 use Rattle.rs_erasure.specs.Columns.{cell}
-use Rattle.rs_erasure.specs.Values.{HasLeft, HasValues}
+use Rattle.rs_erasure.specs.Values.{HasLeft, HasSyndromes}
 use Rattle.rs_erasure.proofs.Decoding.{left_in_column, powers_behind}
 use Rattle.rs_erasure.proofs.Runs.{get_or-row, no_root}
 
@@ -20,7 +20,7 @@ use Rattle.rs_erasure.proofs.Runs.{get_or-row, no_root}
 pub left_given : (rows wanted : ℕ) (unknown powers table work : List ℕ) (r : ℕ) → powers ≡ map place_power unknown → wanted ≤ length unknown
     → HasLeft rows (drop wanted unknown) table work r
     → (j : ℕ) → length unknown - wanted ≤ j → j < 64
-    → cell rows work j r ≡ combined (root_polynomial (drop (length powers - (length unknown - wanted)) powers)) (values_of (table_row 255 rows table r)) (j - (length unknown - wanted))
+    → cell rows work j r ≡ combined (root_polynomial (drop (length powers - (length unknown - wanted)) powers)) (syndromes_of (table_row 255 rows table r)) (j - (length unknown - wanted))
 left_given rows wanted unknown powers table work r is_powers some has j ge lt =
     let others : List ℕ = drop wanted unknown in
     let lowest : ℕ = length unknown - wanted in
@@ -31,24 +31,24 @@ left_given rows wanted unknown powers table work r is_powers some has j ge lt =
     let turned : drop (length powers - lowest) powers ≡ map place_power others = powers_behind unknown powers lowest is_powers ∙ ap (λ (k : ℕ). map place_power (drop k unknown)) back in
     ap (λ (k : ℕ). cell rows work k r) (sym e)
     ∙ has m (omega arith)
-    ∙ ap (λ (l : List ℕ). combined (root_polynomial l) (values_of (table_row 255 rows table r)) m) (sym turned)
+    ∙ ap (λ (l : List ℕ). combined (root_polynomial l) (syndromes_of (table_row 255 rows table r)) m) (sym turned)
 
--- the values of a row, of which nothing was eliminated yet
-pub values_given : (rows : ℕ) (roots table work : List ℕ) (r : ℕ) → HasValues rows table work r
-    → (j : ℕ) → 0 ≤ j → j < 64 → cell rows work j r ≡ combined (root_polynomial (drop (length roots - 0) roots)) (values_of (table_row 255 rows table r)) (j - 0)
+-- the syndromes of a row, of which nothing was eliminated yet
+pub values_given : (rows : ℕ) (roots table work : List ℕ) (r : ℕ) → HasSyndromes rows table work r
+    → (j : ℕ) → 0 ≤ j → j < 64 → cell rows work j r ≡ combined (root_polynomial (drop (length roots - 0) roots)) (syndromes_of (table_row 255 rows table r)) (j - 0)
 values_given rows roots table work r has j ge lt =
-    has j lt ∙ no_root roots (values_of (table_row 255 rows table r)) j (value_fits (field_power 2 j) (table_row 255 rows table r))
+    has j lt ∙ no_root roots (syndromes_of (table_row 255 rows table r)) j (value_fits (field_power 2 j) (table_row 255 rows table r))
 
 -- what is left where all of the places are eliminated
 pub left_found : (rows : ℕ) (places powers table work : List ℕ) (r : ℕ) → powers ≡ map place_power places
-    → ((j : ℕ) → 0 ≤ j → j < 64 → cell rows work j r ≡ combined (root_polynomial (drop (length powers - j) powers)) (values_of (table_row 255 rows table r)) (j - length powers))
+    → ((j : ℕ) → 0 ≤ j → j < 64 → cell rows work j r ≡ combined (root_polynomial (drop (length powers - j) powers)) (syndromes_of (table_row 255 rows table r)) (j - length powers))
     → HasLeft rows places table work r
 left_found rows places powers table work r is_powers is m few =
     let j : ℕ = length places + m in
     let e : length places - j ≡ 0 = omega arith in
     let n : j - length places ≡ m = omega arith in
-    left_in_column places powers (values_of (table_row 255 rows table r)) (λ (k : ℕ). cell rows work k r) j is_powers (is j (omega arith) (omega arith))
-    ∙ ap₂ (λ (k i : ℕ). eliminated (drop k places) (values_of (table_row 255 rows table r)) i) e n
+    left_in_column places powers (syndromes_of (table_row 255 rows table r)) (λ (k : ℕ). cell rows work k r) j is_powers (is j (omega arith) (omega arith))
+    ∙ ap₂ (λ (k i : ℕ). eliminated (drop k places) (syndromes_of (table_row 255 rows table r)) i) e n
 
 -- ---- sums over the first columns
 
@@ -87,7 +87,7 @@ abbrev pub left_term : List ℕ → ℕ → List ℕ → ℕ → ℕ → ℕ →
 left_term places rows table r m i = field_product (field_product (field_power (place_power i) m) (differences (map place_power places) (place_power i))) (cell rows table i r)
 
 -- what is left of a row is what all its bytes leave
-pub left_is_sum : (places : List ℕ) (rows : ℕ) (table : List ℕ) (r m : ℕ) → eliminated places (values_of (table_row 255 rows table r)) m ≡ sum_to (left_term places rows table r m) 255
+pub left_is_sum : (places : List ℕ) (rows : ℕ) (table : List ℕ) (r m : ℕ) → eliminated places (syndromes_of (table_row 255 rows table r)) m ≡ sum_to (left_term places rows table r m) 255
 left_is_sum places rows table r m =
     let row : List ℕ = table_row 255 rows table r in
     let p : List ℕ = root_polynomial (map place_power places) in

@@ -53,11 +53,11 @@ value_step rows table r z n v bytes lt is =
     ∙ ap (λ (t : List ℕ). row_value z t) (sym (take_more row n 0 (omega arith)))
 
 -- one root more, in a column from the new one on
-pub root_high : (roots : List ℕ) (values : ℕ → ℕ) (left j a b : ℕ) → left < length roots → length roots - left ≤ j
-    → a ≡ combined (root_polynomial (drop (left + 1 + (length roots - (left + 1) - j)) roots)) values (j - (length roots - (left + 1)))
-    → b ≡ combined (root_polynomial (drop (left + 1 + (length roots - (left + 1) - (j - 1))) roots)) values (j - 1 - (length roots - (left + 1)))
-    → bit_xor a (field_product (get_or roots left 0) b) ≡ combined (root_polynomial (drop (left + (length roots - left - j)) roots)) values (j - (length roots - left))
-root_high roots values left j a b lt high is_a is_b =
+pub root_high : (roots : List ℕ) (syndromes : ℕ → ℕ) (left j a b : ℕ) → left < length roots → length roots - left ≤ j
+    → a ≡ combined (root_polynomial (drop (left + 1 + (length roots - (left + 1) - j)) roots)) syndromes (j - (length roots - (left + 1)))
+    → b ≡ combined (root_polynomial (drop (left + 1 + (length roots - (left + 1) - (j - 1))) roots)) syndromes (j - 1 - (length roots - (left + 1)))
+    → bit_xor a (field_product (get_or roots left 0) b) ≡ combined (root_polynomial (drop (left + (length roots - left - j)) roots)) syndromes (j - (length roots - left))
+root_high roots syndromes left j a b lt high is_a is_b =
     let m : ℕ = j - (length roots - left) in
     let k : ℕ = suc left in
     let ea : left + 1 + (length roots - (left + 1) - j) ≡ k = omega arith in
@@ -66,35 +66,35 @@ root_high roots values left j a b lt high is_a is_b =
     let mb : j - 1 - (length roots - (left + 1)) ≡ m = omega arith in
     let ec : left + (length roots - left - j) ≡ left = omega arith in
     ap₂ (λ s t. bit_xor s (field_product (get_or roots left 0) t))
-    (is_a ∙ ap₂ (λ (x : ℕ) (y : ℕ). combined (root_polynomial (drop x roots)) values y) ea ma)
-    (is_b ∙ ap₂ (λ (x : ℕ) (y : ℕ). combined (root_polynomial (drop x roots)) values y) eb mb)
-    ∙ sym (combined_more (get_or roots left 0) (drop k roots) values m)
-    ∙ ap (λ (l : List ℕ). combined (root_polynomial l) values m) (sym (drop-cons roots left 0 lt))
-    ∙ ap (λ (x : ℕ). combined (root_polynomial (drop x roots)) values m) (sym ec)
+    (is_a ∙ ap₂ (λ (x : ℕ) (y : ℕ). combined (root_polynomial (drop x roots)) syndromes y) ea ma)
+    (is_b ∙ ap₂ (λ (x : ℕ) (y : ℕ). combined (root_polynomial (drop x roots)) syndromes y) eb mb)
+    ∙ sym (combined_more (get_or roots left 0) (drop k roots) syndromes m)
+    ∙ ap (λ (l : List ℕ). combined (root_polynomial l) syndromes m) (sym (drop-cons roots left 0 lt))
+    ∙ ap (λ (x : ℕ). combined (root_polynomial (drop x roots)) syndromes m) (sym ec)
 
 -- in the columns before it
-pub root_low : (roots : List ℕ) (values : ℕ → ℕ) (left j a : ℕ) → left < length roots → j < length roots - left
-    → a ≡ combined (root_polynomial (drop (left + 1 + (length roots - (left + 1) - j)) roots)) values (j - (length roots - (left + 1)))
-    → a ≡ combined (root_polynomial (drop (left + (length roots - left - j)) roots)) values (j - (length roots - left))
-root_low roots values left j a lt low is_a =
+pub root_low : (roots : List ℕ) (syndromes : ℕ → ℕ) (left j a : ℕ) → left < length roots → j < length roots - left
+    → a ≡ combined (root_polynomial (drop (left + 1 + (length roots - (left + 1) - j)) roots)) syndromes (j - (length roots - (left + 1)))
+    → a ≡ combined (root_polynomial (drop (left + (length roots - left - j)) roots)) syndromes (j - (length roots - left))
+root_low roots syndromes left j a lt low is_a =
     let e : left + 1 + (length roots - (left + 1) - j) ≡ left + (length roots - left - j) = omega arith in
     let m : j - (length roots - (left + 1)) ≡ j - (length roots - left) = omega arith in
-    is_a ∙ ap₂ (λ (x : ℕ) (y : ℕ). combined (root_polynomial (drop x roots)) values y) e m
+    is_a ∙ ap₂ (λ (x : ℕ) (y : ℕ). combined (root_polynomial (drop x roots)) syndromes y) e m
 
 -- the last ones were eliminated before
-pub roots_done : (roots : List ℕ) (values : ℕ → ℕ) (done j : ℕ) → done ≤ length roots → done ≤ j
-    → combined (root_polynomial (drop (length roots - done) roots)) values (j - done)
-    ≡ combined (root_polynomial (drop (length roots - done + (length roots - (length roots - done) - j)) roots)) values (j - (length roots - (length roots - done)))
-roots_done roots values done j some ge =
+pub roots_done : (roots : List ℕ) (syndromes : ℕ → ℕ) (done j : ℕ) → done ≤ length roots → done ≤ j
+    → combined (root_polynomial (drop (length roots - done) roots)) syndromes (j - done)
+    ≡ combined (root_polynomial (drop (length roots - done + (length roots - (length roots - done) - j)) roots)) syndromes (j - (length roots - (length roots - done)))
+roots_done roots syndromes done j some ge =
     let e : length roots - done ≡ length roots - done + (length roots - (length roots - done) - j) = omega arith in
     let m : j - done ≡ j - (length roots - (length roots - done)) = omega arith in
-    ap₂ (λ (x : ℕ) (y : ℕ). combined (root_polynomial (drop x roots)) values y) e m
+    ap₂ (λ (x : ℕ) (y : ℕ). combined (root_polynomial (drop x roots)) syndromes y) e m
 
 -- no root yet
-pub no_root : (roots : List ℕ) (values : ℕ → ℕ) (j : ℕ) → values j < 2 ^ 8 → values j ≡ combined (root_polynomial (drop (length roots - 0) roots)) values (j - 0)
-no_root roots values j fits =
+pub no_root : (roots : List ℕ) (syndromes : ℕ → ℕ) (j : ℕ) → syndromes j < 2 ^ 8 → syndromes j ≡ combined (root_polynomial (drop (length roots - 0) roots)) syndromes (j - 0)
+no_root roots syndromes j fits =
     let e : length roots - 0 ≡ length roots = omega arith in
     let m : j - 0 ≡ j = omega arith in
-    sym (ap₂ (λ (x : ℕ) (y : ℕ). combined (root_polynomial (drop x roots)) values y) e m
-    ∙ ap (λ (l : List ℕ). combined (root_polynomial l) values j) (drop_all (length roots) roots (omega arith))
-    ∙ eliminated_none values j fits)
+    sym (ap₂ (λ (x : ℕ) (y : ℕ). combined (root_polynomial (drop x roots)) syndromes y) e m
+    ∙ ap (λ (l : List ℕ). combined (root_polynomial l) syndromes j) (drop_all (length roots) roots (omega arith))
+    ∙ eliminated_none syndromes j fits)

@@ -1,14 +1,14 @@
--- The values of a row, as they stand in the work, and what is left of them.
+-- The syndromes of a row, as they stand in the work, and what is left of them.
 use Rattle.std.specs.Prelude.{ℕ, zero, suc, List, ◌≡◌, ◌⊎◌, ◌+◌, ◌<◌, ◌≤◌, true, length, slice_index}
-use Rattle.erasure_law.specs.Roots.{eliminated, values_of}
+use Rattle.erasure_law.specs.Roots.{eliminated, syndromes_of}
 use Rattle.fec_spec.specs.Field.{field_sum, field_product}
 use Rattle.fec_spec.specs.Row.{is_among}
 use Rattle.fec_spec.specs.Table.{table_row}
 use Rattle.rs_erasure.specs.Columns.{cell}
 
 -- column m of the work has the value of the table's row at the power m of 2, each m up to 63
-abbrev pub HasValues : ℕ → List ℕ → List ℕ → ℕ → Type 0
-HasValues rows table work row = (m : ℕ) → m < 64 → cell rows work m row ≡ values_of (table_row 255 rows table row) m
+abbrev pub HasSyndromes : ℕ → List ℕ → List ℕ → ℕ → Type 0
+HasSyndromes rows table work row = (m : ℕ) → m < 64 → cell rows work m row ≡ syndromes_of (table_row 255 rows table row) m
 
 -- the value at z of so many coefficients, the highest first, by Horner's rule
 unfoldable pub horner_value : ℕ → (ℕ → ℕ) → ℕ → ℕ
@@ -17,7 +17,7 @@ horner_value z f (suc n) = field_sum (field_product (horner_value z f n) z) (f n
 
 -- column length places + m of the work has what is left from the power m of 2 on, where the places are eliminated from the table's row
 abbrev pub HasLeft : ℕ → List ℕ → List ℕ → List ℕ → ℕ → Type 0
-HasLeft rows places table work row = (m : ℕ) → m + length places < 64 → cell rows work (length places + m) row ≡ eliminated places (values_of (table_row 255 rows table row)) m
+HasLeft rows places table work row = (m : ℕ) → m + length places < 64 → cell rows work (length places + m) row ≡ eliminated places (syndromes_of (table_row 255 rows table row)) m
 
 -- a column whose mark is 0 is one of the places, or 0 in the rows of a run
 abbrev pub AreEmpty : ℕ → ℕ → ℕ → List ℕ → List ℕ → List ℕ → Type 0

@@ -1,16 +1,16 @@
-//! Column by column, in the rows of a run: the elimination of the unknown places from the values of the rows.
+//! Column by column, in the rows of a run: the elimination of the unknown places from the syndromes of the rows.
 
 ghost use Rattle.erasure_law.specs.Roots.{combined, place_power, root_polynomial};
 ghost use Rattle.fec_spec.specs.Codeword.{row_value};
 ghost use Rattle.fec_spec.specs.Field.{field_power, field_product, field_sum};
 ghost use Rattle.fec_spec.specs.Table.{table_row};
 ghost use Rattle.rs_erasure.specs.Columns.{IsColumnChanged, cell};
-ghost use Rattle.rs_erasure.specs.Values.{HasValues};
+ghost use Rattle.rs_erasure.specs.Values.{HasSyndromes};
 ghost use Rattle.std.specs.List.{All};
 ghost use Rattle.std.specs.Prelude.{◌*◌, ◌-◌, ◌<◌, ◌≡◌, ◌≤◌, ◌⊎◌, ℕ, drop, length, map};
 
 use crate::columns::{Run, add_to_later};
-use crate::values::power_of;
+use crate::syndromes::locator_of;
 use arrayvec::ArrayVec;
 use gf256::Gf;
 
@@ -22,7 +22,7 @@ pub fn powers_of(places: &[u8]) -> ArrayVec<u8, 64>
 {
     let mut powers = ArrayVec::new();
     for place in places {
-        powers.push(power_of(*place).0);
+        powers.push(locator_of(*place).0);
     }
     powers
 }
@@ -53,7 +53,7 @@ pub fn eliminate(roots: &[u8], done: usize, run: Run, work: &mut [u8])
     requires room { length work.old ≡ 64 * run.rows }
     requires few { length roots.now ≤ 64 }
     requires some { done ≤ length roots.now }
-    ensures eliminated { (values : ℕ → ℕ) (r : ℕ) → run.from ≤ r → r < run.to → ((j : ℕ) → done ≤ j → j < 64 → cell run.rows work.old j r ≡ combined (root_polynomial (drop (length roots.now - done) roots.now)) values (j - done)) → (j : ℕ) → done ≤ j → j < 64 → cell run.rows work.new j r ≡ combined (root_polynomial (drop (length roots.now - j) roots.now)) values (j - length roots.now) }
+    ensures eliminated { (syndromes : ℕ → ℕ) (r : ℕ) → run.from ≤ r → r < run.to → ((j : ℕ) → done ≤ j → j < 64 → cell run.rows work.old j r ≡ combined (root_polynomial (drop (length roots.now - done) roots.now)) syndromes (j - done)) → (j : ℕ) → done ≤ j → j < 64 → cell run.rows work.new j r ≡ combined (root_polynomial (drop (length roots.now - j) roots.now)) syndromes (j - length roots.now) }
     ensures outside { (j r : ℕ) → r < run.rows → (r < run.from) ⊎ (run.to ≤ r) → cell run.rows work.new j r ≡ cell run.rows work.old j r }
 {
     let mut left = roots.len() - done;

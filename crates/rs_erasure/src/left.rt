@@ -1,6 +1,6 @@
 //! What is left of the rows of a run where some places are eliminated, in the last columns of `work`.
 //!
-//! Where few columns have a byte that is not 0 it is a sum over those. Otherwise the values of the rows are found, and the places eliminated.
+//! Where few columns have a byte that is not 0 it is a sum over those. Otherwise the syndromes of the rows are found, and the places eliminated.
 
 ghost use Rattle.erasure_law.specs.Roots.{differences, place_power};
 ghost use Rattle.fec_spec.specs.Field.{field_power, field_product, field_sum};
@@ -13,8 +13,8 @@ use crate::columns::{Run, add_to_other, clear_column};
 use crate::correction::differences_of;
 use crate::elimination::{eliminate, powers_of};
 use crate::row::cleared;
-use crate::table_values::find_values;
-use crate::values::power_of;
+use crate::syndromes::locator_of;
+use crate::table_syndromes::find_syndromes;
 use gf256::Gf;
 
 /// So many steps on columns the values take, and the elimination of some places.
@@ -128,7 +128,7 @@ fn add_column(place: u8, roots: &[u8], run: Run, table: &[u8], work: &mut [u8])
     requires low { place < 255 }
     ensures { (r : ℕ) → run.from ≤ r → r < run.to → (m : ℕ) → m + length roots.now < 64 → cell run.rows work.new (length roots.now + m) r ≡ field_sum (cell run.rows work.old (length roots.now + m) r) (field_product (field_product (field_power (place_power place) m) (differences roots.now (place_power place))) (cell run.rows table.now place r)) }
 {
-    let power = power_of(place);
+    let power = locator_of(place);
     let mut factor = differences_of(roots, 0, power);
     for into in roots.len()..64 {
         add_to_other(factor, run, table, usize::from(place), work, into);
@@ -177,8 +177,8 @@ fn find_by_columns(marks: &[u8; 255], places: &[u8], run: Run, table: &[u8], wor
     }
 }
 
-/// What is left, from the values of the rows.
-fn find_by_values(places: &[u8], run: Run, table: &[u8], work: &mut [u8])
+/// What is left, from the syndromes of the rows.
+fn find_by_syndromes(places: &[u8], run: Run, table: &[u8], work: &mut [u8])
     requires order { run.from ≤ run.to }
     requires within { run.to ≤ run.rows }
     requires table_room { length table.now ≡ 255 * run.rows }
@@ -187,7 +187,7 @@ fn find_by_values(places: &[u8], run: Run, table: &[u8], work: &mut [u8])
     requires few { length places.now ≤ 64 }
     ensures { (r : ℕ) → run.from ≤ r → r < run.to → HasLeft run.rows places.now table.now work.new r }
 {
-    find_values(run, table, work);
+    find_syndromes(run, table, work);
     let powers = powers_of(places);
     eliminate(powers.as_slice(), 0, run, work);
 }
@@ -206,6 +206,6 @@ pub fn find_left(places: &[u8], run: Run, table: &[u8], work: &mut [u8])
     if count_of(&marks) * (64 - places.len()) < STEPS {
         find_by_columns(&marks, places, run, table, work);
     } else {
-        find_by_values(places, run, table, work);
+        find_by_syndromes(places, run, table, work);
     }
 }

@@ -2,7 +2,7 @@
 //!
 //! Receiving: sections -> fec_frame -> [rs_erasure] -> frame_walk -> datagrams.
 //! Begin with `decode_row`; `decode_run` does many rows with the same unknown columns at once. For many short runs of a table find
-//! once what all of them share (`find_run_values`), and then decode run by run the columns that are wanted (`decode_run_with_values`).
+//! once what all of them share (`find_run_syndromes`), and then decode run by run the columns that are wanted (`decode_run_with_syndromes`).
 #![tactic(auto)]
 
 mod columns;
@@ -13,9 +13,9 @@ mod marks;
 mod powers;
 mod row;
 mod run;
-mod table_values;
-mod values;
+mod syndromes;
+mod table_syndromes;
 mod weights;
 
 pub use row::{RowAnswer, decode_row};
-pub use run::{decode_run, decode_run_with_values, find_run_values};
+pub use run::{decode_run, decode_run_with_syndromes, find_run_syndromes};

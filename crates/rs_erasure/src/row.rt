@@ -6,7 +6,7 @@ ghost use Rattle.std.specs.List.{All};
 ghost use Rattle.std.specs.List.Sorted.{IsStrictlyIncreasing};
 ghost use Rattle.std.specs.Prelude.{◌<◌, ◌≡◌, ◌≢◌, ◌≤◌, ◌↔◌, ℕ, if◌then◌else◌, length, slice_index};
 
-use crate::values::{has_zeros, values_of};
+use crate::syndromes::{has_zeros, syndromes_of};
 use crate::weights::filled;
 use arrayvec::ArrayVec;
 
@@ -51,8 +51,8 @@ pub fn decode_row(row: &mut [u8; 255], unknown: &ArrayVec<u8, 255>) -> RowAnswer
         return RowAnswer::TooMany;
     }
     let clear = cleared(row, unknown.as_slice());
-    let values = values_of(&clear);
-    let full = filled(&clear, &values, unknown.as_slice());
+    let syndromes = syndromes_of(&clear);
+    let full = filled(&clear, &syndromes, unknown.as_slice());
     if has_zeros(&full) {
         *row = full;
         RowAnswer::Done

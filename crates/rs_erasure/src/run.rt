@@ -19,7 +19,7 @@ use arrayvec::ArrayVec;
 /// by column, 255 columns of `rows` bytes, unknown bytes too: it depends on no bytes of these columns.
 ///
 /// The others are columns that no run of these rows knows or wants, at most 64. `work` has 64 × `rows` bytes of any content.
-pub fn find_run_values(
+pub fn find_run_syndromes(
     table: &[u8],
     rows: usize,
     from: usize,
@@ -39,11 +39,11 @@ pub fn find_run_values(
 }
 
 /// Corrects the first `wanted` of the unknown columns, in the rows `from` up to but not including `to`. What is left of these rows where
-/// the other unknown columns are eliminated stands in `work`, by `find_run_values`. The other columns stay as they are: a codeword
+/// the other unknown columns are eliminated stands in `work`, by `find_run_syndromes`. The other columns stay as they are: a codeword
 /// agrees with the new row but in these.
 ///
 /// What stands in `work` of other rows still stands there afterwards; of the rows of the run nothing is said.
-pub fn decode_run_with_values(
+pub fn decode_run_with_syndromes(
     table: &mut [u8],
     rows: usize,
     from: usize,
@@ -61,14 +61,14 @@ pub fn decode_run_with_values(
     requires low { All (λ p. p < 255) unknown.now.items }
     requires wanted { wanted ≤ length unknown.now.items }
     requires room { length work.old ≡ 64 * rows }
-    requires values { (r : ℕ) → from ≤ r → r < to → HasLeft rows (drop wanted unknown.now.items) table.old work.old r }
+    requires syndromes { (r : ℕ) → from ≤ r → r < to → HasLeft rows (drop wanted unknown.now.items) table.old work.old r }
     requires marks { length bad.old ≡ rows }
     ensures corrected { (r : ℕ) → from ≤ r → r < to → IsCorrectedBut (drop wanted unknown.now.items) unknown.now.items (table_row 255 rows table.old r) (table_row 255 rows table.new r) }
     ensures consistent { (r : ℕ) → from ≤ r → r < to → (slice_index bad.new r ≡ 0) ↔ IsCorrectable unknown.now.items (table_row 255 rows table.old r) }
     ensures inconsistent { (r : ℕ) → from ≤ r → r < to → (slice_index bad.new r ≡ 1) ↔ (IsCorrectable unknown.now.items (table_row 255 rows table.old r) → ⊥) }
     ensures outside { (r : ℕ) → r < rows → (r < from) ⊎ (to ≤ r) → table_row 255 rows table.new r ≡ table_row 255 rows table.old r }
     ensures kept { (r : ℕ) → (r < from) ⊎ (to ≤ r) → slice_index bad.new r ≡ slice_index bad.old r }
-    ensures values { (others : List ℕ) (r : ℕ) → r < rows → (r < from) ⊎ (to ≤ r) → HasLeft rows others table.old work.old r → HasLeft rows others table.new work.new r }
+    ensures syndromes { (others : List ℕ) (r : ℕ) → r < rows → (r < from) ⊎ (to ≤ r) → HasLeft rows others table.old work.old r → HasLeft rows others table.new work.new r }
 {
     let run = Run { rows, from, to };
     let places = unknown.as_slice();
@@ -107,6 +107,6 @@ pub fn decode_run(
     ensures outside { (r : ℕ) → r < rows → (r < from) ⊎ (to ≤ r) → table_row 255 rows table.new r ≡ table_row 255 rows table.old r }
     ensures kept { (r : ℕ) → (r < from) ⊎ (to ≤ r) → slice_index bad.new r ≡ slice_index bad.old r }
 {
-    find_run_values(table, rows, from, to, &[], work);
-    decode_run_with_values(table, rows, from, to, unknown, unknown.len(), work, bad);
+    find_run_syndromes(table, rows, from, to, &[], work);
+    decode_run_with_syndromes(table, rows, from, to, unknown, unknown.len(), work, bad);
 }

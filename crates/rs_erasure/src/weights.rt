@@ -8,7 +8,7 @@ ghost use Rattle.rs_erasure.specs.Fill.{Fills};
 ghost use Rattle.std.specs.List.{All};
 ghost use Rattle.std.specs.Prelude.{◌<◌, ◌==◌, ◌≡◌, ◌≤◌, ℕ, false, if◌then◌else◌, length, map, slice_index, true};
 
-use crate::values::power_of;
+use crate::syndromes::locator_of;
 use arrayvec::ArrayVec;
 use gf256::Gf;
 
@@ -36,7 +36,7 @@ fn with_root(polynomial: ArrayVec<u8, 65>, other: u8, place: u8) -> ArrayVec<u8,
     if place == other {
         polynomial
     } else {
-        product_with_root(polynomial.as_slice(), power_of(other))
+        product_with_root(polynomial.as_slice(), locator_of(other))
     }
 }
 
@@ -65,7 +65,7 @@ fn with_difference(value: Gf, other: u8, place: u8) -> Gf
     if place == other {
         value
     } else {
-        power_of(other).add(power_of(place)).mul(value)
+        locator_of(other).add(locator_of(place)).mul(value)
     }
 }
 
@@ -85,43 +85,43 @@ fn others_value(unknown: &[u8], place: u8) -> Gf
 }
 
 /// The values times the coefficients, added.
-fn combine(polynomial: &[u8], values: &[u8; 64]) -> Gf
+fn combine(polynomial: &[u8], syndromes: &[u8; 64]) -> Gf
     requires { length polynomial.now ≤ 64 }
-    ensures { result.0 ≡ combined polynomial.now (λ m. slice_index values.now m) 0 }
+    ensures { result.0 ≡ combined polynomial.now (λ m. slice_index syndromes.now m) 0 }
 {
     let mut sum = Gf(0);
     for m in 0..polynomial.len() {
-        sum = sum.add(Gf(polynomial[m]).mul(Gf(values[m])));
+        sum = sum.add(Gf(polynomial[m]).mul(Gf(syndromes[m])));
     }
     sum
 }
 
-/// The byte of a codeword at an unknown place, from the values of the row with zeros at the unknown places.
-fn unknown_byte(values: &[u8; 64], unknown: &[u8], place: u8) -> u8
+/// The byte of a codeword at an unknown place, from the syndromes of the row with zeros at the unknown places.
+fn unknown_byte(syndromes: &[u8; 64], unknown: &[u8], place: u8) -> u8
     requires all_low { All (λ p. p < 255) unknown.now }
     requires few { length unknown.now ≤ 64 }
     requires among { is_among place unknown.now ≡ true }
     requires low { place < 255 }
-    ensures { Fills (λ m. slice_index values.now m) unknown.now place result }
+    ensures { Fills (λ m. slice_index syndromes.now m) unknown.now place result }
 {
     let polynomial = others_polynomial(unknown, place);
-    let sum = combine(polynomial.as_slice(), values);
+    let sum = combine(polynomial.as_slice(), syndromes);
     let value = others_value(unknown, place);
     sum.mul(value.inverse()).0
 }
 
 /// A row with its unknown places filled.
-pub fn filled(clear: &[u8; 255], values: &[u8; 64], unknown: &[u8]) -> [u8; 255]
+pub fn filled(clear: &[u8; 255], syndromes: &[u8; 64], unknown: &[u8]) -> [u8; 255]
     requires all_low { All (λ p. p < 255) unknown.now }
     requires few { length unknown.now ≤ 64 }
     ensures known { (i : ℕ) → i < 255 → is_among i unknown.now ≡ false → slice_index result i ≡ slice_index clear.now i }
-    ensures found { (i : ℕ) → i < 255 → is_among i unknown.now ≡ true → Fills (λ m. slice_index values.now m) unknown.now i (slice_index result i) }
+    ensures found { (i : ℕ) → i < 255 → is_among i unknown.now ≡ true → Fills (λ m. slice_index syndromes.now m) unknown.now i (slice_index result i) }
     ensures long { length result ≡ 255 }
     ensures bytes { All (λ b. b < 256) result }
 {
     let mut row = *clear;
     for place in unknown {
-        row[usize::from(*place)] = unknown_byte(values, unknown, *place);
+        row[usize::from(*place)] = unknown_byte(syndromes, unknown, *place);
     }
     row
 }

@@ -2,8 +2,8 @@
 use Rattle.std.proofs.Common.{◌≡◌, ℕ, List, sym, ap, ◌∙◌}
 use Rattle.ts_spec.specs.Recording.{Record}
 use Rattle.ts_spec.specs.Reassembly.{PlacedUnit}
-use Rattle.carriage_spec.specs.Channel.{Channel}
-use Rattle.carriage_spec.specs.Carried.{IsSentUnit}
+use Rattle.channel_spec.specs.Channel.{Channel}
+use Rattle.channel_spec.specs.Carried.{IsSentUnit}
 use Rattle.slice_spec.specs.Sections.{SectionTime}
 use Rattle.slice_law.specs.Carried.{IsNumberedUnit, time_seen}
 

@@ -2,8 +2,8 @@
 ghost use Rattle.std.specs.Prelude.{◌≡◌, ℕ, ◌+◌, ◌<◌, ◌≤◌, not, List, ◌==◌};
 ghost use Rattle.ts_spec.specs.Recording.{Record};
 ghost use Rattle.ts_spec.specs.Reassembly.{PlacedUnit};
-ghost use Rattle.carriage_spec.specs.Channel.{Channel};
-ghost use Rattle.carriage_spec.specs.Carried.{IsSentUnit};
+ghost use Rattle.channel_spec.specs.Channel.{Channel};
+ghost use Rattle.channel_spec.specs.Carried.{IsSentUnit};
 ghost use Rattle.slice_spec.specs.Sections.{indexed, SectionTime, is_parted};
 ghost use Rattle.slice_spec.specs.Frames.{IsIndexed};
 ghost use Rattle.slice_law.specs.Carried.{IsNumberedUnit, time_seen};

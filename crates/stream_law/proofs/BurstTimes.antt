@@ -9,10 +9,10 @@ use Rattle.slice_spec.specs.Moments.{ten, moment_of}
 use Rattle.slice_spec.specs.Sections.{SectionTime, tens_between}
 use Rattle.slice_spec.specs.Bursts.{Slicing, moment_in, delta_to_next, time_in, times_of as times_of_bursts}
 use Rattle.slice_law.specs.Cycles.{bursts_from}
-use Rattle.frame_spec.specs.Sections.{FrameSection, data_section, parity_section, real_time_in, TimedSection, times_of}
-use Rattle.frame_spec.specs.Frame.{FrameFields}
-use Rattle.frame_spec.specs.Sender.{frame_of, section_of_datagram, section_of_column, sections_to_send, section_unit}
-use Rattle.sent_frame_law.proofs.Carried.{timed_from, all_timed}
+use Rattle.fec_frame_spec.specs.Sections.{FrameSection, data_section, parity_section, real_time_in, TimedSection, times_of}
+use Rattle.fec_frame_spec.specs.Frame.{FrameFields}
+use Rattle.fec_frame_spec.specs.Sender.{frame_of, section_of_datagram, section_of_column, sections_to_send, section_unit}
+use Rattle.fec_sent_law.proofs.Carried.{timed_from, all_timed}
 use Rattle.plan_spec.specs.Plan.{WindowFields}
 use Rattle.stream_spec.specs.Units.{FrameSchedule, mac_for, sized_units, packet_of_section, burst_moment, delta_after, units_by_burst}
 use Rattle.stream_law.proofs.BurstValues.{item_at, length-sections, section_moments, all_section_moments}

@@ -3,9 +3,9 @@ use Rattle.std.proofs.Common.{◌≡◌, ℕ, zero, suc, ◌+◌, true, List, []
 use Rattle.std.specs.List.{range_with_len}
 use Rattle.std.proofs.lemmas.List.{map-append}
 use Rattle.section_spec.specs.Section.{section_form}
-use Rattle.frame_spec.specs.Sections.{data_section, parity_section}
-use Rattle.frame_spec.specs.Frame.{FrameFields, datagram_at}
-use Rattle.frame_spec.specs.Sender.{frame_of, section_of_datagram, section_of_column, section_unit}
+use Rattle.fec_frame_spec.specs.Sections.{data_section, parity_section}
+use Rattle.fec_frame_spec.specs.Frame.{FrameFields, datagram_at}
+use Rattle.fec_frame_spec.specs.Sender.{frame_of, section_of_datagram, section_of_column, section_unit}
 use Rattle.plan_spec.specs.Plan.{WindowFields}
 use Rattle.stream_spec.specs.Units.{FrameSchedule, mac_for, units_with_delta, sized_units, burst_size, units_by_burst, packetized_apart}
 use Rattle.stream_law.proofs.Framed.{data_size, column_size}

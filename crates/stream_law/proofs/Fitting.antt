@@ -4,9 +4,9 @@ use Rattle.std.specs.Prelude.{slice_index, All}
 use Rattle.std.specs.List.{fold, range_with_len}
 use Rattle.std.proofs.lemmas.Bool.{and_parts}
 use Rattle.std.proofs.lemmas.List.{map-append}
-use Rattle.frame_spec.specs.Sections.{FrameSection, data_section, parity_section}
-use Rattle.frame_spec.specs.Frame.{datagram_at}
-use Rattle.frame_spec.specs.Sender.{fits_table, with_datagram, frame_of, section_of_datagram, section_of_column, section_unit}
+use Rattle.fec_frame_spec.specs.Sections.{FrameSection, data_section, parity_section}
+use Rattle.fec_frame_spec.specs.Frame.{datagram_at}
+use Rattle.fec_frame_spec.specs.Sender.{fits_table, with_datagram, frame_of, section_of_datagram, section_of_column, section_unit}
 use Rattle.unit_stream.specs.Packing.{byte_count}
 use Rattle.plan_spec.specs.Plan.{KindFields, ule, mpe, fec, gse, PlanFields, SlicedFields, sliced_of}
 use Rattle.plan_spec.specs.Changes.{plan_in}

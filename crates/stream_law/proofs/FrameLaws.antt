@@ -7,7 +7,7 @@ use Rattle.wire_spec.specs.Lists.{joined}
 use Rattle.ts_spec.specs.Form.{IsUnit}
 use Rattle.section_spec.specs.Section.{section_form}
 use Rattle.section_spec.specs.Mpe.{IsRows}
-use Rattle.sent_frame_law.specs.Frames.{IsSendable, CanSend}
+use Rattle.fec_sent_law.specs.Frames.{IsSendable, CanSend}
 use Rattle.plan_spec.specs.Bytes.{IsMac}
 use Rattle.stream_spec.specs.Units.{units_of_frames}
 use Rattle.stream_law.proofs.Frames.{AreFramed, AreFrames, framed_both}

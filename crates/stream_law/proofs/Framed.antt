@@ -7,9 +7,9 @@ use Rattle.wire_spec.specs.Lists.{joined}
 use Rattle.section_spec.specs.Mpe.{RealTimeFields, FecFields, real_time_number, mpe_to_write, mpe_body, mpe_bytes, fec_body, fec_bytes}
 use Rattle.section_codec.proofs.Written.{length-section_bytes}
 use Rattle.unit_stream.specs.Packing.{byte_count}
-use Rattle.frame_spec.specs.Sections.{FrameSection, data_section, parity_section}
-use Rattle.frame_spec.specs.Frame.{datagram_at}
-use Rattle.frame_spec.specs.Sender.{fits_table, with_datagram, frame_of, section_of_datagram, section_of_column, section_unit}
+use Rattle.fec_frame_spec.specs.Sections.{FrameSection, data_section, parity_section}
+use Rattle.fec_frame_spec.specs.Frame.{datagram_at}
+use Rattle.fec_frame_spec.specs.Sender.{fits_table, with_datagram, frame_of, section_of_datagram, section_of_column, section_unit}
 use Rattle.stream_spec.specs.Units.{mac_for, datagrams_by_frame, units_of_frame, units_of_frames}
 
 -- Bytes of lists.

@@ -8,7 +8,7 @@ use Rattle.wire_spec.specs.Bytes.{AreBytes}
 use Rattle.wire_spec.specs.Datagram.{IsDatagram}
 use Rattle.wire_spec.specs.Lists.{joined}
 use Rattle.section_spec.specs.Mpe.{IsRows}
-use Rattle.frame_spec.specs.Sender.{fits_table, with_datagram, datagrams_in_frames}
+use Rattle.fec_frame_spec.specs.Sender.{fits_table, with_datagram, datagrams_in_frames}
 use Rattle.stream_spec.specs.Units.{burst_size, fits_window, datagrams_by_burst, datagrams_by_frame, units_of_frame, units_of_frames}
 
 -- a datagram that a section of a frame has room for

@@ -12,7 +12,7 @@ use Rattle.ts_spec.specs.Received.{no_arrival, Arrival, arrivals, arrival_at, pa
 use Rattle.ts_spec.specs.Recording.{Record, records_of}
 use Rattle.ts_packet.specs.Fields.{written_fields}
 use Rattle.section_spec.specs.Section.{section_form}
-use Rattle.carriage_spec.specs.Carried.{packets_sent, HoldsPart}
+use Rattle.channel_spec.specs.Carried.{packets_sent, HoldsPart}
 use Rattle.int_spec.specs.Table.{TableFields, table_bytes}
 use Rattle.int_spec.specs.Reading.{IsInt}
 use Rattle.int_spec.specs.Versions.{version_of_platform}

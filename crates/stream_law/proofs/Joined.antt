@@ -7,7 +7,7 @@ use Rattle.std.proofs.lemmas.List.{length-append, get_or_append_left, get_or-app
 use Rattle.ts_spec.specs.Form.{UnitForm, IsLawful}
 use Rattle.ts_spec.specs.Packet.{PacketFields, continues}
 use Rattle.ts_spec.specs.Packetized.{packet_at, unit_at, Packetizes}
-use Rattle.carriage_spec.specs.Carried.{HoldsPart}
+use Rattle.channel_spec.specs.Carried.{HoldsPart}
 use Rattle.stream_law.proofs.Packets.{GoOn, none_go_on}
 use Rattle.stream_law.proofs.Places.{length-both, packet_low, packet_high}
 use Rattle.stream_law.proofs.Together.{appended, held}

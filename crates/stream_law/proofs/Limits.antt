@@ -26,7 +26,7 @@ use Rattle.plan_spec.specs.Wholes.{is_whole_plan}
 use Rattle.plan_spec.specs.Offered.{datagrams as datagrams_of, service_of_datagram, is_offered_to, offered_in}
 use Rattle.stream_spec.specs.Services.{kind_at}
 use Rattle.stream_spec.specs.Slots.{IsSlotCount}
-use Rattle.frame_spec.specs.Sender.{with_datagram}
+use Rattle.fec_frame_spec.specs.Sender.{with_datagram}
 use Rattle.slice_spec.specs.Moments.{units_per_second, ten}
 use Rattle.stream_spec.specs.Units.{FrameSchedule, mac_for, sndu_of, section_of, datagrams_by_frame, units_of_frames, burst_size, fits_window, datagrams_by_burst, burst_sizes, packets_of_kind}
 use Rattle.wire_spec.specs.Datagram.{ether_type_of}

@@ -4,13 +4,13 @@ use Rattle.std.specs.Prelude.{flat_map}
 use Rattle.std.specs.List.{range_with_len}
 use Rattle.std.proofs.lemmas.List.{map-append}
 use Rattle.std.proofs.lemmas.List.Folds.{flat_map-map}
-use Rattle.carriage_law.proofs.Member.{Member, member_contains}
+use Rattle.channel_law.proofs.Member.{Member, member_contains}
 use Rattle.slice_spec.specs.Sections.{indexed, SectionTime}
-use Rattle.frame_spec.specs.Sections.{FrameSection, times_of}
-use Rattle.frame_spec.specs.Frame.{FrameFields, AreSentFrames}
-use Rattle.frame_spec.specs.Sender.{frame_of, sections_to_send, section_unit}
-use Rattle.frame_spec.specs.Carried.{CarriesInFrames, sections_of_units}
-use Rattle.sent_frame_law.proofs.Carried.{timed_from, all_timed}
+use Rattle.fec_frame_spec.specs.Sections.{FrameSection, times_of}
+use Rattle.fec_frame_spec.specs.Frame.{FrameFields, AreSentFrames}
+use Rattle.fec_frame_spec.specs.Sender.{frame_of, sections_to_send, section_unit}
+use Rattle.fec_frame_spec.specs.Carried.{CarriesInFrames, sections_of_units}
+use Rattle.fec_sent_law.proofs.Carried.{timed_from, all_timed}
 use Rattle.stream_spec.specs.Units.{mac_for, units_of_frame, units_of_frames}
 use Rattle.stream_law.proofs.Frames.{AreFrames}
 use Rattle.stream_law.proofs.BurstTimes.{HaveDeltas, deltas_are}

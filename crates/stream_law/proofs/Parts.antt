@@ -8,7 +8,7 @@ use Rattle.std.proofs.Math.Nat.{mod-lt}
 use Rattle.ts_spec.specs.Packet.{fields_of, is_packet, packet_bytes, null_packet}
 use Rattle.ts_spec.specs.Recording.{records_of}
 use Rattle.ts_packet.specs.Fields.{written_fields}
-use Rattle.carriage_spec.specs.Carried.{packets_sent}
+use Rattle.channel_spec.specs.Carried.{packets_sent}
 use Rattle.plan_spec.specs.Plan.{IntFields, PlanFields}
 use Rattle.plan_spec.specs.Changes.{plan_in, pid_in, has_pid, versions}
 use Rattle.plan_spec.specs.Signalling.{table_packets}

@@ -8,7 +8,7 @@ use Rattle.std.proofs.lemmas.List.Elements.{filter-append}
 use Rattle.ts_spec.specs.Packet.{PacketFields, fields_of}
 use Rattle.ts_spec.specs.Recording.{RecordingForm, plain, stamped, m2ts, Record, plain_record, stamped_record, m2ts_records, m2ts_stamp, moment_behind, microseconds, records_of}
 use Rattle.ts_spec.specs.Received.{is_of, arrival_of, arrivals_from, packet_of}
-use Rattle.carriage_spec.specs.Carried.{packets_sent}
+use Rattle.channel_spec.specs.Carried.{packets_sent}
 use Rattle.stream_spec.specs.Parts.{stamp_bytes}
 use Rattle.stream_law.specs.Words.{HasMoment}
 

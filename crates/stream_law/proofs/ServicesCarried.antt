@@ -10,19 +10,19 @@ use Rattle.ts_spec.specs.Packet.{PacketFields}
 use Rattle.ts_spec.specs.Recording.{Record}
 use Rattle.ts_spec.specs.Packetized.{IsIn, Packetizes}
 use Rattle.ts_spec.specs.Received.{Arrival, no_arrival, arrival_at, arrivals, packet_of}
-use Rattle.carriage_spec.specs.Carried.{packets_sent}
+use Rattle.channel_spec.specs.Carried.{packets_sent}
 use Rattle.section_spec.specs.Mpe.{IsRows}
 use Rattle.section_spec.specs.Section.{section_form}
 use Rattle.slice_spec.specs.Moments.{ten}
 use Rattle.slice_spec.specs.Sections.{SectionTime, indexed, sliced}
 use Rattle.slice_spec.specs.Bursts.{Burst, times_of as times_of_bursts}
 use Rattle.slice_law.specs.Cycles.{bursts_from}
-use Rattle.carriage_law.proofs.Member.{Member, contains_member}
-use Rattle.frame_spec.specs.Sections.{FrameSection, TimedSection, times_of}
-use Rattle.frame_spec.specs.Frame.{AreSentFrames}
-use Rattle.frame_spec.specs.Sender.{frame_of}
-use Rattle.sent_frame_law.proofs.Carried.{all_timed}
-use Rattle.frame_spec.specs.Carried.{CarriesInFrames}
+use Rattle.channel_law.proofs.Member.{Member, contains_member}
+use Rattle.fec_frame_spec.specs.Sections.{FrameSection, TimedSection, times_of}
+use Rattle.fec_frame_spec.specs.Frame.{AreSentFrames}
+use Rattle.fec_frame_spec.specs.Sender.{frame_of}
+use Rattle.fec_sent_law.proofs.Carried.{all_timed}
+use Rattle.fec_frame_spec.specs.Carried.{CarriesInFrames}
 use Rattle.plan_spec.specs.Plan.{WindowFields, KindFields, ule, mpe, fec, gse, ServiceFields, PlanFields, kinds, pid_of, sliced_of}
 use Rattle.plan_spec.specs.Changes.{with_pid, plan_in, pid_in, pids_in, has_pid, versions}
 use Rattle.plan_spec.specs.Route.{longest_of}
@@ -427,7 +427,7 @@ module _ (plan : PlanFields) (datagrams : ℕ → ℕ → List (List ℕ)) (slot
 
       -- With time slicing.
       module _ (each : (version : ℕ) → version ≤ length plan.changes → IsPartCount plan datagrams slots version) (fits : FitsWindow plan datagrams k)
-          (frame_units : (mac : List ℕ) → IsMac mac → (rows columns : ℕ) → IsRows rows → 1 ≤ columns → columns ≤ 64 → (delta : ℕ → ℕ) (frame : List (List ℕ)) → IsFrameOf rows frame
+          (fec_units : (mac : List ℕ) → IsMac mac → (rows columns : ℕ) → IsRows rows → 1 ≤ columns → columns ≤ 64 → (delta : ℕ → ℕ) (frame : List (List ℕ)) → IsFrameOf rows frame
           → ((i : ℕ) → delta i < 2 ^ 12) → AreUnits (units_with_delta rows columns mac delta frame))
           (reads : (mac : List ℕ) → IsMac mac → (rows columns : ℕ) → IsRows rows → 1 ≤ columns → columns ≤ 64 → (fs : List (List (List ℕ))) (sections : List (List FrameSection))
           → AreFrames rows fs → AreOfFrames rows columns mac fs sections → AllRead rows (flat_map (λ (f : List FrameSection). f) sections))
@@ -451,7 +451,7 @@ module _ (plan : PlanFields) (datagrams : ℕ → ℕ → List (List ℕ)) (slot
         in_time version = framed_in (ap in_frames is) version
 
         burst_units : (delta : ℕ → ℕ) (frame : List (List ℕ)) → IsFrameOf rows frame → ((i : ℕ) → delta i < 2 ^ 12) → AreUnits (units_with_delta rows columns its_mac_here delta frame)
-        burst_units delta frame it below = frame_units its_mac_here mac_is rows columns ranges.0 ranges.1 ranges.2 delta frame it below
+        burst_units delta frame it below = fec_units its_mac_here mac_is rows columns ranges.0 ranges.1 ranges.2 delta frame it below
 
         abbrev sliced_units : ℕ → List (List ℕ)
         sliced_units version =
@@ -551,7 +551,7 @@ module _ (plan : PlanFields) (datagrams : ℕ → ℕ → List (List ℕ)) (slot
       (whole : is_whole_plan plan ≡ true)
       (of_bytes : AreOfBytes plan) (built : list_all (λ kind. is_some (pid_of kind)) (kinds plan) ≡ true) (taken : (version j : ℕ) → AreTaken (kind_at (plan_in plan version) j) (datagrams version j))
       (each : (version : ℕ) → version ≤ length plan.changes → IsPartCount plan datagrams slots version) (fit : (k : ℕ) → FitsWindow plan datagrams k)
-      (frame_units : (mac : List ℕ) → IsMac mac → (rows columns : ℕ) → IsRows rows → 1 ≤ columns → columns ≤ 64 → (delta : ℕ → ℕ) (frame : List (List ℕ)) → IsFrameOf rows frame
+      (fec_units : (mac : List ℕ) → IsMac mac → (rows columns : ℕ) → IsRows rows → 1 ≤ columns → columns ≤ 64 → (delta : ℕ → ℕ) (frame : List (List ℕ)) → IsFrameOf rows frame
       → ((i : ℕ) → delta i < 2 ^ 12) → AreUnits (units_with_delta rows columns mac delta frame))
       (reads : (mac : List ℕ) → IsMac mac → (rows columns : ℕ) → IsRows rows → 1 ≤ columns → columns ≤ 64 → (fs : List (List (List ℕ))) (sections : List (List FrameSection))
       → AreFrames rows fs → AreOfFrames rows columns mac fs sections → AllRead rows (flat_map (λ (f : List FrameSection). f) sections))
@@ -592,8 +592,8 @@ module _ (plan : PlanFields) (datagrams : ℕ → ℕ → List (List ℕ)) (slot
 
       sliced_found : (own rows columns : ℕ) (window : WindowFields) → kind_at plan k ≡ fec own rows columns (Some window) → IsFound k pid
       sliced_found own rows columns window is =
-          by_valued (sliced_valued k known pid lawful packetized carry frames_carry whole of_bytes built taken each (fit k) frame_units reads are_sent section_lawful own rows columns window is)
-          (sliced_carried k known pid lawful packetized carry frames_carry whole of_bytes built taken each (fit k) frame_units reads are_sent section_lawful own rows columns window is)
+          by_valued (sliced_valued k known pid lawful packetized carry frames_carry whole of_bytes built taken each (fit k) fec_units reads are_sent section_lawful own rows columns window is)
+          (sliced_carried k known pid lawful packetized carry frames_carry whole of_bytes built taken each (fit k) fec_units reads are_sent section_lawful own rows columns window is)
         where
           values : ℕ → List ℕ
           values v = cond (has_pid (pid_in plan v k) pid)
@@ -692,7 +692,7 @@ module _ (plan : PlanFields) (datagrams : ℕ → ℕ → List (List ℕ)) (slot
         last = λ e. absurd (cc (e));
       }
       over_pids (Some window) is =
-          sliced_over_pids k known own lawful packetized carry frames_carry whole of_bytes built taken each (fit k) frame_units reads are_sent section_lawful own rows columns window is
+          sliced_over_pids k known own lawful packetized carry frames_carry whole of_bytes built taken each (fit k) fec_units reads are_sent section_lawful own rows columns window is
           (frames_of k) (times_there (Some window) is)
 
     timed_over_pids : AreTimedOverPids plan sent (datagrams_on plan datagrams) carries

@@ -22,11 +22,11 @@ use Rattle.slice_law.proofs.Timed.{announced_below}
 use Rattle.slice_law.proofs.Rows.{in_a_row}
 use Rattle.window_law.proofs.Checks.{sliceable}
 use Rattle.window_law.proofs.InPlans.{there}
-use Rattle.frame_spec.specs.Sections.{FrameSection, data_section, parity_section, TimedSection, times_of}
-use Rattle.frame_spec.specs.Frame.{FrameFields, AreSentFrames}
-use Rattle.frame_spec.specs.Sender.{frame_of, section_of_datagram, section_of_column, section_unit}
-use Rattle.frame_spec.specs.Carried.{CarriesInFrames, sections_of_units}
-use Rattle.sent_frame_law.proofs.Carried.{all_timed}
+use Rattle.fec_frame_spec.specs.Sections.{FrameSection, data_section, parity_section, TimedSection, times_of}
+use Rattle.fec_frame_spec.specs.Frame.{FrameFields, AreSentFrames}
+use Rattle.fec_frame_spec.specs.Sender.{frame_of, section_of_datagram, section_of_column, section_unit}
+use Rattle.fec_frame_spec.specs.Carried.{CarriesInFrames, sections_of_units}
+use Rattle.fec_sent_law.proofs.Carried.{all_timed}
 use Rattle.plan_spec.specs.Plan.{WindowFields, KindFields, fec, PlanFields, kinds, pid_of, SlicedFields, sliced_of}
 use Rattle.plan_spec.specs.Changes.{plan_in, pid_in, pids_in, has_pid, versions}
 use Rattle.plan_spec.specs.Valid.{is_plan}
@@ -37,7 +37,7 @@ use Rattle.stream_spec.specs.Windows.{out_before}
 use Rattle.stream_spec.specs.Services.{kind_at, datagrams_on}
 use Rattle.stream_spec.specs.Parts.{PartFields, service_packets, turn_counts, sizes_in, kept_in, slot_in}
 use Rattle.stream_spec.specs.Stream.{frame_count_in, has_frames, has_frames_after, schedule_of, earlier, part_of, has_datagrams, is_last, whole_cycles, IsPartCount}
-use Rattle.carriage_law.proofs.Member.{Member}
+use Rattle.channel_law.proofs.Member.{Member}
 use Rattle.stream_law.specs.Words.{FitsWindow, begun_cycles}
 use Rattle.stream_law.specs.Times.{times_over, TimesOfService}
 use Rattle.stream_law.proofs.Ranges.{sum_next, sum_rises}

@@ -11,13 +11,13 @@ use Rattle.ts_spec.specs.Form.{IsUnit}
 use Rattle.ts_spec.specs.Packetized.{unit_at}
 use Rattle.section_spec.specs.Section.{section_form}
 use Rattle.section_spec.specs.Mpe.{IsRows}
-use Rattle.frame_spec.specs.Sections.{FrameSection, TimedSection, sections_of, timed_section, timed_sections_in, frame_sections_in}
-use Rattle.frame_spec.specs.Groups.{all_sections}
-use Rattle.frame_spec.specs.Frame.{IsSentFrame, AreSentFrames}
-use Rattle.frame_spec.specs.Sender.{frame_of, sections_to_send, section_unit}
-use Rattle.frame_spec.specs.Carried.{sections_of_units}
-use Rattle.sent_frame_law.specs.Frames.{CanSend, sections_of_frame}
-use Rattle.sent_frame_law.proofs.Carried.{timed_from, all_timed}
+use Rattle.fec_frame_spec.specs.Sections.{FrameSection, TimedSection, sections_of, timed_section, timed_sections_in, frame_sections_in}
+use Rattle.fec_frame_spec.specs.Groups.{all_sections}
+use Rattle.fec_frame_spec.specs.Frame.{IsSentFrame, AreSentFrames}
+use Rattle.fec_frame_spec.specs.Sender.{frame_of, sections_to_send, section_unit}
+use Rattle.fec_frame_spec.specs.Carried.{sections_of_units}
+use Rattle.fec_sent_law.specs.Frames.{CanSend, sections_of_frame}
+use Rattle.fec_sent_law.proofs.Carried.{timed_from, all_timed}
 use Rattle.plan_spec.specs.Bytes.{IsMac}
 use Rattle.stream_spec.specs.Units.{mac_for, units_with_delta}
 use Rattle.stream_law.proofs.Frames.{AreFramed, IsFrameOf, AreFrames}
@@ -140,9 +140,9 @@ module _ (is_unit : (rows columns : ℕ) (unicast : List ℕ) (delta : ℕ → �
     → 0 < length datagrams → length (joined datagrams) ≤ 191 * rows → ((i : ℕ) → delta i < 2 ^ 12)
     → All (λ (s : FrameSection). IsUnit section_form (section_unit s)) (sections_of_frame rows columns unicast delta datagrams))
     (rows columns : ℕ) (is_rows : IsRows rows) (least : 1 ≤ columns) (most : columns ≤ 64) (unicast : List ℕ) (is_mac : IsMac unicast) where
-  pub frame_units : (delta : ℕ → ℕ) (frame : List (List ℕ)) → IsFrameOf rows frame → ((i : ℕ) → delta i < 2 ^ 12) → AreUnits (units_with_delta rows columns unicast delta frame)
+  pub fec_units : (delta : ℕ → ℕ) (frame : List (List ℕ)) → IsFrameOf rows frame → ((i : ℕ) → delta i < 2 ^ 12) → AreUnits (units_with_delta rows columns unicast delta frame)
   unfolding sections_of_frame
-  frame_units delta frame is below =
+  fec_units delta frame is below =
       units_of_all (sections_to_send rows (frame_of rows columns frame) (mac_for unicast) delta) (is_unit rows columns unicast delta frame (can_send rows columns is_rows least most unicast is_mac frame is) is.some is.fits below)
 
 module _ (is_read : (rows columns : ℕ) (unicast : List ℕ) (delta : ℕ → ℕ) (datagrams : List (List ℕ)) → CanSend rows columns unicast datagrams

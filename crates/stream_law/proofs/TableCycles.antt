@@ -8,7 +8,7 @@ use Rattle.std.proofs.Math.Nat.{add-mul}
 use Rattle.ts_spec.specs.Form.{IsLawful}
 use Rattle.ts_spec.specs.Packet.{PacketFields}
 use Rattle.ts_spec.specs.Packetized.{unit_at, Packetizes}
-use Rattle.carriage_spec.specs.Carried.{HoldsPart}
+use Rattle.channel_spec.specs.Carried.{HoldsPart}
 use Rattle.section_spec.specs.Section.{section_form}
 use Rattle.int_spec.specs.Table.{table_bytes}
 use Rattle.plan_spec.specs.Plan.{IntFields, PlanFields}

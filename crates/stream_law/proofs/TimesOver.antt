@@ -4,7 +4,7 @@ use Rattle.std.specs.Prelude.{◌↔◌, flat_map, sum_by, Contains}
 use Rattle.std.specs.List.{range_with_len}
 use Rattle.std.proofs.lemmas.List.{append-nil}
 use Rattle.std.proofs.lemmas.Grind.{flat_map-append}
-use Rattle.carriage_law.proofs.Member.{Member}
+use Rattle.channel_law.proofs.Member.{Member}
 use Rattle.slice_spec.specs.Moments.{ten}
 use Rattle.slice_spec.specs.Sections.{SectionTime}
 use Rattle.slice_spec.specs.Frames.{IsOf, IsTimed, IsIndexed}

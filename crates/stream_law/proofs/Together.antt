@@ -7,7 +7,7 @@ use Rattle.unit_stream.proofs.Numbers.{ltb_true, ltb_false}
 use Rattle.ts_spec.specs.Form.{UnitForm, IsLawful, IsUnit}
 use Rattle.ts_spec.specs.Packet.{PacketFields, continues, pointer}
 use Rattle.ts_spec.specs.Packetized.{packet_at, unit_at, joined_payloads, edge, IsIn, IsStuffed, IsFirstIn, Packetizes}
-use Rattle.carriage_spec.specs.Carried.{HoldsPart}
+use Rattle.channel_spec.specs.Carried.{HoldsPart}
 use Rattle.stream_law.proofs.Places.{size, joined_both, edge_low, edge_most, edge_high, edge_high_next, length-both, packet_low, packet_high, in_both, in_first, behind_in, in_behind, not_behind, not_first, stuffed_low, stuffed_high}
 
 module _ (form : UnitForm) (lawful : IsLawful form) (us vs : List (List ℕ)) (ps qs : List PacketFields) (b c : ℕ → ℕ) (first : Packetizes form us ps b) (second : Packetizes form vs qs c)

@@ -10,7 +10,7 @@ use Rattle.ts_spec.specs.Chain.{chain_end, datagram_at}
 use Rattle.section_spec.specs.Section.{section_form, section_fields}
 use Rattle.section_spec.specs.Mpe.{MpeFields, IsRows, IsWritableMpe, mpe_to_write, mpe_bytes, mpe_of}
 use Rattle.unit_stream.specs.Packing.{packetized}
-use Rattle.carriage_spec.specs.Delivered.{carried_by_sndu}
+use Rattle.channel_spec.specs.Delivered.{carried_by_sndu}
 use Rattle.ule_unit.specs.Writable.{IsAddress, IsWritable}
 use Rattle.plan_spec.specs.Plan.{KindFields, ule, mpe, fec, gse, PlanFields, pid_of, sliced_of}
 use Rattle.plan_spec.specs.Route.{longest_of}

@@ -4,9 +4,9 @@ use Rattle.std.specs.Prelude.{◌≡◌, ◌↔◌, ℕ, ◌+◌, ◌<◌, Bool,
 use Rattle.ts_spec.specs.Recording.{RecordingForm, Record}
 use Rattle.slice_spec.specs.Sections.{SectionTime}
 use Rattle.slice_spec.specs.Frames.{IsOf, HasTiming}
-use Rattle.frame_spec.specs.Sections.{TimedSection, times_of}
-use Rattle.frame_spec.specs.Groups.{timing_in}
-use Rattle.frame_spec.specs.Examples.{small_data, at_moment}
+use Rattle.fec_frame_spec.specs.Sections.{TimedSection, times_of}
+use Rattle.fec_frame_spec.specs.Groups.{timing_in}
+use Rattle.fec_frame_spec.specs.Examples.{small_data, at_moment}
 use Rattle.plan_spec.specs.Plan.{WindowFields, KindFields, ule, mpe, fec, gse, PlanFields}
 use Rattle.plan_spec.specs.Changes.{pids_in}
 use Rattle.stream_spec.specs.Services.{kind_at, IsPidOf, AreCarried, Carries}

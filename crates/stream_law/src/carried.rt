@@ -12,11 +12,11 @@ ghost use Rattle.stream_law.specs.Words.{IsByteDatagram, IsWithinLimits};
 ghost use Rattle.stream_law.specs.Times.{AreTimedOverPids};
 
 use crate::stream::{records_have_moments, the_packets_of_a_service_are_on_its_pid};
-use mpe_section::{a_written_datagram_section_reads_back, an_address_or_parameters_can_be_written};
-use section_codec::sections_are_lawful;
-use sent_frame_law::{
+use fec_sent_law::{
     a_frame_of_datagrams_is_one, a_unit_reads_as_its_section, frames_carry_their_datagrams,
 };
+use mpe_section::{a_written_datagram_section_reads_back, an_address_or_parameters_can_be_written};
+use section_codec::sections_are_lawful;
 use ts_packet::{null_packet_is_read, written_packets_are_read};
 use ule_unit::{a_written_sndu_reads_back, sndus_are_lawful, sndus_are_units};
 use unit_stream::packetized_units_are_carried;

@@ -2,7 +2,7 @@
 ghost use Rattle.std.specs.Prelude.{◌≡◌, ℕ, List, [], ◌∷◌, flat_map, true, All, Option, length};
 ghost use Rattle.wire_spec.specs.Lists.{joined, IsCut};
 ghost use Rattle.ts_spec.specs.Recording.{record_size, records_of};
-ghost use Rattle.carriage_spec.specs.Carried.{packets_sent};
+ghost use Rattle.channel_spec.specs.Carried.{packets_sent};
 ghost use Rattle.plan_spec.specs.Plan.{PlanFields};
 ghost use Rattle.plan_spec.specs.Changes.{versions};
 ghost use Rattle.plan_spec.specs.Wholes.{is_whole_plan};

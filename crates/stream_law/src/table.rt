@@ -3,7 +3,7 @@ ghost use Rattle.std.specs.Prelude.{◌≡◌, ℕ, List, [], ◌∷◌, map, fl
 ghost use Rattle.ts_spec.specs.Recording.{records_of};
 ghost use Rattle.ts_spec.specs.Packetized.{Packetizes};
 ghost use Rattle.section_spec.specs.Section.{section_form};
-ghost use Rattle.carriage_spec.specs.Carried.{packets_sent};
+ghost use Rattle.channel_spec.specs.Carried.{packets_sent};
 ghost use Rattle.plan_spec.specs.Plan.{PlanFields, IntFields, rule_lists};
 ghost use Rattle.plan_spec.specs.Valid.{is_plan};
 ghost use Rattle.plan_spec.specs.Signalling.{table_of};

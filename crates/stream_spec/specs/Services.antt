@@ -7,10 +7,10 @@ use Rattle.ts_spec.specs.Packetized.{IsIn, Packetizes}
 use Rattle.ts_spec.specs.Sndu.{sndu_form}
 use Rattle.section_spec.specs.Section.{section_form, section_fields}
 use Rattle.section_spec.specs.Mpe.{MpeFields, mpe_of}
-use Rattle.frame_spec.specs.Groups.{timing_in}
-use Rattle.frame_spec.specs.Carried.{CarriesInFrames}
-use Rattle.carriage_spec.specs.Carried.{packets_sent}
-use Rattle.carriage_spec.specs.Delivered.{carried_by_sndu}
+use Rattle.fec_frame_spec.specs.Groups.{timing_in}
+use Rattle.fec_frame_spec.specs.Carried.{CarriesInFrames}
+use Rattle.channel_spec.specs.Carried.{packets_sent}
+use Rattle.channel_spec.specs.Delivered.{carried_by_sndu}
 use Rattle.plan_spec.specs.Plan.{KindFields, ule, mpe, fec, gse, pid_of, PlanFields, kinds}
 use Rattle.plan_spec.specs.Changes.{pid_in, pids_in, has_pid, versions}
 

@@ -4,7 +4,7 @@ use Rattle.ts_spec.specs.Recording.{Record}
 use Rattle.ts_spec.specs.Received.{Arrival, arrival_at, arrivals}
 use Rattle.ts_spec.specs.Packetized.{unit_at, Packetizes}
 use Rattle.section_spec.specs.Section.{section_form}
-use Rattle.carriage_spec.specs.Carried.{packets_sent, HoldsPart}
+use Rattle.channel_spec.specs.Carried.{packets_sent, HoldsPart}
 use Rattle.plan_spec.specs.Plan.{IntFields, PlanFields}
 use Rattle.plan_spec.specs.Changes.{pid_in}
 use Rattle.plan_spec.specs.InForce.{version_in}

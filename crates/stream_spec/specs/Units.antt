@@ -11,7 +11,7 @@ use Rattle.ts_spec.specs.Sndu.{sndu_form, sndu_bytes}
 use Rattle.section_spec.specs.Section.{section_form}
 use Rattle.section_spec.specs.Mpe.{mpe_to_write, mpe_bytes}
 use Rattle.slice_spec.specs.Bursts.{Slicing, moment_in, delta_to_next}
-use Rattle.frame_spec.specs.Sender.{datagrams_in_frames, fits_table, frame_of, sections_to_send, section_unit}
+use Rattle.fec_frame_spec.specs.Sender.{datagrams_in_frames, fits_table, frame_of, sections_to_send, section_unit}
 use Rattle.unit_stream.specs.Packing.{packetized}
 use Rattle.plan_spec.specs.Plan.{WindowFields, KindFields, ule, mpe, fec, gse, ServiceFields}
 

@@ -1,6 +1,6 @@
 //! Definitions of a sender's stream: the units and packets of each service, the slots that carry these, the records.
 //!
-//! Words for contracts, and no code but examples of them. They stand on plan_spec, section_spec and carriage_spec.
+//! Words for contracts, and no code but examples of them. They stand on plan_spec, section_spec and channel_spec.
 //! Standards: EN 301 192 clauses 7 and 8, RFC 4326; the order of slots is our own.
 #![tactic(auto)]
 

@@ -8,10 +8,10 @@ use Rattle.ts_mux.specs.OnPids.{is_on_pid}
 use Rattle.plan.specs.Parts.{kind_seen}
 use Rattle.plan.specs.declared.service.Kind.{Kind}
 use Rattle.plan.specs.declared.service.Kind.TheVariants.{Fec}
-use Rattle.sent_frame_law.specs.Frames.{AreSendable, IsSendable}
-use Rattle.frame_units.specs.Held.{Holds}
-use Rattle.frame_units.specs.Bursts.{AreBurstEnds, parts_from}
-use Rattle.frame_units.specs.declared.units.FrameUnits.{FrameUnits}
+use Rattle.fec_sent_law.specs.Frames.{AreSendable, IsSendable}
+use Rattle.fec_units.specs.Held.{Holds}
+use Rattle.fec_units.specs.Bursts.{AreBurstEnds, parts_from}
+use Rattle.fec_units.specs.declared.units.FecUnits.{FecUnits}
 use Rattle.stream_law.specs.Words.{is_single}
 use Rattle.stream_law.proofs.KindRanges.{rows_within}
 use Rattle.stream_law.proofs.Framed.{AreShort, framed_size}
@@ -36,7 +36,7 @@ bytes_most [] are = omega arith
 bytes_most (d ∷ ds) are = omega (arith, are.0, bytes_most ds are.1)
 
 module _ (unicast : List ℕ) (number : ℕ) (ds : List (List ℕ)) (rows parity : ℕ) where
-  made_of : (kind : KindFields) (made : FrameUnits) → is_on_pid kind ≡ true → is_single kind ≡ false → sliced_of kind ≡ None → HasFrames kind → AreFor kind ds → length ds < 2 ^ 32
+  made_of : (kind : KindFields) (made : FecUnits) → is_on_pid kind ≡ true → is_single kind ≡ false → sliced_of kind ≡ None → HasFrames kind → AreFor kind ds → length ds < 2 ^ 32
       → ((schedule : FrameSchedule) → units_of_kind kind unicast schedule ds ≡ units_of_frames rows parity unicast schedule.first (datagrams_by_frame rows ds)) → IsRows rows → parity ≤ 64
       → Holds made (units_of_frames rows parity unicast number (datagrams_by_frame rows ds)) → AreOfFrames kind unicast number ds made
   made_of kind made sent framed unsliced has are few same is_rows most held = record {
@@ -66,7 +66,7 @@ module _ (unicast : List ℕ) (number : ℕ) (ds : List (List ℕ)) (kind : Kind
   pub count_is : frame_count (kind_seen kind) ds ≡ length (datagrams_by_frame rows ds)
   count_is = ap (λ (k : Kind). frame_count (kind_seen k) ds) is
 
-  pub frames_made : (made : FrameUnits) → HasFrames (kind_seen kind) → AreFor (kind_seen kind) ds → length ds < 2 ^ 32
+  pub frames_made : (made : FecUnits) → HasFrames (kind_seen kind) → AreFor (kind_seen kind) ds → length ds < 2 ^ 32
       → Holds made (units_of_frames rows parity unicast number (datagrams_by_frame rows ds)) → AreOfFrames (kind_seen kind) unicast number ds made
   frames_made made has are few held =
       made_of unicast number ds rows parity (kind_seen kind) made sent is_framed (ap (λ (k : Kind). sliced_of (kind_seen k)) is) has are few

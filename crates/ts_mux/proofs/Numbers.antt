@@ -3,7 +3,7 @@ use Rattle.std.proofs.Common.{◌≡◌, ℕ, zero, suc, ◌+◌, ◌≤◌, Boo
 use Rattle.std.specs.Prelude.{slice_get, sum_by}
 use Rattle.std.specs.List.{fold, range_with_len}
 use Rattle.std.proofs.lemmas.List.Sums.{sum_by-cons}
-use Rattle.frame_spec.specs.Sender.{fits_table, with_datagram}
+use Rattle.fec_frame_spec.specs.Sender.{fits_table, with_datagram}
 use Rattle.plan_spec.specs.Plan.{KindFields, ule, mpe, fec, gse, ServiceFields, PlanFields, kinds}
 use Rattle.plan_spec.specs.Changes.{service_in}
 use Rattle.plan.specs.Parts.{kind_seen, service_seen}

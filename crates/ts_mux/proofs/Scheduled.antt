@@ -2,7 +2,7 @@
 use Rattle.std.proofs.Common.{◌≡◌, ℕ, zero, suc, ◌+◌, ◌-◌, ◌<◌, ◌≤◌, Bool, true, false, ◌||◌, cond, ltb, List, [], ◌∷◌, ◌++◌, length, get_or, refl, sym, ap, ap₂, ◌∙◌, arith, Some, None}
 use Rattle.std.specs.Prelude.{slice_get, is_some}
 use Rattle.std.specs.List.{fold, list_any, range_with_len}
-use Rattle.frame_spec.specs.Sender.{with_datagram}
+use Rattle.fec_frame_spec.specs.Sender.{with_datagram}
 use Rattle.plan_spec.specs.Plan.{KindFields, ule, mpe, fec, gse, ServiceFields, PlanFields, kinds, sliced_of}
 use Rattle.plan_spec.specs.Changes.{service_in, pid_in}
 use Rattle.plan.specs.Parts.{kind_seen, service_seen}

@@ -6,7 +6,7 @@ use Rattle.slice_spec.specs.Bursts.{IsSliceable}
 use Rattle.plan_spec.specs.Plan.{KindFields, ule, mpe, fec, gse, SlicedFields, sliced_of}
 use Rattle.plan_spec.specs.Changes.{with_pid}
 use Rattle.stream_spec.specs.Units.{FrameSchedule, burst_sizes, packets_of_kind}
-use Rattle.frame_units.specs.Bursts.{AreBurstEnds}
+use Rattle.fec_units.specs.Bursts.{AreBurstEnds}
 use Rattle.burst_packets.specs.Bursts.{Begins, kind_of, Bursts}
 use Rattle.burst_packets.specs.Timing.{slicing_in, IsTimedBy}
 use Rattle.burst_packets.specs.declared.bursts.Shape.{Shape}

@@ -6,9 +6,9 @@ use Rattle.plan_spec.specs.Signalling.{burst_duration}
 use Rattle.ts_mux.specs.OnPids.{is_on_pid}
 use Rattle.stream_law.specs.Words.{is_single}
 use Rattle.stream_spec.specs.Units.{FrameSchedule, units_of_kind}
-use Rattle.frame_units.specs.Held.{Holds}
-use Rattle.frame_units.specs.Bursts.{AreBurstEnds}
-use Rattle.frame_units.specs.declared.units.FrameUnits.{FrameUnits}
+use Rattle.fec_units.specs.Held.{Holds}
+use Rattle.fec_units.specs.Bursts.{AreBurstEnds}
+use Rattle.fec_units.specs.declared.units.FecUnits.{FecUnits}
 use Rattle.ts_mux.specs.Units.{AreEndsOf}
 use Rattle.ts_mux.specs.declared.service_units.ServiceUnits.{ServiceUnits}
 use Rattle.ts_mux.specs.declared.service_units.ServiceUnits.TheVariants.{Ends, Frames, Bursts}
@@ -20,7 +20,7 @@ pub record AreSingle (kind : KindFields) (unicast : List ℕ) (datagrams : List 
 
 -- the datagrams stand in frames without time slicing, of which the first has this number, and their units were made: these are the same
 -- whenever they go out
-pub record AreOfFrames (kind : KindFields) (unicast : List ℕ) (number : ℕ) (datagrams : List (List ℕ)) (made : FrameUnits) : Type 0 where
+pub record AreOfFrames (kind : KindFields) (unicast : List ℕ) (number : ℕ) (datagrams : List (List ℕ)) (made : FecUnits) : Type 0 where
   pub on_pid : is_on_pid kind ≡ true
   pub framed : is_single kind ≡ false
   pub unsliced : sliced_of kind ≡ None

@@ -13,7 +13,7 @@ ghost use Rattle.ts_mux.specs.Services.{behind_in, turns_in_service, bursts_in, 
 use crate::service_units::ServiceUnits;
 use crate::unit_bytes::UnitBytes;
 use burst_packets::{BurstPackets, Shape, Timing};
-use frame_units::FrameUnits;
+use fec_units::FecUnits;
 use ip_datagram::DatagramList;
 use ipe_io::Recording;
 use plan::{Kind, Service};
@@ -145,10 +145,10 @@ impl<'a> BufferPackets<'a> {
     ghost use Rattle.section_spec.specs.Section.{section_form};
     ghost use Rattle.stream_spec.specs.Parts.{written};
     ghost use Rattle.unit_stream.specs.Packing.{packetized};
-    ghost use Rattle.frame_units.specs.Held.{Holds};
+    ghost use Rattle.fec_units.specs.Held.{Holds};
 
     /// The packets of these units; the PID is 0 to 8191, the counter of the first packet 0 to 15.
-    fn new(made: &'a FrameUnits, pid: u16, counter: u8) -> BufferPackets<'a>
+    fn new(made: &'a FecUnits, pid: u16, counter: u8) -> BufferPackets<'a>
         requires held { (units : List (List ℕ)) × Holds made.now units }
         requires few { length made.now.bytes.items ≤ 2 ^ 47 }
         requires pid { pid ≤ 8191 }

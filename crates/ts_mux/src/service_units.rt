@@ -7,7 +7,7 @@ ghost use Rattle.ts_mux.specs.Units.{AreFor};
 ghost use Rattle.ts_mux.specs.ServiceUnits.{AreUnitsFor, HasFrames, frames_in};
 
 use crate::units::ends_of;
-use frame_units::{FrameUnits, burst_ends, make_units};
+use fec_units::{FecUnits, burst_ends, make_units};
 use ip_datagram::DatagramList;
 use plan::{Kind, Service};
 use std::alloc::{AllocError as OutOfMemory, Global};
@@ -18,7 +18,7 @@ pub(crate) enum ServiceUnits {
     /// Where the units of its datagrams end among the bytes of all of them: each is made when it is sent.
     Ends(Vec<usize>),
     /// Those of its frames.
-    Frames(FrameUnits),
+    Frames(FecUnits),
     /// Where the datagrams of its bursts end among all of them: the units of a burst are made when its window opens.
     Bursts(Vec<u32>),
 }

@@ -6,7 +6,7 @@ use Rattle.ts_spec.specs.Recording.{RecordingForm}
 use Rattle.plan_spec.specs.Plan.{KindFields, ule, mpe, fec, gse, PlanFields, pid_of}
 use Rattle.plan_spec.specs.Changes.{pids_in}
 use Rattle.stream_spec.specs.Services.{form_of_kind}
-use Rattle.frame_spec.specs.Delivered.{datagrams_of_frames}
+use Rattle.fec_frame_spec.specs.Delivered.{datagrams_of_frames}
 use Rattle.reception_spec.specs.Units.{delivered_by_unit}
 use Rattle.reception_spec.specs.Numbers.{units_on}
 use Rattle.reception_spec.specs.Frames.{told_frames, rows_of}

@@ -2,8 +2,8 @@ use Rattle.std.proofs.Common.{ℕ, [], ap, sym, ◌∙◌, subst}
 use Rattle.slice_spec.specs.Sections.{Timing}
 use Rattle.time_slice.specs.Views.{timing_of}
 use Rattle.plan.specs.Parts.{form_of}
-use Rattle.frame_spec.specs.Groups.{timing_in}
-use Rattle.frame_reception.specs.Reception as framed
+use Rattle.fec_frame_spec.specs.Groups.{timing_in}
+use Rattle.fec_reception.specs.Reception as framed
 use Rattle.demux_core.proofs.KindWords.{fresh_kind}
 use Rattle.demux_core.proofs.service.fec_reception.Goals as goal
 

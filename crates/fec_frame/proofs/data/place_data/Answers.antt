@@ -1,6 +1,6 @@
 use Rattle.std.proofs.Common.{◌≡◌, ◌⊎◌, inl, inr, ◌+◌, ◌-◌, ◌<◌, ◌≤◌, ℕ, [], true, false, length, refl, sym, ◌∙◌, arith}
-use Rattle.frame_spec.specs.Sections.{data_section}
-use Rattle.frame_law.proofs.Summary.{cut_by_summary}
+use Rattle.fec_frame_spec.specs.Sections.{data_section}
+use Rattle.fec_frame_law.proofs.Summary.{cut_by_summary}
 use Rattle.fec_frame.specs.Stands.{data_fields, summary_of}
 use Rattle.fec_frame.proofs.Placing.{stands_more}
 use Rattle.fec_frame.proofs.Told.{data_told}

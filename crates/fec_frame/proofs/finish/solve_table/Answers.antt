@@ -1,4 +1,4 @@
-use Rattle.frame_spec.specs.Sections.{data_of}
+use Rattle.fec_frame_spec.specs.Sections.{data_of}
 use Rattle.fec_frame.proofs.Ended.{solved_is, mended_is, left_is}
 use Rattle.fec_frame.proofs.Told.{told_same}
 use Rattle.fec_frame.proofs.finish.solve_table.Goals as goal

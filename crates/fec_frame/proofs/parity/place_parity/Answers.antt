@@ -1,6 +1,6 @@
 use Rattle.std.proofs.Common.{◌≡◌, true, false, refl, sym, ◌∙◌}
-use Rattle.frame_spec.specs.Sections.{parity_section}
-use Rattle.frame_law.proofs.Summary.{cut_by_summary}
+use Rattle.fec_frame_spec.specs.Sections.{parity_section}
+use Rattle.fec_frame_law.proofs.Summary.{cut_by_summary}
 use Rattle.fec_frame.specs.Stands.{column_of, summary_of}
 use Rattle.fec_frame.proofs.Placing.{stands_more}
 use Rattle.fec_frame.proofs.Told.{parity_told}

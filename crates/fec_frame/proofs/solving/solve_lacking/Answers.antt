@@ -11,5 +11,5 @@ loop-from-preserved c = record {
   most = omega arith;
   few = omega (arith, c.loop-from.invariant.few, c.solve_run-counts.ensures.few);
   values_most = c.solve_run-counts.ensures.most;
-  values = c.solve_run-counts.ensures.values;
+  syndromes = c.solve_run-counts.ensures.syndromes;
 }

@@ -8,8 +8,8 @@ invariant-loop-from l = record {
   solved : AreRowsSolved l.rows 0 l.from l.initial.bytes l.initial.marks l.bytes l.marks l.mended l.left;
   most : l.from ≤ l.rows;
   few : l.mended + l.left ≤ l.from;
-  values_most : l.values.to ≤ l.rows;
-  values : (r : ℕ) → l.from ≤ r → r < l.values.to → HasLeft l.rows l.values.others.items l.bytes l.work r;
+  values_most : l.syndromes.to ≤ l.rows;
+  syndromes : (r : ℕ) → l.from ≤ r → r < l.syndromes.to → HasLeft l.rows l.syndromes.others.items l.bytes l.work r;
 }
 
 abbrev pub decreases-loop-from : goal.decreases-loop-from

@@ -5,10 +5,10 @@ use Rattle.rs_erasure.proofs.elimination.eliminate.Given as goal
 
 abbrev pub invariant-loop-left : goal.invariant-loop-left
 invariant-loop-left l = record {
-  is : (values : ℕ → ℕ) (r : ℕ) → l.fn.run.from ≤ r → r < l.fn.run.to
-      → ((j : ℕ) → l.fn.done ≤ j → j < 64 → cell l.fn.run.rows l.fn.work j r ≡ combined (root_polynomial (drop (length l.roots - l.fn.done) l.roots)) values (j - l.fn.done))
+  is : (syndromes : ℕ → ℕ) (r : ℕ) → l.fn.run.from ≤ r → r < l.fn.run.to
+      → ((j : ℕ) → l.fn.done ≤ j → j < 64 → cell l.fn.run.rows l.fn.work j r ≡ combined (root_polynomial (drop (length l.roots - l.fn.done) l.roots)) syndromes (j - l.fn.done))
       → (j : ℕ) → l.fn.done ≤ j → j < 64
-      → cell l.fn.run.rows l.work j r ≡ combined (root_polynomial (drop (l.left + (length l.roots - l.left - j)) l.roots)) values (j - (length l.roots - l.left));
+      → cell l.fn.run.rows l.work j r ≡ combined (root_polynomial (drop (l.left + (length l.roots - l.left - j)) l.roots)) syndromes (j - (length l.roots - l.left));
   outside : (j r : ℕ) → r < l.fn.run.rows → (r < l.fn.run.from) ⊎ (l.fn.run.to ≤ r) → cell l.fn.run.rows l.work j r ≡ cell l.fn.run.rows l.fn.work j r;
   within : l.left + l.fn.done ≤ length l.roots;
 }

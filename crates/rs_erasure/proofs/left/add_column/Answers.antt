@@ -17,7 +17,7 @@ loop-into-init c =
     record {
       above = omega arith;
       factor =
-          c.differences_of-factor.ensures ∙ ap (λ (y : ℕ). differences roots y) c.power_of-power.ensures
+          c.differences_of-factor.ensures ∙ ap (λ (y : ℕ). differences roots y) c.locator_of-power.ensures
           ∙ sym (ap (λ (t : ℕ). field_product t d) (power_none x) ∙ product_one_left d (differences_fit roots x))
           ∙ ap (λ (k : ℕ). field_product (field_power x k) d) e;
       before = λ r ge lt m low. absurd (omega arith);
@@ -41,7 +41,7 @@ loop-into-preserved c =
     record {
       above = omega arith;
       factor =
-          c.mul-factor.ensures ∙ ap₂ (λ (s t : ℕ). field_product s t) c.power_of-power.ensures is.factor
+          c.mul-factor.ensures ∙ ap₂ (λ (s t : ℕ). field_product s t) c.locator_of-power.ensures is.factor
           ∙ factor_more x d k ∙ ap (λ (i : ℕ). field_product (field_power x i) d) e;
       before = λ r ge lt m low. elim (cases_lt (u + m) n) [
         | inl before ↦ c.add_to_other.ensures.elsewhere (u + m) r (omega arith) (λ same g l. absurd (omega arith)) ∙ is.before r ge lt m before

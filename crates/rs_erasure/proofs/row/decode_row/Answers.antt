@@ -8,10 +8,10 @@ pub returns-then-has_zeros-clause-done : goal.returns-then-has_zeros-clause-done
 returns-then-has_zeros-clause-done c =
     let u : c.as_slice.result.now ≡ c.args.unknown.now.items = c.as_slice.ensures.value in
     let v : c.as_slice-2.result.now ≡ c.args.unknown.now.items = c.as_slice-2.ensures.value in
-    let is : Filled c.args.row.now c.cleared-clear.result c.filled-full.result c.args.unknown.now.items (λ m. get_or c.values_of-values.result m 0) =
+    let is : Filled c.args.row.now c.cleared-clear.result c.filled-full.result c.args.unknown.now.items (λ m. get_or c.syndromes_of-syndromes.result m 0) =
     rw (← u) (record {
       cleared = c.cleared-clear.ensures.bytes;
-      values_are = c.values_of-values.ensures;
+      values_are = c.syndromes_of-syndromes.ensures;
       known = rw (u, ← v) c.filled-full.ensures.known;
       found = rw (u, ← v) c.filled-full.ensures.found;
       clear_long = c.cleared-clear.ensures.long;
@@ -20,7 +20,7 @@ returns-then-has_zeros-clause-done c =
     }) in
     λ e. (
       record { long = c.filled-full.ensures.long; bytes = c.filled-full.ensures.bytes; zeros = c.has_zeros.ensures.yes c.if-has_zeros.true },
-      filled_agrees c.args.row.now c.cleared-clear.result c.filled-full.result c.args.unknown.now.items (λ m. get_or c.values_of-values.result m 0) is,
+      filled_agrees c.args.row.now c.cleared-clear.result c.filled-full.result c.args.unknown.now.items (λ m. get_or c.syndromes_of-syndromes.result m 0) is,
     )
 
 pub returns-then-has_zeros-clause-inconsistent : goal.returns-then-has_zeros-clause-inconsistent
@@ -32,10 +32,10 @@ pub returns-else-has_zeros-clause-inconsistent : goal.returns-else-has_zeros-cla
 returns-else-has_zeros-clause-inconsistent c =
     let u : c.as_slice.result.now ≡ c.args.unknown.now.items = c.as_slice.ensures.value in
     let v : c.as_slice-2.result.now ≡ c.args.unknown.now.items = c.as_slice-2.ensures.value in
-    let is : Filled c.args.row.now c.cleared-clear.result c.filled-full.result c.args.unknown.now.items (λ m. get_or c.values_of-values.result m 0) =
+    let is : Filled c.args.row.now c.cleared-clear.result c.filled-full.result c.args.unknown.now.items (λ m. get_or c.syndromes_of-syndromes.result m 0) =
     rw (← u) (record {
       cleared = c.cleared-clear.ensures.bytes;
-      values_are = c.values_of-values.ensures;
+      values_are = c.syndromes_of-syndromes.ensures;
       known = rw (u, ← v) c.filled-full.ensures.known;
       found = rw (u, ← v) c.filled-full.ensures.found;
       clear_long = c.cleared-clear.ensures.long;
@@ -48,7 +48,7 @@ returns-else-has_zeros-clause-inconsistent c =
         few,
         λ h.
             let same : c.filled-full.result ≡ h.0 =
-            filled_is c.args.row.now c.cleared-clear.result c.filled-full.result c.args.unknown.now.items h.0 (λ m. get_or c.values_of-values.result m 0) is c.requires.low few h.1 h.2 in
+            filled_is c.args.row.now c.cleared-clear.result c.filled-full.result c.args.unknown.now.items h.0 (λ m. get_or c.syndromes_of-syndromes.result m 0) is c.requires.low few h.1 h.2 in
             worse.2 (ap (λ r. row_value (field_power 2 worse.0) r) same ∙ h.1.zeros worse.0 worse.1),
       ),
       λ p. refl,

@@ -19,8 +19,8 @@ loop-place-preserved c =
     record {
       known = λ i h. subst (λ p. is_among i (take (n + 1) unknown) ≡ false → get_or (slice_set row p c.unknown_byte.result) i 0 ≡ get_or c.args.clear.now i 0) (sym c.from.ensures)
           (known_step row c.args.clear.now unknown n i c.unknown_byte.result lt (c.loop-place.invariant.known i h));
-      found = λ i h. subst (λ p. is_among i (take (n + 1) unknown) ≡ true → Fills (λ m. get_or c.args.values.now m 0) unknown i (get_or (slice_set row p c.unknown_byte.result) i 0)) (sym c.from.ensures)
-          (found_step row unknown (λ m. get_or c.args.values.now m 0) n i c.unknown_byte.result lt (omega arith) c.unknown_byte.ensures (c.loop-place.invariant.found i h));
+      found = λ i h. subst (λ p. is_among i (take (n + 1) unknown) ≡ true → Fills (λ m. get_or c.args.syndromes.now m 0) unknown i (get_or (slice_set row p c.unknown_byte.result) i 0)) (sym c.from.ensures)
+          (found_step row unknown (λ m. get_or c.args.syndromes.now m 0) n i c.unknown_byte.result lt (omega arith) c.unknown_byte.ensures (c.loop-place.invariant.found i h));
       long = search rules;
       bytes = let fits : c.unknown_byte.result < 256 = omega arith in search (rules, All-set);
     }

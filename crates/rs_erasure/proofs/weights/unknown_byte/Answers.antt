@@ -18,4 +18,4 @@ returns c =
     let fits : c.combine-sum.result.0 < 2 ^ 8 = omega arith in
     ap₂ (λ x y. field_product x y) c.mul.ensures (sym c.others_value-value.ensures)
     ∙ divided_back c.combine-sum.result.0 c.others_value-value.result.0 c.inverse.result.0 fits c.inverse.ensures
-    ∙ c.combine-sum.ensures ∙ ap (λ p. combined p (λ m. get_or c.args.values.now m 0) 0) e
+    ∙ c.combine-sum.ensures ∙ ap (λ p. combined p (λ m. get_or c.args.syndromes.now m 0) 0) e

@@ -12,7 +12,7 @@ use Rattle.stream_law.proofs.Versions.{taken_in_version}
 use Rattle.stream_law.proofs.FrameLaws.{frames_units}
 use Rattle.stream_law.proofs.NumberedFrames.{numbered_carry}
 use Rattle.stream_law.proofs.Fitting.{offered_fit}
-use Rattle.stream_law.proofs.SlicedFrames.{frame_units, all_read, all_sent}
+use Rattle.stream_law.proofs.SlicedFrames.{fec_units, all_read, all_sent}
 use Rattle.stream_law.proofs.SlicedArrivals.{packets_arrive}
 use Rattle.stream_law.proofs.ServicesCarried.{carries_one_each}
 use Rattle.stream_law.proofs.carried.a_stream_carries_what_was_offered.Goals as goal
@@ -41,7 +41,7 @@ returns c = record {
       (all_read c.a_unit_reads_as_its_section.ensures.within rows columns is_rows least most mac is)
       (all_sent c.a_frame_of_datagrams_is_one.ensures.sent rows columns is_rows least most mac is) first frames moments each)
       whole of_bytes stream.defined (λ version k. taken_in_version plan version gives k are) stream.each (offered_fit plan whole gives are)
-      (λ mac is rows columns is_rows least most. frame_units c.a_unit_reads_as_its_section.ensures.unit rows columns is_rows least most mac is)
+      (λ mac is rows columns is_rows least most. fec_units c.a_unit_reads_as_its_section.ensures.unit rows columns is_rows least most mac is)
       (λ mac is rows columns is_rows least most. all_read c.a_unit_reads_as_its_section.ensures.within rows columns is_rows least most mac is)
       (λ mac is rows columns is_rows least most. all_sent c.a_frame_of_datagrams_is_one.ensures.sent rows columns is_rows least most mac is)
       c.sections_are_lawful.ensures.lawful (records_of plan.recording records)

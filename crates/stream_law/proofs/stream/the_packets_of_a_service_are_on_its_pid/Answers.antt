@@ -1,6 +1,6 @@
 use Rattle.std.proofs.Common.{◌∙◌, ap}
 use Rattle.ts_spec.specs.Recording.{records_of}
-use Rattle.carriage_spec.specs.Carried.{packets_sent}
+use Rattle.channel_spec.specs.Carried.{packets_sent}
 use Rattle.stream_law.proofs.Parts.{service_sent}
 use Rattle.stream_law.proofs.stream.the_packets_of_a_service_are_on_its_pid.Goals as goal
 

@@ -1,6 +1,6 @@
 use Rattle.std.proofs.Common.{◌∙◌, ap}
 use Rattle.ts_spec.specs.Recording.{records_of}
-use Rattle.carriage_spec.specs.Carried.{packets_sent}
+use Rattle.channel_spec.specs.Carried.{packets_sent}
 use Rattle.stream_law.proofs.Parts.{table_sent}
 use Rattle.stream_law.proofs.table.a_table_goes_out_in_each_cycle.Goals as goal
 

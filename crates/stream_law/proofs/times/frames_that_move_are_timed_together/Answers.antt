@@ -1,7 +1,7 @@
 use Rattle.std.proofs.Common.{◌≡◌, inl, inr, ℕ, ◌<◌, true, List, [], ◌∷◌, refl, sym, subst, arith}
 use Rattle.std.specs.Prelude.{Contains}
 use Rattle.ts_spec.specs.Recording.{stamped}
-use Rattle.carriage_law.proofs.Member.{Member, member_contains}
+use Rattle.channel_law.proofs.Member.{Member, member_contains}
 use Rattle.slice_spec.specs.Bursts.{Slicing}
 use Rattle.slice_law.specs.Cycles.{bursts_from}
 use Rattle.slice_law.proofs.Rows.{in_a_row}

@@ -3,8 +3,8 @@ use Rattle.std.specs.Prelude.{slice_index}
 use Rattle.std.proofs.lemmas.List.{take_at}
 use Rattle.wire_spec.specs.Lists.{joined}
 use Rattle.unit_stream.specs.Packers.{end_of}
-use Rattle.frame_units.specs.Parts.{part_of}
-use Rattle.frame_units.specs.Bursts.{HoldsUnits, units_by_packet}
+use Rattle.fec_units.specs.Parts.{part_of}
+use Rattle.fec_units.specs.Bursts.{HoldsUnits, units_by_packet}
 use Rattle.burst_packets.specs.Bursts.{Bursts, delta_in}
 use Rattle.burst_packets.proofs.Sent.{own, from_end, end_within, own_fits, made_so, way_goes_on, size_opens, sizes_open, packets_open, behind_opens, none_over, sizes_over}
 use Rattle.burst_packets.proofs.bursts.BurstPackets.open.Goals as goal

@@ -1,6 +1,6 @@
 use Rattle.std.proofs.Common.{◌≡◌, List, ℕ, true, ap, sym, subst}
-use Rattle.frame_spec.specs.Sections.{data_section}
-use Rattle.frame_spec.specs.Groups.{is_cut_by_table}
+use Rattle.fec_frame_spec.specs.Sections.{data_section}
+use Rattle.fec_frame_spec.specs.Groups.{is_cut_by_table}
 use Rattle.fec_frame.specs.Stands.{TableState, IsOf, Stands, data_fields}
 use Rattle.fec_frame.specs.declared.place.TableAnswer.TheVariants.{NewFrame}
 use Rattle.fec_frame.proofs.table.Table.data.Goals as goal

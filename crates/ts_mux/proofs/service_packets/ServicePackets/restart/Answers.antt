@@ -1,6 +1,6 @@
 use Rattle.std.proofs.Common.{◌≡◌, false, refl, subst, sym, ap, ◌∙◌}
 use Rattle.plan.specs.Parts.{kind_seen}
-use Rattle.frame_units.specs.Bursts.{AreBurstEnds}
+use Rattle.fec_units.specs.Bursts.{AreBurstEnds}
 use Rattle.ts_mux.specs.ServiceUnits.{AreUnitsFor, AreOfBursts}
 use Rattle.ts_mux.specs.Services.{shape_in}
 use Rattle.ts_mux.specs.declared.service_units.ServiceUnits.{ServiceUnits}

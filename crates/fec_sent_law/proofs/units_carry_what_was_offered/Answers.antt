@@ -1,0 +1,19 @@
+use Rattle.fec_sent_law.proofs.Carried.{are_units, carries}
+use Rattle.fec_sent_law.proofs.Macs.{mac_bytes, mac_size}
+use Rattle.fec_sent_law.proofs.units_carry_what_was_offered.Goals as goal
+
+pub returns-clause-carried : goal.returns-clause-carried
+returns-clause-carried c = λ rows columns first unicast datagrams moments can.
+    carries c.a_written_datagram_section_reads_back.ensures.unit c.a_written_fec_section_reads_back.ensures.unit
+    c.a_written_datagram_section_reads_back.ensures.read c.a_written_fec_section_reads_back.ensures.read c.an_address_or_parameters_can_be_written.ensures.parameters
+    rows columns can.rows_are can.columns_least can.columns_most unicast
+    (λ d bytes. mac_bytes unicast d bytes can.unicast_bytes can.unicast_size) (λ d bytes. mac_size unicast d bytes can.unicast_bytes can.unicast_size) first moments datagrams
+    (λ i d within. record { sendable = can.sendable i d within; bytes = can.bytes i d within })
+
+pub returns-clause-units : goal.returns-clause-units
+returns-clause-units c = λ rows columns first unicast datagrams can.
+    are_units c.a_written_datagram_section_reads_back.ensures.unit c.a_written_fec_section_reads_back.ensures.unit
+    c.a_written_datagram_section_reads_back.ensures.read c.a_written_fec_section_reads_back.ensures.read c.an_address_or_parameters_can_be_written.ensures.parameters
+    rows columns can.rows_are can.columns_least can.columns_most unicast
+    (λ d bytes. mac_bytes unicast d bytes can.unicast_bytes can.unicast_size) (λ d bytes. mac_size unicast d bytes can.unicast_bytes can.unicast_size) first (λ n. 0) datagrams
+    (λ i d within. record { sendable = can.sendable i d within; bytes = can.bytes i d within })

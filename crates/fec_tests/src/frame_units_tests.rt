@@ -1,0 +1,147 @@
+//! Frames and bursts of 256 rows, by hand from EN 301 192 clause 9.
+ghost use Rattle.std.specs.Prelude.{◌<◌, ◌^◌, length, IfOk};
+ghost use Rattle.fec_sent_law.specs.Frames.{AreSendable};
+
+use crate::lines::{difference_of, hex_at};
+use crate::sendable::{HOST, UNICAST, list_of};
+use fec_units::{BurstBuffer, FecUnits, burst_ends, make_units};
+use ip_datagram::DatagramList;
+use std::alloc::Global;
+use std::fmt::Write;
+use std::test::Fail;
+
+/// How many frames there are, and where each of their units ends.
+fn ends_of(alloc: Global, made: &FecUnits) -> Result<String, Fail> {
+    Ok(format!(in alloc; "{}: {:?}", made.frames, made.ends.as_slice())?)
+}
+
+/// A unit and a byte of it, the bytes there, and what they are. The parity is an independent program's.
+const SMALL: &str = "0 0|3E B0 21|section_length 33
+0 3|03 02 C1 00 00|MAC_address_6 and 5 of 01:00:5E:01:02:03
+0 8|00 58 00 00|delta_t 5, table_boundary, address 0
+0 12|45 00 00 14|the datagram
+1 0|78 B1 0D BE FF FF 00 00|section_length 269, 190 padding columns, column 0 of 0
+1 8|00 5C 00 00|delta_t 5, both boundaries, address 0
+1 12|E9 00 00 1E 00 00 00 00 60 97 00 00 0F 00 00 8F 16 8F 03 8C|the parity of the 20 rows of the datagram";
+
+/// A datagram of 20 bytes in a frame of its own, of which one column of RS data is sent.
+#[test]
+fn a_small_datagram_is_a_frame_of_two_sections(rt: HostRuntime) -> Result<(), Fail> {
+    let alloc = rt.alloc();
+    let list = list_of(alloc, 1, 20, [239, 1, 2, 3])?;
+    let made = make_units(alloc, &list, 256, 1, UNICAST, 5)?;
+    // 12 bytes before the datagram and the CRC_32; 12 before the column of 256 bytes and the CRC_32
+    assert_eq!(rt; ends_of(alloc, &made)?.as_str(), "1: [36, 308]");
+    let difference = difference_of(alloc, &made.bytes, &made.ends, SMALL)?;
+    assert_eq!(rt; difference.as_str(), "");
+    // rows of zeros have parity of zeros
+    assert!(rt; made.bytes.get(68..304) == Some(&[0; 236][..]));
+    Ok(())
+}
+
+/// The same of 12 datagrams of 4,080 bytes. 191 columns of 256 bytes have room for 11 of them: the twelfth is in the next frame, whose
+/// number is 0 after 4095.
+const TWO_FRAMES: &str = "10 0|3E BF FD 09 00 C1 00 00|the last datagram_section of the first frame
+10 8|FF F8 9F 60 45|delta_t 4095, table_boundary, address 40,800
+12 0|78 B1 0D 0F FF FF 01 01|column 1 of 0 to 1; 176 columns have data, so 15 are padding
+12 8|FF FC 01 00|both boundaries, address 256
+13 0|3E BF FD 09 00 C1 00 00|the datagram_section of the second frame
+13 8|00 08 00 00 45|delta_t 0, table_boundary, address 0";
+
+/// Frames, and where their units end: 11 datagrams and two columns, and one datagram and two columns.
+const TWO_ENDS: &str =
+    "2: [4096, 8192, 12288, 16384, 20480, 24576, 28672, 32768, 36864, 40960, 45056, 45328, 45600, 49696, 49968, 50240]";
+
+#[test]
+fn a_datagram_without_room_begins_the_next_frame(rt: HostRuntime) -> Result<(), Fail> {
+    let alloc = rt.alloc();
+    let list = list_of(alloc, 12, 4080, HOST)?;
+    let made = make_units(alloc, &list, 256, 2, UNICAST, 4095)?;
+    assert_eq!(rt; ends_of(alloc, &made)?.as_str(), TWO_ENDS);
+    let difference = difference_of(alloc, &made.bytes, &made.ends, TWO_FRAMES)?;
+    assert_eq!(rt; difference.as_str(), "");
+    Ok(())
+}
+
+/// No datagram has no frame.
+#[test]
+fn no_datagram_has_no_unit(rt: HostRuntime) -> Result<(), Fail> {
+    let alloc = rt.alloc();
+    let made = make_units(alloc, &DatagramList::new(alloc), 1024, 64, UNICAST, 0)?;
+    assert_eq!(rt; ends_of(alloc, &made)?.as_str(), "0: []");
+    Ok(())
+}
+
+/// The units of the burst of all datagrams of a list, in frames of 256 rows of whose RS data one column is sent: where each ends, and its
+/// real_time_parameters.
+fn burst_of(alloc: Global, list: &DatagramList) -> Result<String, Fail>
+    requires sendable { AreSendable list.now }
+    requires few { length list.now < 2 ^ 32 }
+{
+    let ends = burst_ends(alloc, list, 256, 1, 1000)?;
+    let [end] = *ends.as_slice() else {
+        return Err(Fail::new("not one burst"));
+    };
+    let mut buffer = BurstBuffer::new(alloc, 256, 1)?;
+    buffer.make(list, 0, end as usize, UNICAST, &[300, 299, 298]);
+    let mut text = String::new(alloc);
+    for (number, end) in buffer.ends().iter().enumerate() {
+        let time = hex_at(alloc, buffer.bytes(), buffer.ends(), number, 8, 4)?;
+        let separator = if number == 0 { "" } else { "; " };
+        write!(&mut text, "{separator}{end}: {time}")?;
+    }
+    Ok(text)
+}
+
+/// Number and bytes of the datagrams of a burst; after `|` where each of its sections ends, and its real_time_parameters. delta_t is 300 in
+/// packet 0, 299 in packet 1 and 298 in packet 2: 12C, 12B and 12A; 8 is table_boundary, C both boundaries; after it stands the address.
+///
+/// A section begins in the packet in which the one before ends, if that has room for pointer_field and one byte more. A first packet has 183
+/// bytes, one in which no section begins has 184.
+const BURSTS: &str = "2 100|116: 12 C0 00 00; 232: 12 C8 00 64; 504: 12 BC 00 00
+1 166|182: 12 C8 00 00; 454: 12 CC 00 00
+1 167|183: 12 C8 00 00; 455: 12 BC 00 00
+1 349|365: 12 C8 00 00; 637: 12 BC 00 00
+1 350|366: 12 C8 00 00; 638: 12 AC 00 00
+1 351|367: 12 C8 00 00; 639: 12 AC 00 00
+1 352|368: 12 C8 00 00; 640: 12 AC 00 00";
+
+/// A list of so many datagrams of so many bytes.
+fn list_in(alloc: Global, words: &str) -> Result<DatagramList, Fail>
+    ensures sendable { IfOk result (λ list. AreSendable list) }
+    ensures few { IfOk result (λ list. length list < 2 ^ 32) }
+{
+    let (count, size) = words.split_once(' ').ok_or("no size")?;
+    list_of(alloc, count.parse::<u8>()?, size.parse::<u16>()?, HOST)
+}
+
+#[test]
+fn sections_have_the_time_of_their_packet(rt: HostRuntime) -> Result<(), Fail> {
+    let alloc = rt.alloc();
+    for line in BURSTS.lines() {
+        let (words, want) = line.split_once('|').ok_or("no bar")?;
+        let list = list_in(alloc, words)?;
+        assert_eq!(rt; burst_of(alloc, &list)?.as_str(), want, "{words}");
+    }
+    Ok(())
+}
+
+/// Slots of a window, and after `|` where the bursts of five datagrams of 100 bytes end. A window of three slots has room for two datagrams
+/// and not for three: these take four packets.
+const WINDOWS: &str = "1|[1, 2, 3, 4, 5]
+3|[2, 4, 5]
+4|[3, 5]
+100|[5]";
+
+#[test]
+fn a_burst_takes_what_its_window_has_room_for(rt: HostRuntime) -> Result<(), Fail> {
+    let alloc = rt.alloc();
+    let list = list_of(alloc, 5, 100, HOST)?;
+    for line in WINDOWS.lines() {
+        let (slots, want) = line.split_once('|').ok_or("no bar")?;
+        let ends = burst_ends(alloc, &list, 256, 1, slots.parse::<u32>()?)?;
+        let ends = format!(in alloc; "{:?}", ends.as_slice())?;
+        assert_eq!(rt; ends.as_str(), want, "{slots}");
+    }
+    Ok(())
+}

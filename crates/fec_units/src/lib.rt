@@ -1,0 +1,20 @@
+//! MPE-FEC frames of a service's datagrams (EN 301 192 clause 9), as the units that carry them.
+//!
+//! Sending: datagrams of a service -> [fec_units] -> unit_stream -> ts_packet.
+//! Begin with `make_units`, and with `burst_ends` and `BurstBuffer` where there is time slicing.
+#![tactic(auto)]
+
+mod burst_buffer;
+mod burst_sections;
+mod bursts;
+mod columns;
+mod frames;
+mod packets;
+mod sections;
+mod unit_buffer;
+mod units;
+
+pub use burst_buffer::BurstBuffer;
+pub use bursts::burst_ends;
+pub use frames::make_units;
+pub use units::FecUnits;
