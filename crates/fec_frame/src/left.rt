@@ -3,7 +3,7 @@ ghost use Rattle.std.specs.Prelude.{◌≡◌, ◌+◌, ◌*◌, ◌<◌, ◌≤
 ghost use Rattle.std.specs.List.{All};
 ghost use Rattle.fec_spec.specs.Row.{is_among};
 ghost use Rattle.fec_frame.specs.Marks.{is_known_mark};
-ghost use Rattle.rs_erasure.specs.Values.{HasLeft};
+ghost use Rattle.rs_erasure.specs.Syndromes.{HasLeft};
 
 use crate::fill::is_known;
 use arrayvec::ArrayVec;

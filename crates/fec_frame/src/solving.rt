@@ -5,7 +5,7 @@ ghost use Rattle.fec_frame_spec.specs.Sections.{FrameSection};
 ghost use Rattle.fec_frame.specs.Marks.{is_known_mark, is_start_mark};
 ghost use Rattle.fec_frame.specs.Stands.{TellsKnown};
 ghost use Rattle.fec_frame.specs.Runs.{AreRowsSolved, IsColumnMarked, IsMarked, IsPattern, is_good};
-ghost use Rattle.rs_erasure.specs.Values.{HasLeft};
+ghost use Rattle.rs_erasure.specs.Syndromes.{HasLeft};
 
 use crate::fill::{is_known, with_known};
 use crate::left::{Left, data_columns, find_left, lacks_data, others_of};

@@ -11,7 +11,7 @@ use Rattle.field_law.proofs.Products.{xor_swap}
 use Rattle.erasure_law.proofs.Sums.{row_value_none}
 use Rattle.erasure_law.proofs.Tables.{length-table_row}
 use Rattle.rs_erasure.specs.Columns.{cell}
-use Rattle.rs_erasure.specs.Values.{horner_value}
+use Rattle.rs_erasure.specs.Syndromes.{horner_value}
 use Rattle.rs_erasure.proofs.Runs.{value_step, cell_fits}
 
 pub horner_none : (z : ℕ) (f : ℕ → ℕ) → horner_value z f 0 ≡ 0

@@ -12,7 +12,7 @@ use Rattle.erasure_law.proofs.Sums.{combined_is, sum_of, sum_more, sum_none, val
 use Rattle.erasure_law.proofs.Tables.{length-table_row}
 use Rattle.erasure_law.proofs.Unique.{differences_none}
 use Rattle.rs_erasure.specs.Columns.{cell}
-use Rattle.rs_erasure.specs.Values.{HasLeft, HasSyndromes}
+use Rattle.rs_erasure.specs.Syndromes.{HasLeft, HasSyndromes}
 use Rattle.rs_erasure.proofs.Decoding.{left_in_column, powers_behind}
 use Rattle.rs_erasure.proofs.Runs.{get_or-row, no_root}
 

@@ -1,5 +1,5 @@
 pub mod Fill
 pub mod Columns
-pub mod Values
+pub mod Syndromes
 pub mod Marks
 pub mod Correction

@@ -5,7 +5,7 @@ ghost use Rattle.fec_spec.specs.Codeword.{row_value};
 ghost use Rattle.fec_spec.specs.Field.{field_power, field_product, field_sum};
 ghost use Rattle.fec_spec.specs.Table.{table_row};
 ghost use Rattle.rs_erasure.specs.Columns.{IsColumnChanged, cell};
-ghost use Rattle.rs_erasure.specs.Values.{HasSyndromes};
+ghost use Rattle.rs_erasure.specs.Syndromes.{HasSyndromes};
 ghost use Rattle.std.specs.List.{All};
 ghost use Rattle.std.specs.Prelude.{◌*◌, ◌-◌, ◌<◌, ◌≡◌, ◌≤◌, ◌⊎◌, ℕ, drop, length, map};
 
@@ -45,7 +45,7 @@ fn eliminate_root(root: Gf, first: usize, run: Run, work: &mut [u8])
     }
 }
 
-/// All roots but the last `done`, which were eliminated before, from the last one on: column j then combines the values by the polynomial
+/// All roots but the last `done`, which were eliminated before, from the last one on: column j then combines the syndromes by the polynomial
 /// of the last j roots. Nothing is said of the first `done` columns.
 pub fn eliminate(roots: &[u8], done: usize, run: Run, work: &mut [u8])
     requires order { run.from ≤ run.to }

@@ -5,7 +5,7 @@
 ghost use Rattle.erasure_law.specs.Roots.{differences, place_power};
 ghost use Rattle.fec_spec.specs.Field.{field_power, field_product, field_sum};
 ghost use Rattle.rs_erasure.specs.Columns.{cell};
-ghost use Rattle.rs_erasure.specs.Values.{AreEmpty, HasLeft};
+ghost use Rattle.rs_erasure.specs.Syndromes.{AreEmpty, HasLeft};
 ghost use Rattle.std.specs.List.{All};
 ghost use Rattle.std.specs.Prelude.{◌+◌, ◌*◌, ◌<◌, ◌≡◌, ◌≢◌, ◌≤◌, ◌⊎◌, ℕ, false, length, slice_index};
 
@@ -17,7 +17,7 @@ use crate::syndromes::locator_of;
 use crate::table_syndromes::find_syndromes;
 use gf256::Gf;
 
-/// So many steps on columns the values take, and the elimination of some places.
+/// So many steps on columns the syndromes take, and the elimination of some places.
 const STEPS: usize = 5000;
 
 /// So many bytes are looked at together.

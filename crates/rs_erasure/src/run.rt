@@ -3,7 +3,7 @@
 ghost use Rattle.fec_spec.specs.Row.{IsCorrectable, IsCorrected};
 ghost use Rattle.fec_spec.specs.Table.{table_row};
 ghost use Rattle.rs_erasure.specs.Correction.{IsCorrectedBut};
-ghost use Rattle.rs_erasure.specs.Values.{HasLeft};
+ghost use Rattle.rs_erasure.specs.Syndromes.{HasLeft};
 ghost use Rattle.std.specs.List.{All};
 ghost use Rattle.std.specs.List.Sorted.{IsStrictlyIncreasing};
 ghost use Rattle.std.specs.Prelude.{◌*◌, ◌<◌, ◌≡◌, ◌≤◌, ◌↔◌, ◌⊎◌, List, ℕ, drop, length, slice_index};

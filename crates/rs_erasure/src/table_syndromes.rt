@@ -6,7 +6,7 @@
 
 ghost use Rattle.fec_spec.specs.Field.{field_power, field_product, field_sum};
 ghost use Rattle.rs_erasure.specs.Columns.{IsColumnChanged, cell};
-ghost use Rattle.rs_erasure.specs.Values.{HasSyndromes, horner_value};
+ghost use Rattle.rs_erasure.specs.Syndromes.{HasSyndromes, horner_value};
 ghost use Rattle.std.specs.Prelude.{◌+◌, ◌*◌, ◌-◌, ◌%◌, ◌<◌, ◌≡◌, ◌≤◌, ◌⊎◌, ℕ, length};
 
 use crate::columns::{Run, clear_column, step_column};

@@ -84,7 +84,7 @@ fn others_value(unknown: &[u8], place: u8) -> Gf
     value
 }
 
-/// The values times the coefficients, added.
+/// The syndromes times the coefficients, added.
 fn combine(polynomial: &[u8], syndromes: &[u8; 64]) -> Gf
     requires { length polynomial.now ≤ 64 }
     ensures { result.0 ≡ combined polynomial.now (λ m. slice_index syndromes.now m) 0 }

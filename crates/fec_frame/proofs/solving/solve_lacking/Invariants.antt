@@ -1,6 +1,6 @@
 use Rattle.std.proofs.Common.{◌≤◌, ◌<◌, ◌+◌, ◌-◌, ℕ}
 use Rattle.fec_frame.specs.Runs.{AreRowsSolved}
-use Rattle.rs_erasure.specs.Values.{HasLeft}
+use Rattle.rs_erasure.specs.Syndromes.{HasLeft}
 use Rattle.fec_frame.proofs.solving.solve_lacking.Given as goal
 
 abbrev pub invariant-loop-from : goal.invariant-loop-from

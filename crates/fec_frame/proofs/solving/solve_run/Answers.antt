@@ -3,7 +3,7 @@ use Rattle.std.specs.Prelude.{count_by}
 use Rattle.std.specs.List.{range_with_len, All}
 use Rattle.std.specs.List.Sorted.{IsStrictlyIncreasing}
 use Rattle.fec_spec.specs.Row.{is_among}
-use Rattle.rs_erasure.specs.Values.{HasLeft}
+use Rattle.rs_erasure.specs.Syndromes.{HasLeft}
 use Rattle.fec_frame.specs.Runs.{is_good, unmarked}
 use Rattle.fec_frame.proofs.Patterns.{low_behind, unmarked_low, unmarked_rise}
 use Rattle.fec_frame.proofs.RunsSolved.{none_lacked, too_many, decoded}

@@ -2,7 +2,7 @@ use Rattle.std.proofs.Common.{arith, ℕ, List, [], ◌≡◌, sym, subst, drop}
 use Rattle.std.proofs.lemmas.List.{drop_all}
 use Rattle.fec_spec.specs.Table.{table_row}
 use Rattle.erasure_law.proofs.Tables.{length-table_row}
-use Rattle.rs_erasure.specs.Values.{HasLeft}
+use Rattle.rs_erasure.specs.Syndromes.{HasLeft}
 use Rattle.rs_erasure.proofs.Decoding.{corrected_all}
 use Rattle.rs_erasure.proofs.run.decode_run.Goals as goal
 

@@ -5,7 +5,7 @@ use Rattle.fec_spec.specs.Table.{table_row}
 use Rattle.erasure_law.specs.Roots.{eliminated, place_power, syndromes_of}
 use Rattle.erasure_law.proofs.Tables.{length-table_row}
 use Rattle.rs_erasure.specs.Columns.{cell}
-use Rattle.rs_erasure.specs.Values.{HasLeft}
+use Rattle.rs_erasure.specs.Syndromes.{HasLeft}
 use Rattle.rs_erasure.proofs.Remains.{left_given}
 use Rattle.rs_erasure.proofs.Runs.{get_or-row}
 use Rattle.rs_erasure.proofs.Decoding.{Decoded, decoded, left_in_column, row_bytes, same_row}

@@ -1,6 +1,6 @@
 use Rattle.std.proofs.Common.{◌+◌, ◌*◌, ◌-◌}
 use Rattle.rs_erasure.specs.Columns.{IsColumnChanged, cell}
-use Rattle.rs_erasure.specs.Values.{horner_value}
+use Rattle.rs_erasure.specs.Syndromes.{horner_value}
 use Rattle.rs_erasure.proofs.table_syndromes.find_class.Given as goal
 
 abbrev pub invariant-loop-a : goal.invariant-loop-a

@@ -1,5 +1,5 @@
 use Rattle.std.proofs.Common.{ℕ, ◌<◌, ◌≤◌, ◌-◌}
-use Rattle.rs_erasure.specs.Values.{HasSyndromes}
+use Rattle.rs_erasure.specs.Syndromes.{HasSyndromes}
 use Rattle.rs_erasure.proofs.table_syndromes.find_syndromes.Given as goal
 
 abbrev pub invariant-loop-from : goal.invariant-loop-from

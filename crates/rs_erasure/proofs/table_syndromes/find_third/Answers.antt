@@ -1,7 +1,7 @@
 use Rattle.std.proofs.Common.{arith, ℕ, List, ◌≡◌, ◌+◌, ◌-◌, ◌*◌, ◌∙◌, ap, sym, bit_xor}
 use Rattle.fec_spec.specs.Field.{field_product}
 use Rattle.rs_erasure.specs.Columns.{cell}
-use Rattle.rs_erasure.specs.Values.{horner_value}
+use Rattle.rs_erasure.specs.Syndromes.{horner_value}
 use Rattle.rs_erasure.proofs.Runs.{changed_again, changed_run, changed_to}
 use Rattle.rs_erasure.proofs.Horner.{horner_none, horner_step}
 use Rattle.rs_erasure.proofs.table_syndromes.find_third.Goals as goal
