@@ -15,7 +15,7 @@ use Rattle.loss_report.specs.declared.counts.StreamCounts.{StreamCounts}
 use Rattle.demux_core.specs.Counts.{stream_counts_of}
 use Rattle.demux_core.specs.Services.{HaveAllReceived}
 use Rattle.demux_core.specs.declared.service.ServiceReceiver.{ServiceReceiver}
-use Rattle.demux_core.specs.declared.table.IntReceiver.{IntReceiver}
+use Rattle.demux_core.specs.declared.int_receiver.IntReceiver.{IntReceiver}
 use Rattle.demux_core.proofs.Laws.{Laws}
 use Rattle.demux_core.proofs.Whole.{Misses, int_passes, all_passed, nothing_given}
 

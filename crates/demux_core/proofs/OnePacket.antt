@@ -17,7 +17,7 @@ use Rattle.service_reception.proofs.Records.{is_of_read}
 use Rattle.demux_core.specs.Services.{IsReception, IsReceivingOne, HaveAllReceived, is_table_pid}
 use Rattle.demux_core.specs.declared.service.ServiceReceiver.{ServiceReceiver}
 use Rattle.demux_core.specs.declared.services.Services.{Services}
-use Rattle.demux_core.specs.declared.table.IntReceiver.{IntReceiver}
+use Rattle.demux_core.specs.declared.int_receiver.IntReceiver.{IntReceiver}
 use Rattle.demux_core.proofs.Laws.{Laws}
 use Rattle.demux_core.proofs.OnPids.{found_at, not_found, place_known}
 use Rattle.demux_core.proofs.One.{is_receiving}

@@ -29,7 +29,7 @@ use Rattle.service_reception.proofs.Fronts.{table_stays}
 use Rattle.demux_core.specs.Moving.{AllFollow, closed_by_switch}
 use Rattle.demux_core.specs.Services.{IsReception, HasReceivedOne, HaveReceived, HasReceivedBy, HasReceivedInt, HaveAllReceived, is_table_pid, is_service_pid, version_of_table}
 use Rattle.demux_core.specs.declared.service.ServiceReceiver.{ServiceReceiver}
-use Rattle.demux_core.specs.declared.table.IntReceiver.{IntReceiver}
+use Rattle.demux_core.specs.declared.int_receiver.IntReceiver.{IntReceiver}
 use Rattle.demux_core.proofs.Laws.{Laws}
 use Rattle.demux_core.proofs.OnPids.{neither, some_at, set_same, set_other, receiver_pids, none_passes, pids_apart, any_by_pid}
 use Rattle.demux_core.proofs.One.{one_passes, one_took, one_follows}

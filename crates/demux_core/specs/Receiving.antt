@@ -7,7 +7,7 @@ use Rattle.loss_report.specs.declared.counts.StreamCounts.{StreamCounts}
 use Rattle.demux_core.specs.Counts.{stream_counts_of}
 use Rattle.demux_core.specs.Services.{HaveAllReceived}
 use Rattle.demux_core.specs.declared.service.ServiceReceiver.{ServiceReceiver}
-use Rattle.demux_core.specs.declared.table.IntReceiver.{IntReceiver}
+use Rattle.demux_core.specs.declared.int_receiver.IntReceiver.{IntReceiver}
 
 -- a receiver: its plan, whether it may be given records, what it has counted of the stream, the receivers of each service
 -- and of the INT

@@ -14,7 +14,7 @@ use Rattle.service_reception.specs.Reception.{packet_record}
 use Rattle.outlet_spec.specs.Pairs.{pairs_of, Delivers, DeliversFront}
 use Rattle.outlet_spec.proofs.Pairs.{delivers_nothing, delivers_same, front_same}
 use Rattle.demux_core.specs.Services.{HaveAllReceived, is_table_pid}
-use Rattle.demux_core.specs.declared.table.IntReceiver.{IntReceiver}
+use Rattle.demux_core.specs.declared.int_receiver.IntReceiver.{IntReceiver}
 use Rattle.demux_core.proofs.Laws.{Laws, laws_of}
 use Rattle.demux_core.proofs.OnePacket.{left_as, none_received, none_known, none_pairs, one_known, to_receive, one_received, one_pairs}
 use Rattle.demux_core.proofs.packet.receive_packet.Goals as goal
