@@ -19,8 +19,7 @@ use bb_stream_law::a_baseband_stream_carries_what_was_offered;
 use gse_law::{offered_datagrams_are_carried, the_pdus_say_what_is_delivered};
 use stream_law::a_capture_gives_datagrams;
 
-/// However frames of the stream of a capture are dropped or damaged so that they are refused, refused frames and those of other
-/// ISIs inserted, and none of its ISI repeated, if no fragments of a service are reassembled to a PDU that was not sent:
+/// However frames of the stream of a capture are dropped, and refused frames and those of other ISIs inserted, none of its ISI repeated, if no fragments of a service are reassembled to a PDU that was not sent:
 /// the service delivers wanted datagrams that were offered to it, unchanged, in the order of its frames and each once, with each whose frames
 /// all arrived. That order is the capture's for a service without urgent rules; for another it keeps each class in order.
 pub fn what_arrives_of_a_capture_in_frames()

@@ -10,7 +10,7 @@ ghost use Rattle.bb_reception_spec.specs.Delivered.{service_at, delivered_of};
 ghost use Rattle.bb_stream_spec.specs.Carried.{CarriesInBaseband};
 ghost use Rattle.bb_loss_law.specs.Plans.{IsIsiOf, IsSameFrameChannel, CarriesInFramesFor, IsRecordedInFramesFor, DeliversOnIsi, DeliversAll, AllArrivedIntact};
 
-/// Whatever frames are dropped, damaged so that they are refused, or inserted: a service delivers wanted datagrams, unchanged and in order,
+/// Whatever frames are dropped, and whatever refused frames or frames of other ISIs are inserted: a service delivers wanted datagrams, unchanged and in order,
 /// with each whose frames all arrived. They are read off the numbers of PDUs, which rise, so nothing is delivered twice. It is so whatever
 /// becomes of other services, and of frames that are not of its ISI. Frames that carry the datagrams of all services carry those of each.
 pub fn each_gse_service_delivers_what_arrived_intact()

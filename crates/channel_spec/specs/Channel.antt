@@ -4,7 +4,7 @@ use Rattle.std.specs.Prelude.{◌≡◌, ℕ, ◌<◌, ◌≤◌, List, [], ◌�
 use Rattle.ts_spec.specs.Recording.{Record}
 use Rattle.ts_spec.specs.Received.{record_at, Arrival, arrivals}
 
--- a receiver of these PIDs reads nothing in the record: it has no moment, is no packet with a payload, or is one of another PID
+-- a receiver of these PIDs reads nothing in the record: it has no moment, is no packet that can be read, or is one of another PID
 abbrev pub IsForeign : List ℕ → Record → Type 0
 IsForeign pids r = (pid : ℕ) → Contains pids pid → arrivals pid (r ∷ []) ≡ []
 

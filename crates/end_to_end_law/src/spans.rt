@@ -32,7 +32,7 @@ use ts_packet::{null_packet_is_read, written_packets_are_read};
 /// with each whose unit arrived intact in a span.
 ///
 /// A service of MPE-FEC frames delivers frame by frame what is recovered, if it is heard often, or with time slicing if accepted sections come
-/// at times that part the frames: the datagrams that came in sections of their own at least, and all where each row has at most 64 bytes that the sections that
+/// at times that separate the frames: the datagrams that came in sections of their own at least, and all where each row has at most 64 bytes that the sections that
 /// arrived intact do not tell.
 pub fn what_arrives_of_a_capture()
     ensures arrives { (plan : PlanFields) (capture : List ℕ) (told records : List (List ℕ)) → IsSent plan capture told records

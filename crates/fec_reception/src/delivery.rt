@@ -11,7 +11,7 @@ use frame_walk::Walk;
 use ipe_io::{Failed, Outlet};
 use std::alloc::Allocator;
 
-/// DeliversAfter one datagram, where none was refused before.
+/// Delivers one datagram, where none was refused before.
 pub(crate) fn deliver_one<T: Outlet>(
     datagram: &[u8],
     service: u32,
@@ -28,7 +28,7 @@ pub(crate) fn deliver_one<T: Outlet>(
     }
 }
 
-/// DeliversAfter the datagrams of a table that was solved, and answers how many it has. After a refused one they are counted alone.
+/// Delivers the datagrams of a table that was solved, and answers how many it has. After a refused one they are counted alone.
 pub(crate) fn deliver_frame<A: Allocator, T: Outlet>(
     table: &Table<A>,
     service: u32,

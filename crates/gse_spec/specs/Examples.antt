@@ -85,7 +85,7 @@ last_field = end_bytes 7 (10 ∷ 0 ∷ 0 ∷ 1 ∷ 239 ∷ 1 ∷ 2 ∷ 3 ∷ [])
 abbrev pub small_frames : List (List ℕ)
 small_frames = frame_bytes 3 first_field 40 ∷ frame_bytes 3 (last_field ++ whole_field) 60 ∷ []
 
--- the first of them is damaged so that its header shows it, and a frame of another input stream is between the two
+-- the first of them is damaged so that it is refused, and a frame of another input stream is between the two
 abbrev pub damaged_frames : List (List ℕ)
 damaged_frames = (0x51 ∷ replicate 39 0) ∷ frame_bytes 4 whole_field 60 ∷ frame_bytes 3 (last_field ++ whole_field) 60 ∷ []
 

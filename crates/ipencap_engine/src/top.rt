@@ -55,12 +55,13 @@ use std::alloc::Global;
 ///   inserted in which nothing is read on its PIDs; no damaged or spliced unit of it passes its CRC-32; of any 4,095 MPE-FEC frames in a row
 ///   between two that are received one is received, or with time slicing accepted sections come at times that separate the frames as delta_t
 ///   announces. Then its file has wanted datagrams that were sent, unchanged, in order, those of each unit at most once, among them each
-///   whose unit arrived intact, and of MPE-FEC frames each of a frame in which no row lacks more than 64 of its 255 bytes; at every status
+///   wanted one whose unit arrived intact, and of MPE-FEC frames each of a frame in which no row lacks more than 64 of its 255 bytes; at every status
 ///   but Done a prefix of such a file, or none;
-/// - loss_in_frames: the same in baseband frames. Premises: the frames of its ISI carried datagrams; frames were lost, or damaged so that
-///   they are refused, all in order, and refused ones and those of other ISIs inserted, but none of its ISI repeated; no PDU of it is
-///   reassembled that was not sent with that label. Then its file has wanted datagrams that were sent, unchanged, in order, each once,
-///   among them each whose frames were all kept; at every status but Done a prefix of such a file, or none;
+/// - loss_in_frames: the same in baseband frames. Premises: the frames of its ISI carried datagrams; each frame was dropped, or kept once, in
+///   order; anywhere stand frames that are refused or of other ISIs, so a damaged one counts as dropped where it is refused or reads as one
+///   of another ISI; each PDU that is reassembled from fragments was sent, with that label, and the same packet ended it. Then its file has
+///   wanted datagrams that were sent, unchanged, in order, that of each PDU at most once, among them each whose frames were all kept; at
+///   every status but Done a prefix of such a file, or none;
 /// - isolation, isolation_in_frames: at Done no service's file depends on packets of other PIDs, but where the plan changes on the bytes of the
 ///   INT's, nor on moments, but with time slicing on those of its own packets; nor on frames of other ISIs;
 /// - loss_of_ethernet_frames, isolation_of_ethernet_frames: the same of Ethernet frames on a PID or an ISI: those received are a subsequence of

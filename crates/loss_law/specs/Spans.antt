@@ -21,7 +21,7 @@ pub record IsSameChannel {pids others : List ℕ} {sent recorded : List Record} 
 -- A recording of what was sent, as service k asks it. It came through the channel, which inserts nothing that is read on the PIDs of the
 -- service, and no damaged or spliced unit of the service passes its check in the span of its PID. Of the INT nothing is asked: spans may begin
 -- and end anywhere. Of MPE-FEC frames more is asked, in the span of each PID: with time slicing, accepted sections that come at times which
--- part the frames as they announce, and without it, sections that are accepted often. Of all other services, their PIDs and their stamps
+-- separate the frames as they announce, and without it, sections that are accepted often. Of all other services, their PIDs and their stamps
 -- nothing is asked
 pub record IsRecordedFor (plan : PlanFields) (k : ℕ) (sent : List Record) (datagrams : ℕ → List (List ℕ)) (carries : CarriesFor plan k sent datagrams)
     (recorded : List Record) : Type 0 where

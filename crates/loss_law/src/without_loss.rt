@@ -18,7 +18,7 @@ ghost use Rattle.loss_law.specs.Spans.{IsRecordedFor, wanted_on_pids};
 
 /// Where each unit arrived intact, whatever else became of the records, a service delivers all its wanted datagrams, in order and each once.
 ///
-/// Of MPE-FEC frames with time slicing accepted sections must come at times that part the frames, since a receiver finds the frames by them.
+/// Of MPE-FEC frames with time slicing accepted sections must come at times that separate the frames, since a receiver finds the frames by them.
 pub fn where_all_units_arrived_intact_all_is_delivered()
     ensures all { (pids : List ℕ) (sent recorded : List Record) (channel : Channel pids sent recorded) (span : List Record) → IsSpanOf span recorded
         → (form : RecordingForm) (service : ServiceFields) (pid : ℕ) → Contains pids pid → pid_of service.kind ≡ Some pid

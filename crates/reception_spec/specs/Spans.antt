@@ -7,11 +7,11 @@ use Rattle.plan_spec.specs.Changes.{pid_in, has_pid}
 use Rattle.plan_spec.specs.InForce.{version_behind}
 use Rattle.reception_spec.specs.Table.{table_sections}
 
--- the version in force at the record of a place: that behind the sections of the INT whose last byte stands in a record before it (EN 301 192 clause 8.4)
+-- the version in force at the record of a place: that after the sections of the INT whose last byte stands in a record before it (EN 301 192 clause 8.4)
 unfoldable pub version_at_place : PlanFields → List Record → ℕ → ℕ
 version_at_place plan records place = version_behind plan (table_sections plan (take place records))
 
--- the version in force behind all records
+-- the version in force after all records
 abbrev pub version_at_end : PlanFields → List Record → ℕ
 version_at_end plan records = version_at_place plan records (length records)
 

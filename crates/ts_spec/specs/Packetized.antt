@@ -49,7 +49,7 @@ pub record IsFirstIn (units : List (List ℕ)) (packets : List PacketFields) (be
 pub record Packetizes (form : UnitForm) (units : List (List ℕ)) (packets : List PacketFields) (begin : ℕ → ℕ) : Type 0 where
   pub each : (n : ℕ) → n < length units → IsUnit form (unit_at units n)
   pub continuous : (m : ℕ) → m + 1 < length packets → continues (packet_at packets m) (packet_at packets (m + 1)) ≡ true
-  -- the joined_payloads payloads are the units in order, with stuffing after a unit up to the end of its packet
+  -- the joined payloads are the units in order, with stuffing after a unit up to the end of its packet
   pub from_zero : begin 0 ≡ 0
   pub bytes : (n : ℕ) → n < length units → take (length (unit_at units n)) (drop (begin n) (joined_payloads packets)) ≡ unit_at units n
   pub next : (n : ℕ) → n < length units → (begin (n + 1) ≡ begin n + length (unit_at units n)) ⊎ IsStuffed packets (begin n + length (unit_at units n)) (begin (n + 1))

@@ -1,4 +1,4 @@
--- Places among the joined_payloads payloads, with one packet more in front.
+-- Places among the joined payloads, with one packet more in front.
 use Rattle.std.proofs.Common.{◌≡◌, ◌⊎◌, inl, inr, ℕ, zero, suc, ◌+◌, ◌-◌, ◌<◌, ◌≤◌, List, ◌∷◌, ◌++◌, length, take, drop, get_or, replicate, refl, ap, sym, ◌∙◌, arith, length-append}
 use Rattle.std.proofs.lemmas.List.{drop_at, drop-drop, get_or-append-add, get_or_append_left, get_or-replicate}
 use Rattle.std.proofs.lemmas.List.{length-replicate}
