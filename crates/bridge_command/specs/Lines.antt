@@ -1,4 +1,4 @@
--- The line that is told of a bridge that is done. Profile: its text.
+-- The line that is printed when a bridge is done. Profile: its text.
 use Rattle.std.specs.Prelude.{ℕ, List, [], ◌∷◌, ◌++◌, codes, decimal}
 use Rattle.bridge_command.specs.declared.ends.BridgeTally.{BridgeTally}
 

@@ -14,7 +14,7 @@ use std::alloc::Global;
 
 /// Writes the transport packets of a PID, 0 to 8190, that carry the frames of the capture that is read from `input`, and flushes them.
 ///
-/// Each frame stands in an SNDU without address behind Type 1; the SNDUs are packed, and the first packet has the counter 0. Where the
+/// Each frame stands in an SNDU without address after Type 1; the SNDUs are packed, and the first packet has the counter 0. Where the
 /// capture has a fault, the packets of the frames before it are written and flushed, and then the fault is answered. A capture of IP
 /// datagrams has the fault Link in its head. Where the input fails or memory runs out nothing is written.
 pub fn bridge_in_sndus<I: Source, O: Sink>(

@@ -1,4 +1,4 @@
-//! What a bridge tells of captured frames.
+//! What a bridge reports of captured frames.
 
 /// What became of captured Ethernet frames.
 #[derive(Clone, Copy, Debug, PartialEq, Eq)]

@@ -1,7 +1,7 @@
 //! The command that bridges: a capture of Ethernet frames in, the transport packets or baseband frames that carry them out.
 //!
 //! Sending: Source -> pcap_file -> capture_intake -> ule_unit, unit_stream or gse_pack -> Sink, all of it in [bridge_command].
-//! Begin with `bridge_in_sndus` and `bridge_in_pdus`; `tell_bridge_tally` writes the line that is told of their end.
+//! Begin with `bridge_in_sndus` and `bridge_in_pdus`; `tell_bridge_tally` writes the line that is printed at their end.
 #![tactic(auto)]
 
 mod command;

@@ -1,4 +1,4 @@
-//! The line that is told of a bridge that is done.
+//! The line that is printed when a bridge is done.
 ghost use Rattle.std.specs.Prelude.{◌≡◌, ◌++◌, decimal};
 ghost use Rattle.wire_spec.specs.Causes.{HasCause};
 ghost use Rattle.wire_spec.specs.Content.{Puts};

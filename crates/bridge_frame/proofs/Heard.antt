@@ -1,4 +1,4 @@
--- The events of a packet, heard one after another: the Ethernet frames of their SNDUs are handed out.
+-- The events of a packet, taken one after another: the Ethernet frames of their SNDUs are handed out.
 use Rattle.std.proofs.Common.{◌≡◌, ℕ, List, [], ◌∷◌, ◌++◌, flat_map, refl, ap, sym, ◌∙◌, subst, drop, length, Bor}
 use Rattle.std.proofs.lemmas.List.{drop_at}
 use Rattle.std.proofs.lemmas.List.Folds.{flat_map-map}

@@ -37,7 +37,7 @@ frames_of_events events = flat_map frame_of_event events
 
 -- The outlet's words stand before: what it stands for, what it refused, its services and its faults.
 module _ {T A E : Type 0} (StandsFor : T → List (ℕ × List ℕ) → Type 0) (Refused : T → ℕ → List ℕ → Type 0) (services faults : T → ℕ) where
-  -- one event more is heard: some frames are handed out, and these are its own, where its unit is one
+  -- one event more is taken: some frames are handed out, and these are its own where its unit is an SNDU
   pub record HearsSndu (event : Event) (old new : Going T A E) : Type 0 where
     pub frames : List (List ℕ)
     pub hands : HandsOut StandsFor Refused services faults 0 frames old new

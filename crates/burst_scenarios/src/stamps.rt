@@ -1,5 +1,5 @@
-//! Stamps that are not those of the sender. Sections of a service with time slicing need only come at times that part its frames as they
-//! announce; of all other services stamps say nothing.
+//! Stamps that are not those of the sender. Sections of a service with time slicing need only come at times that separate its frames as
+//! they announce; of all other services stamps say nothing.
 //!
 //! | Record | What |
 //! |---|---|

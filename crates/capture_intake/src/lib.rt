@@ -1,6 +1,6 @@
 //! The one reading of a capture: record by record, to what takes them; and how a command ends that does so.
 //!
-//! Sending: Source -> pcap_file -> [capture_intake] -> a taker, as the lists of a plan's services, or the frames of a bridge.
+//! Sending: Source -> pcap_file -> [capture_intake] -> the `CaptureTaker` of a command.
 //! Begin with `read_capture`.
 #![tactic(auto)]
 

@@ -285,7 +285,7 @@ fn comes(alloc: Global, stream: &[u8], loss: &Loss<'_>) -> Result<(), Fail> {
 }
 
 /// The loss law over the parts of a stream: each service's datagrams come unchanged, in order, each at most once, and each whose unit
-/// arrived whole while the service was heard on its PID.
+/// arrived whole while the version in force had the service on its PID.
 #[test]
 fn what_arrives_whole_is_delivered_over_changes(rt: HostRuntime) -> Result<(), Fail> {
     let stream = stream_of(rt.alloc(), &BOTH_MOVE)?;

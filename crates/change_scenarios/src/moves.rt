@@ -299,7 +299,7 @@ fn comes(alloc: Global, streams: &Streams, case: &Case<'_>) -> Result<(), Fail> 
     comes_as_told(alloc, case.name, case.sent, &recording, &due)
 }
 
-/// The version in force is the highest that an accepted INT of the platform has said; a service is heard where this version has it.
+/// The version in force is the highest that an accepted INT of the platform has said; a service is received where this version has it.
 #[test]
 fn a_service_is_heard_where_the_version_in_force_has_it(rt: HostRuntime) -> Result<(), Fail> {
     let streams = Streams::new(rt.alloc())?;

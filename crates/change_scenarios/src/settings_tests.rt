@@ -16,7 +16,7 @@ struct Case<'a> {
     line: &'a str,
 }
 
-/// The lines of services as they are at first, and behind them those of each change.
+/// The lines of services as they are at first, and after them those of each change.
 const LISTED: Case = Case {
     settings: &[INT, LECTURE, FILES, MOVED_TWICE],
     status: Status::Done,

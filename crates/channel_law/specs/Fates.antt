@@ -18,7 +18,8 @@ source (damaged n) = Some n
 source (copy i) = None
 source inserted = None
 
--- a kept record has its bytes; a copy stands behind a kept record, and has the bytes of that; a receiver of these PIDs reads nothing in an inserted one
+-- a kept record has its bytes; a copy stands after a kept record, and has the bytes of that; a receiver of these PIDs reads nothing in an
+-- inserted one
 abbrev pub IsSo : List ℕ → (sent recorded : List Record) → (fate : ℕ → Fate) → (j : ℕ) → Fate → Type 0
 IsSo pids sent recorded fate j (kept n) = (n < length sent) × ((record_at recorded j).bytes ≡ (record_at sent n).bytes)
 IsSo pids sent recorded fate j (damaged n) = n < length sent

@@ -1,6 +1,6 @@
 //! Definitions over a whole transmission: the channel, what arrived intact, and what a recording delivers.
 //!
-//! Words for contracts, and no code but examples of them. They stand on ts_spec and wire_spec.
+//! Words for contracts, and no code but examples of them. They stand on ts_spec.
 #![tactic(auto)]
 
 ghost use Rattle.std.specs.Prelude.{◌≡◌, ℕ, []};

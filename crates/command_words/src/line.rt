@@ -1,4 +1,4 @@
-//! The command line as `clap` is told of it: ten subcommands, each with one required value, `relay` with two.
+//! The command line as it is described to `clap`: ten subcommands, each with one required value, `relay` with two.
 ghost use Rattle.std.specs.Prelude.{◌≡◌, false, IfOk, map, string_bytes, IfErr};
 ghost use Rattle.clap.specs.Words.{app_of, takes};
 ghost use Rattle.clap.specs.declared.Command.{out-Command as fields_of};

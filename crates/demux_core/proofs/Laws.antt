@@ -23,7 +23,7 @@ use Rattle.reception_law.proofs.VersionInForce.{at_end, most, without_table, ver
 use Rattle.reception_law.proofs.DeliveredPairs.{one_given, none_given, int_closes, end_closes}
 
 pub record Laws (plan : PlanFields) : Type 0 where
-  -- a span grows by the record where it is heard; where a record moves a service, the span on the new PID is blank
+  -- the span on the PID in force grows by the record; where a record moves a service, the span on the new PID is blank
   pub heard : (k pid : ℕ) (records : List Record) (r : Record) → pid_in_force plan k records ≡ Some pid
       → span_of plan k pid (records ++ r ∷ []) ≡ span_of plan k pid records ++ r ∷ []
   pub blank : (k old new : ℕ) (records : List Record) (r : Record) → pid_in_force plan k records ≡ Some old

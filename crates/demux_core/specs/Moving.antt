@@ -36,7 +36,7 @@ abbrev pub AllFollow : PlanFields → ℕ → List ServiceReceiver → List Serv
 AllFollow plan version olds news =
     (k : ℕ) (old new : ServiceReceiver) → slice_get olds k ≡ Some old → slice_get news k ≡ Some new → Follows (pid_in plan version k) old new
 
--- what a service that goes from one PID to another gives of these datagrams: all of them where it leaves its PID, else none
+-- what a service that goes from one PID to another gives of these datagrams: all of them where it leaves its PID, otherwise none
 abbrev pub where_left : Option ℕ → ℕ → List (List ℕ) → List (List ℕ)
 where_left None pid datagrams = []
 where_left (Some next) pid datagrams = if next == pid then [] else datagrams

@@ -55,7 +55,7 @@ fn clear_places(places: &mut [u8])
     places.fill(NO_SERVICE);
 }
 
-/// Makes a table anew that of these receivers, whatever it was: no PID that they left has an entry.
+/// Makes a table that of these receivers, whatever it was before: no PID that they left has an entry.
 pub(crate) fn renew_places(places: &mut [u8], receivers: &[ServiceReceiver<'_>])
     requires few { length receivers.now ≤ 64 }
     requires size { length places.old ≡ 8192 }

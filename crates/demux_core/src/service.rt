@@ -102,7 +102,7 @@ fn fec_reception(
 }
 
 impl<'a> ByKind<'a> {
-    /// Begins anew: nothing was received.
+    /// Begins again: nothing was received.
     fn begin_anew(&mut self)
         ensures fresh { (form : RecordingForm) (it : ServiceFields) → ReadsKind form self.old it.kind → IsFresh form it self.new }
     {

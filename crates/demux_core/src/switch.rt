@@ -51,8 +51,8 @@ fn follow<T: Outlet>(
     }
 }
 
-/// Moves each service to its PID in a version that a record put in force, in the order of the plan. What a service leaves is not heard
-/// any more: the frames under way there are closed.
+/// Moves each service to its PID in a version that a record put in force, in the order of the plan. On a PID that a service leaves
+/// nothing more is received: the frames under way there are closed.
 ///
 /// Failed: the outlet refused a datagram, and those after it are not offered. The services move all the same.
 pub(crate) fn move_services<T: Outlet>(

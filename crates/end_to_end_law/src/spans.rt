@@ -31,9 +31,9 @@ use ts_packet::{null_packet_is_read, written_packets_are_read};
 /// the service delivers over its spans wanted datagrams that were offered to it in all versions, unchanged, in order and each once,
 /// with each whose unit arrived intact in a span.
 ///
-/// A service of MPE-FEC frames delivers frame by frame what is recovered, if it is heard often, or with time slicing if accepted sections come
-/// at times that separate the frames: the datagrams that came in sections of their own at least, and all where each row has at most 64 bytes that the sections that
-/// arrived intact do not tell.
+/// A service of MPE-FEC frames delivers frame by frame what is recovered, if without time slicing sections are accepted often, and with it
+/// accepted sections come at times that separate the frames: at least the datagrams that came in sections of their own, and all where each
+/// row has at most 64 bytes that the sections that arrived intact do not tell.
 pub fn what_arrives_of_a_capture()
     ensures arrives { (plan : PlanFields) (capture : List ℕ) (told records : List (List ℕ)) → IsSent plan capture told records
         → (carries : Carries plan (sent_records plan records) (offered_on plan capture told))
@@ -50,7 +50,7 @@ pub fn what_arrives_of_a_capture()
 }
 
 /// Of a stream that was recorded as it was sent the version in force at each packet of a service is that of the part in which the packet stands;
-/// so it is heard on its PID.
+/// so the packet stands in the span of its PID.
 pub fn where_nothing_is_lost_each_packet_is_heard()
     ensures version { (plan : PlanFields) (capture : List ℕ) (told records : List (List ℕ)) (sent : IsSent plan capture told records)
         → (k pid : ℕ) (a : Arrival) → IsPidOf plan k pid → Contains (arrivals pid (sent_records plan records)) a
@@ -71,7 +71,7 @@ pub fn where_nothing_is_lost_each_packet_is_heard()
 }
 
 /// A stream that was recorded as it was sent is a recording of what was sent in spans: it came through a channel without undetected errors,
-/// each service of frames is heard often, and of those with time slicing moments are as they were. So it meets all that is asked of a recording.
+/// sections of frames without time slicing are accepted often, and with it moments are as they were. So it meets all that is asked of a recording.
 pub fn where_nothing_is_lost_a_stream_is_a_recording_of_itself()
     ensures recorded { (plan : PlanFields) (capture : List ℕ) (told records : List (List ℕ)) → IsSent plan capture told records
         → (carries : Carries plan (sent_records plan records) (offered_on plan capture told)) (k : ℕ)

@@ -1,4 +1,4 @@
--- Unknown places are eliminated one by one, and rows whose eliminated values are all 0 are codewords.
+-- Unknown places are eliminated one by one, and a row of whose syndromes nothing is left is a codeword.
 use Rattle.std.proofs.Common.{ℕ, zero, suc, List, [], ◌∷◌, ◌≡◌, ◌+◌, ◌-◌, ◌^◌, ◌<◌, ◌≤◌, inl, inr, false, length, get_or, drop, map, ap, ap₂, sym, subst, ◌∙◌, arith, bit_xor, lit<, length-drop}
 use Rattle.std.specs.Int.Bits.{xor_zero_r, xor_zero_l, xor_self, xor_assoc, xor_lt}
 use Rattle.std.proofs.lemmas.Nat.{xor_comm}
@@ -13,7 +13,7 @@ use Rattle.erasure_law.specs.Roots.{combined, differences, eliminated, place_pow
 use Rattle.erasure_law.proofs.Sums.{sum_of, value_is_differences, weight_of, combined_is, combined_zero, length-roots, row_value_none, row_value_more}
 use Rattle.erasure_law.proofs.Unique.{term, sum_same, one_left, differences_none, weight_is, length-map_powers}
 
--- a value is a byte
+-- the value of a row is a byte
 pub value_fits : (z : ℕ) (row : List ℕ) → row_value z row < 2 ^ 8
 value_fits z [] = subst (λ t. t < 2 ^ 8) (sym (row_value_none z)) (lit< tt)
 value_fits z (c ∷ row) =
@@ -61,7 +61,7 @@ eliminated_more x places t m = combined_more (place_power x) (map place_power pl
 pub eliminated_none : (t : ℕ → ℕ) (m : ℕ) → t m < 2 ^ 8 → eliminated [] t m ≡ t m
 eliminated_none t m fits = xor_zero_r (field_product 1 (t m)) ∙ product_one_left (t m) fits
 
--- where the values below are 0, the highest is left
+-- where the syndromes below are 0, the highest is left
 pub eliminated_top : (places : List ℕ) (t : ℕ → ℕ) (m : ℕ) → ((k : ℕ) → t k < 2 ^ 8) → ((k : ℕ) → k < m + length places → t k ≡ 0) → eliminated places t m ≡ t (m + length places)
 eliminated_top [] t m fits below = let e : m ≡ m + 0 = omega arith in eliminated_none t m (fits m) ∙ ap t e
 eliminated_top (x ∷ places) t m fits below =
@@ -74,7 +74,7 @@ eliminated_top (x ∷ places) t m fits below =
     (ap (λ s. field_product (place_power x) s) (low ∙ below (m + n) (omega arith)) ∙ product_zero_right (place_power x))
     ∙ xor_zero_r (t (m + suc n))
 
--- values are 0 where all that is eliminated from them is 0
+-- syndromes are 0 where nothing is left of them, with no place eliminated, with one, and so on
 zeros_below : (unknown : List ℕ) (t : ℕ → ℕ) → ((k : ℕ) → t k < 2 ^ 8)
     → ((j : ℕ) → j < 64 → eliminated (drop (length unknown - j) unknown) t (j - length unknown) ≡ 0)
     → (n : ℕ) → n ≤ 64 → (k : ℕ) → k < n → t k ≡ 0

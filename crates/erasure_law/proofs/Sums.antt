@@ -74,7 +74,7 @@ row_more a m p (c ∷ row) =
     ∙ xor_swap (field_product a ck) wk (field_product a v) s
     ∙ ap₂ (λ s t. bit_xor s t) (sym (product_sum_right a ck v) ∙ ap (λ t. field_product a t) (sym (row_value_more z c row))) (sym (sum_more (weight_of p (suc m)) c row))
 
--- the values of a row at the powers of 2, combined by a polynomial, are its bytes weighted by the polynomial's values
+-- the syndromes of a row, combined by a polynomial, are its bytes weighted by the polynomial's values
 pub combined_is : (p row : List ℕ) (m : ℕ) → combined p (λ k. row_value (field_power 2 k) row) m ≡ sum_of (weight_of p m) row
 combined_is [] row m = sym (sum_nothing m row)
 combined_is (a ∷ p) row m =

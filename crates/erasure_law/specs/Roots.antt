@@ -37,10 +37,11 @@ abbrev pub without : ℕ → List ℕ → List ℕ
 without i [] = []
 without i (x ∷ xs) = if i == x then without i xs else x ∷ without i xs
 
--- the values from the power m on, combined by the polynomial whose roots are the powers of the places
+-- what is left at m where the places are eliminated from syndromes: the sum of the syndromes from number m on, each times its coefficient of
+-- the polynomial whose roots are the powers of the places
 abbrev pub eliminated : List ℕ → (ℕ → ℕ) → ℕ → ℕ
 eliminated places values m = combined (root_polynomial (map place_power places)) values m
 
--- the values of a row at the powers of 2
+-- the syndromes of a row: number m is its value at the power m of 2
 abbrev pub syndromes_of : List ℕ → ℕ → ℕ
 syndromes_of row m = row_value (field_power 2 m) row

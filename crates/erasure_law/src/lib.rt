@@ -20,13 +20,13 @@ pub fn one_codeword_agrees()
     ensures { (unknown c d : List ℕ) → IsCodeword c → IsCodeword d → ((j : ℕ) → is_among j unknown ≡ true → j < 255) → length unknown ≤ 64 → Agrees unknown c d → c ≡ d }
 {}
 
-/// The byte of a codeword at one of at most 64 unknown places, where the row has 0: times the value of the polynomial whose
-/// roots are the powers of the other unknown places, it is the sum of that polynomial's coefficients times the row's values.
+/// The byte of a codeword at one of at most 64 unknown places, where the row has 0. Let p be the polynomial whose roots are the powers of the
+/// other unknown places: the byte times p at the place's power, which is not 0, is the sum of p's coefficients times the row's syndromes.
 pub fn unknown_byte_is()
     ensures { (unknown row code : List ℕ) (i : ℕ) → IsCodeword code → length row ≡ 255 → i < 255 → ((j : ℕ) → is_among j unknown ≡ true → j < 255) → length unknown ≤ 64 → is_among i unknown ≡ true → Agrees unknown row code → slice_index row i ≡ 0 → (let p = root_polynomial (map place_power (without i unknown)) in (field_product (slice_index code i) (polynomial_value p (place_power i)) ≡ combined p (λ m. row_value (field_power 2 m) row) 0) × (polynomial_value p (place_power i) ≢ 0)) }
 {}
 
-/// With one place more, what is left is the next value that is left without it, and the place's power times the value there.
+/// With one place more, what is left at m is what is left without it at m + 1, plus the place's power times what is left without it at m.
 pub fn one_place_is_eliminated()
     ensures { (place : ℕ) (places : List ℕ) (values : ℕ → ℕ) (m : ℕ) → eliminated (place ∷ places) values m ≡ field_sum (eliminated places values (suc m)) (field_product (place_power place) (eliminated places values m)) }
 {}

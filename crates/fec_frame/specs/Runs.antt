@@ -41,7 +41,7 @@ abbrev pub is_left : ℕ → (ℕ → Option ℕ) → ℕ → Bool
 is_left rows known r = lacks_data rows known r && is_none (corrected_row rows known r)
 
 -- The rows from one on and before another are corrected in the application data table, and the others are as they were; the marks of
--- starts are too. So many rows were mended, and so many left.
+-- starts are too. So many rows that lacked data were corrected, and so many were not.
 pub record AreRowsSolved (rows from to : ℕ) (old old_marks new new_marks : List ℕ) (mended left : ℕ) : Type 0 where
   pub long : length new ≡ length old
   pub marks_long : length new_marks ≡ length old_marks

@@ -86,7 +86,7 @@ pub fn gap_end(marks: &[u8], start: usize, limit: usize) -> usize
     end
 }
 
-/// Answers the first place from `from` on and before `limit` where a datagram can start, or else `limit`.
+/// Answers the first place from `from` on and before `limit` where a datagram can start, otherwise `limit`.
 pub fn next_start(marks: &[u8], from: usize, limit: usize) -> usize
     requires order { from ≤ limit }
     requires within { limit ≤ length marks.now }

@@ -56,7 +56,7 @@ fn mark_at(bytes: &[u8], marks: &mut [u8], place: usize, end: usize, limit: usiz
     run
 }
 
-/// Where the known bytes end that begin at place 0, if the state tells that they are all before `limit`; else 0.
+/// Where the known bytes end that begin at place 0, if the state tells that they are all before `limit`; otherwise 0.
 fn told_end(state: &State, rows: usize) -> usize
     requires rows_most { rows ≤ 1024 }
     ensures run { (bytes marks : List ℕ) → TellsKnown rows bytes marks state.now → 0 < result → IsRun marks (191 * rows) 0 result }

@@ -114,7 +114,7 @@ module _ (first : ℕ) (kept : List (List TimedSection)) (n l : ℕ) (s x : Time
   of_x : IsOf (map times_of kept) l (time_of x)
   of_x = contains_member (get_or (map times_of kept) l []) (time_of x) (is_of kept l x in_x)
 
-  -- two of one frame are not parted
+  -- two of one frame are not separated
   together : (timing : Timing) → HasTiming timing first (map times_of kept) → n ≡ l → is_parted timing (time_of s) (time_of x) ≡ false
   together indexed timed same =
       not_from_true (eqb (delta_of s) (delta_of x))

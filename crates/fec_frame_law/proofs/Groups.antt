@@ -1,4 +1,4 @@
--- Sections that are parted rightly make the frames that they came from.
+-- Sections that are separated rightly make the frames that they came from.
 use Rattle.std.proofs.Common.{◌≡◌, ℕ, true, false, List, [], ◌∷◌, ◌++◌, refl, ap, sym, ◌∙◌, append-nil, append_assoc}
 use Rattle.std.proofs.lemmas.Bool.{cond-true, cond-false}
 use Rattle.fec_frame_spec.specs.Sections.{TimedSection}
@@ -42,7 +42,7 @@ parted_behind timing rows group ((x ∷ sections) ∷ kept) off parted =
     ∙ ap (λ (l : List (List TimedSection)). group ∷ l)
     (uncut_together timing rows (x ∷ []) sections (all_sections kept) parted.0 ∙ parted_behind timing rows (x ∷ sections) kept parted.1 parted.2)
 
--- parted frames are received as they were sent, without those of which nothing came
+-- separated frames are received as they were sent, without those of which nothing came
 pub parted_received : (timing : Timing) (rows : ℕ) (kept : List (List TimedSection)) → AreParted timing rows kept
     → received_frames timing rows (all_sections kept) ≡ accepted_frames kept
 parted_received timing rows [] parted = refl

@@ -1,4 +1,4 @@
--- There is one parting of sections into received frames.
+-- There is one way to separate sections into received frames.
 use Rattle.std.proofs.Common.{◌≡◌, ℕ, suc, ◌+◌, ◌<◌, ◌≤◌, true, false, List, [], ◌∷◌, ◌++◌, length, take, refl, ap, ap₂, sym, ◌∙◌, subst, arith, append_assoc}
 use Rattle.std.proofs.lemmas.List.{take_at, get_or_at, length-append}
 use Rattle.fec_frame_spec.specs.Sections.{TimedSection}
@@ -44,7 +44,7 @@ module _ (timing : Timing) (rows : ℕ) where
       cut_off ([] ∷ others) filled cut = absurd (omega (arith, filled 0 (omega arith)))
       cut_off ((y ∷ more) ∷ others) filled cut = cut (omega arith)
 
-  -- each parting is the one that goes section by section
+  -- each way to separate them is the one that goes section by section
   pub one_parting : (sections : List TimedSection) (frames : List (List TimedSection)) → AreReceivedFrames timing rows sections frames → received_frames timing rows sections ≡ frames
   one_parting sections frames are =
       let parts = parted frames are.some are.within are.between in

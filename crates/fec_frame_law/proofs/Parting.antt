@@ -1,4 +1,4 @@
--- Received frames are the one parting of their sections.
+-- Sections are separated into received frames in one way.
 use Rattle.std.proofs.Common.{◌≡◌, ◌⊎◌, inl, inr, ℕ, zero, suc, ◌+◌, ◌<◌, ◌≤◌, Bool, true, false, cond, List, [], ◌∷◌, ◌++◌, length, take, flat_map, refl, ap, ap₂, sym, ◌∙◌, arith, append_assoc}
 use Rattle.std.proofs.lemmas.Bool.{cases_lt}
 use Rattle.std.proofs.lemmas.List.{take-append-le, take_at, get_or_append_left, get_or_at, length-append}
@@ -92,7 +92,7 @@ module _ (timing : Timing) (rows : ℕ) where
               ap (λ (k : ℕ). is_cut timing rows (frame_at (frames_from timing rows (x ∷ []) sections) n) (section_at (frame_at (group ∷ frames_from timing rows (x ∷ []) sections) k) 0)) e
               ∙ anew.between n (omega (arith, low))
 
-  -- the sections are parted into their received frames
+  -- the sections are separated into their received frames
   pub received_are : (sections : List TimedSection) → AreReceivedFrames timing rows sections (received_frames timing rows sections)
   received_are [] = record {
     whole = refl;

@@ -1,4 +1,4 @@
--- Events of packets with frames: what each adds to what was heard.
+-- Events of packets with frames: what each adds to what was taken.
 use Rattle.std.proofs.Common.{◌≡◌, ◌⊎◌, inl, inr, ℕ, zero, suc, ◌+◌, ◌^◌, ◌<◌, ◌≤◌, Bool, cond, List, [], ◌∷◌, ◌++◌, length, map, refl, ap, sym, ◌∙◌, subst, arith, append_assoc, append-nil, length-append, Result, Bor}
 use Rattle.std.specs.List.{flat_map, count_by}
 use Rattle.std.proofs.lemmas.List.Sums.{count_by-le-length, sum_by-append}
@@ -95,7 +95,7 @@ unread_more rows given event few =
     ))
     ∙ sym (ap (count_by (is_unread rows)) (units_in-append given (event ∷ [])) ∙ count_more (is_unread rows) (units_in given) (units_in (event ∷ [])))
 
--- an event is heard: its sections were taken, and it is counted
+-- an event is taken: its sections were placed, and it is counted
 pub event_heard : (timing : Timing) (rows : ℕ) (links : PidNumbers) (given : List Event) (event : Event) (old new : FramesState)
     → HasHeardFrames timing rows links given old
     → new.on_pid ≡ counted_event old.on_pid event
@@ -216,7 +216,7 @@ module _ {T A E : Type 0} (StandsFor : T → List (ℕ × List ℕ) → Type 0) 
         (sym (append-nil (timed_sections_in rows moment unit))) (delivered timing rows closed group proper same);
   }
 
--- A listener that hears each event so hears all of them so.
+-- A listener that takes each event so takes all of them so.
 module _ {L T A E : Type 0} (StandsFor : T → List (ℕ × List ℕ) → Type 0) (Refused : T → ℕ → List ℕ → Type 0) (services faults : T → ℕ)
     (Hears : L → Event → L → Type 0) (view : L → Hearing T A E)
     (each : (old new : L) (event : Event) → Hears old event new → HearsFrames StandsFor Refused services faults event (view old) (view new)) where
@@ -226,7 +226,7 @@ module _ {L T A E : Type 0} (StandsFor : T → List (ℕ × List ℕ) → Type 0
   all_go (event ∷ events) old new (mid, (one, rest)) =
       goes_then StandsFor Refused services faults (view old).number (going_of (view old)) (going_of (view mid)) (going_of (view new)) (each old mid event one).goes (all_go events mid new rest)
 
-  -- what is known once these events were heard after others
+  -- what is known once these events were taken after others
   pub record HaveHeard (timing : Timing) (rows : ℕ) (links : PidNumbers) (given events : List Event) (old new : L) : Type 0 where
     pub heard : HasHeardFrames timing rows links (given ++ events) (view new).frames
     pub delivered : DeliversAfter StandsFor Refused (view old).number (told_after timing rows given events) (going_of (view old)) (going_of (view new))

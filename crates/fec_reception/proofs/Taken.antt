@@ -74,7 +74,7 @@ module _ (timing : Timing) (rows pid : ℕ) (records : List Record) where
         few_in_all section_form pid records few,
       )
 
-  -- what was received, as events heard
+  -- what was received, as events taken
   pub frames_of : (state : FecReceptionState) → HasTaken timing rows pid state records
       → HasFrames timing rows (closed_in false timing rows pid records) (open_in timing rows pid records) state.frames
   frames_of state taken = record {
@@ -185,7 +185,7 @@ stopped_if_not StandsFor Refused service xs ys a b x (Ok y) same delivers = tt
 stopped_if_not StandsFor Refused service xs ys a b x (Err e) same delivers =
     subst (λ (l : List (List ℕ)). DeliversFront (StandsFor a) (StandsFor b) (Refused b) (pairs_of service l)) same delivers.failed
 
--- What is known of a record once the listener heard its events.
+-- What is known of a record once the listener took its events.
 pub record IsTaken {T A E : Type 0} (StandsFor : T → List (ℕ × List ℕ) → Type 0) (Refused : T → ℕ → List ℕ → Type 0) (timing : Timing) (rows pid : ℕ) (state : FecReceptionState)
     (records : List Record) (r : Record) (number : ℕ) (before after : T) (went : Result A E) : Type 0 where
   pub received : HasTaken timing rows pid state (records ++ r ∷ [])

@@ -1,4 +1,4 @@
--- The events of a packet with frames, heard one after another.
+-- The events of a packet with frames, taken one after another.
 use Rattle.std.specs.Prelude.{◌≡◌, ℕ, ◌^◌, ◌<◌, List, [], ◌∷◌, ◌++◌, length, count_by, Result}
 use Rattle.ts_spec.specs.Events.{Event}
 use Rattle.section_spec.specs.Section.{section_form}
@@ -22,7 +22,7 @@ pub record HasFrames (timing : Timing) (rows : ℕ) (closed : List (List TimedSe
   pub seen_is : state.seen.last ≡ last_time group
   pub numbers_are : length closed < 2 ^ 42 → state.of_frames ≡ frame_numbers rows closed
 
--- these events were heard, with the numbers of the packets themselves
+-- these events were taken, with the numbers of the packets themselves
 pub record HasHeardFrames (timing : Timing) (rows : ℕ) (links : PidNumbers) (events : List Event) (state : FramesState) : Type 0 where
   pub frames : HasFrames timing rows (closed_with timing rows [] (sections_of_events rows events)) (open_with timing rows [] (sections_of_events rows events)) state
   pub on_pid_are : length events < 2 ^ 64 → state.on_pid ≡ with_events links events
@@ -44,7 +44,7 @@ abbrev pub going_of : {T A E : Type 0} → Hearing T A E → Going T A E
 going_of h = record { outlet = h.outlet; went = h.went }
 
 module _ {T A E : Type 0} (StandsFor : T → List (ℕ × List ℕ) → Type 0) (Refused : T → ℕ → List ℕ → Type 0) (services faults : T → ℕ) where
-  -- one event more is heard: it is counted, and the datagrams of the frames that it closes are delivered where none was refused before
+  -- one event more is taken: it is counted, and the datagrams of the frames that it closes are delivered where none was refused before
   pub record HearsFrames (event : Event) (old new : Hearing T A E) : Type 0 where
     pub number_is : new.number ≡ old.number
     pub goes : GoesOn services faults (going_of old) (going_of new)

@@ -116,7 +116,7 @@ impl<A: Allocator> Frames<A> {
     }
 
     /// Takes a unit that reassembly gave, with the moment of the packet with its first byte. Where it is a section of a frame, the frames
-    /// that it closes are delivered; else it is unread.
+    /// that it closes are delivered; otherwise it is unread.
     pub(crate) fn take_unit<T: Outlet>(
         &mut self,
         moment: u64,

@@ -61,7 +61,7 @@ impl<A: Allocator> FecReception<A> {
         }
     }
 
-    /// Begins anew, as where the service goes on to another PID: nothing was received, and nothing is counted. A unit under way and the
+    /// Begins again, as where the service goes on to another PID: nothing was received, and nothing is counted. A unit under way and the
     /// frame that is open are dropped: `close` comes before it.
     pub fn begin_anew(&mut self)
         ensures received { (timing : Timing) (rows pid : ℕ) → IsOver timing rows self.old.frames → HasTaken timing rows pid self.new [] }

@@ -25,7 +25,7 @@ HasCodeword unknown row = (code : List ℕ) × IsCodeword code × Agrees unknown
 abbrev pub IsCorrectable : List ℕ → List ℕ → Type 0
 IsCorrectable unknown row = (length unknown ≤ 64) × HasCodeword unknown row
 
--- the corrected row: the codeword that agrees, where at most 64 places are unknown and there is one; else the row as it is (EN 301 192 clause 9)
+-- the corrected row: the codeword that agrees, where at most 64 places are unknown and there is one; otherwise the row as it is (EN 301 192 clause 9)
 abbrev pub IsCorrected : List ℕ → List ℕ → List ℕ → Type 0
 IsCorrected unknown row new =
     ((length unknown ≤ 64) × IsCodeword new × Agrees unknown row new) ⊎ ((IsCorrectable unknown row → ⊥) × (new ≡ row))

@@ -18,7 +18,7 @@ fn front_of(run: &[u8]) -> Option<&[u8]>
     }
 }
 
-/// Where the known bytes end that begin at place 0, if they are known to be all of the application data table; else 0.
+/// Where the known bytes end that begin at place 0, if they are known to be all of the application data table; otherwise 0.
 fn first_run<A: Allocator>(table: &Table<A>, limit: usize) -> usize
     requires limit { limit ≡ 191 * table.now.rows }
     ensures run { 0 < result → IsRun table.now.marks limit 0 result }

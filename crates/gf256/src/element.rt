@@ -8,7 +8,7 @@ use crate::halves::{HIGH_HIGH, HIGH_LOW, LOW_HIGH, LOW_LOW};
 #[derive(Clone, Copy, Debug, PartialEq, Eq)]
 pub struct Gf(pub u8);
 
-/// The product where it is wanted, else the first element.
+/// The product where it is wanted, otherwise the first element.
 fn multiplied(done: Gf, base: Gf, is_wanted: bool) -> Gf
     ensures { result.0 ≡ (if is_wanted then field_product done.0 base.0 else done.0) }
 {

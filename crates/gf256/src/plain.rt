@@ -20,7 +20,7 @@ fn doubled(value: u8) -> u8
     }
 }
 
-/// The value where the bit is 1, else 0.
+/// The value where the bit is 1, otherwise 0.
 fn chosen(bit: u8, value: u8) -> u8
     ensures { result ≡ (if bit == 1 then value else 0) }
 {

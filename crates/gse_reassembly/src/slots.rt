@@ -149,7 +149,7 @@ impl<A: Allocator> Slots<A> {
         self.frame_number += 1;
     }
 
-    /// Opens a Frag ID anew with the first fragment of a PDU; what was open there is dropped.
+    /// Opens a Frag ID with the first fragment of a PDU; what was open there is dropped.
     ///
     /// `written` is how many bytes of the label stand in the packet. `NoStart` is never answered.
     pub fn start(

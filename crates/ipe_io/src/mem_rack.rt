@@ -101,7 +101,7 @@ impl Rack for MemRack {
 
     ghost told = { λ s. record { count = length s.files; files = Some s.files; faults = s.faults } };
 
-    /// Adds an empty file where one is unused. It fails where none is, and can want memory for the name.
+    /// Adds an empty file where one is unused. It fails where none is, and can be out of memory for the name.
     fn add(&mut self, alloc: Global, name: &str) -> Result<u32, AddFault>
         ensures place { IfOk result (λ at. at ≡ length self.old.files) }
         ensures written { OnOk result (self.new.files ≡ self.old.files ++ empty_file name.now ∷ []) }

@@ -75,7 +75,7 @@ module _ (plan : PlanFields) (k : ℕ) where
       ∙ ap (λ (t : List Record). map timed_packet (arrivals pid t)) (sym (both_filters pid there records))
       ∙ sym (packets_kept pid (filter (is_for plan k) records))
 
-  -- so the version in force behind the records is the same: the sections of the INT are, or nothing changes
+  -- so the version in force after the records is the same: the sections of the INT are, or nothing changes
   version_same : (records : List Record)
       → version_behind plan (table_sections plan records) ≡ version_behind plan (table_sections plan (filter (is_for plan k) records))
   version_same records = by_changes (length plan.changes == 0) refl

@@ -2,7 +2,7 @@
 //! datagram_sections, and in MPE-FEC frames (EN 301 192 clause 9).
 //!
 //! Laws over definitions alone: each is a function that does nothing, whose contract is the law.
-//! They stand on reception_spec, stream_spec and channel_law; what receives stands on them.
+//! They stand on reception_spec, stream_spec and channel_law; end_to_end_law and recording_law stand on them.
 //! Begin with `each_service_delivers_over_its_spans`.
 #![tactic(auto)]
 

@@ -68,7 +68,7 @@ pub fn a_span_is_of_its_recording()
     ensures is { (plan : PlanFields) (k pid : ℕ) (records : List Record) → IsSpanOf (span_of plan k pid records) records }
 {}
 
-/// One record more is one record more of each span: itself where the service is heard on the PID, a blank one elsewhere.
+/// One record more is one record more of each span: itself where the version in force has the service on the PID, a blank one otherwise.
 pub fn a_span_grows_with_its_recording()
     ensures more { (plan : PlanFields) (k pid : ℕ) (records : List Record) (r : Record)
         → span_of plan k pid (records ++ r ∷ []) ≡ span_of plan k pid records ++ (if is_heard_on plan records k pid (length records) then r else no_record) ∷ [] }

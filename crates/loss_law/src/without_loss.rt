@@ -45,7 +45,7 @@ pub fn where_nothing_is_lost_all_is_delivered()
 {}
 
 /// Of a stream that was recorded as it was sent a service delivers over its spans all wanted datagrams, one PID after another, where each packet
-/// of its PIDs is heard: where it stands in the span of its PID. And what was sent is then a recording of itself.
+/// of its PIDs stands in the span of its PID. And what was sent is then a recording of itself.
 pub fn where_each_packet_is_heard_all_is_delivered()
     ensures all { (plan : PlanFields) (k : ℕ) → k < length plan.services
         → (sent : List Record) (datagrams : ℕ → List (List ℕ)) (carries : CarriesFor plan k sent datagrams)

@@ -69,7 +69,7 @@ impl Finder {
         })
     }
 
-    /// Takes the next record. It wants memory only with the record that completes the first PAT.
+    /// Takes the next record. It can be out of memory only at the record that completes the first PAT.
     ///
     /// After an Err the finder is closed, and may not be stepped again.
     pub fn step(&mut self, item: &Record) -> Result<(), OutOfMemory>

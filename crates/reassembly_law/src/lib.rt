@@ -1,7 +1,7 @@
 //! Laws of reassembly packet by packet, over definitions alone.
 //!
 //! A receiver that keeps the unit under way and the packet received last gives the events of the whole recording.
-//! They stand on wire_spec and ts_spec; unit_stream is proved by them. Begin with `one_packet_more`.
+//! They stand on ts_spec; unit_stream is proved by them. Begin with `one_packet_more`.
 #![tactic(auto)]
 
 ghost use Rattle.std.specs.Prelude.{List, ℕ};

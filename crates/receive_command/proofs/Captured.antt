@@ -1,4 +1,4 @@
--- The captures of a recording, from what one reading wrote behind the heads, and from the flush.
+-- The captures of a recording, from what one reading wrote after the heads, and from the flush.
 use Rattle.std.proofs.Common.{◌≡◌, inl, inr, ℕ, ◌+◌, ◌*◌, ◌^◌, ◌<◌, ◌≤◌, false, List, [], ◌∷◌, ◌++◌, length, take, refl, ap, sym, ◌∙◌, subst, arith, Option, IfSome, Result, Ok, Err}
 use Rattle.std.proofs.Math.Nat.{mul-le-mul_left}
 use Rattle.std.proofs.lemmas.List.{length_push}

@@ -92,7 +92,7 @@ ReceivesFiles result plan input now rack now_rack Unread =
     (λ done. EndsWhole plan input.left now.left rack.files now_rack.files)
     (Unread × (now_rack.count ≡ rack.count) × Stays rack.files now_rack.files) ⊥
 
--- the captures, and then the report on an output: without it, where memory runs out behind the captures; part of it, where the output fails
+-- the captures, and then the report on an output: without it, where memory runs out after the captures; part of it, where the output fails
 pub record Receives (result : Result ⊤ ReceiveFault) (plan : PlanFields) (input now : InputTold) (rack now_rack : RackTold) (output now_output : OutputTold) (Unread Silent : Type 0) : Type 0 where
   pub into : ReceivesInto result plan input now rack now_rack
       (λ done. EndsReported plan input.left now.left rack.files now_rack.files output.held now_output.held × IsFlushed now_output.held now_output.flushed)

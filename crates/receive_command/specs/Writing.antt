@@ -65,7 +65,7 @@ pub record StopsBehind (plan : PlanFields) (first : ℕ) (old new : Option (List
   pub less : count < length (capture_record datagram)
   pub files : Grow old new (records_and first service (take count (capture_record datagram)) (told_pairs plan pieces ++ front))
 
--- how a reading of these pieces and the bytes behind them ends
+-- how a reading of these pieces and the bytes after them ends
 abbrev pub WriteEnds : Result ℕ ReadFault → PlanFields → ℕ → InputTold → InputTold → RackTold → RackTold → ByCarrier → List (List ℕ) → List ℕ → Type 0
 WriteEnds (Ok tail) plan first input now rack now_rack receiver pieces behind =
     (tail ≡ length behind) × (length pieces < most_records) × IsAtEnd now.left × (now.ended ≡ true) × (now.faults ≡ input.faults) × (now_rack.faults ≡ rack.faults)

@@ -1,4 +1,4 @@
--- The PIDs of a service, each of which it has once: those before that of a version, this one, and those behind it.
+-- The PIDs of a service, each of which it has once: those before that of a version, this one, and those after it.
 use Rattle.std.proofs.Common.{◌≡◌, ◌⊎◌, inl, inr, ℕ, zero, suc, ◌+◌, ◌<◌, ◌≤◌, Bool, true, false, not, ◌||◌, cond, eqb, Option, None, Some, List, [], ◌∷◌, ◌++◌, length, map, flat_map, fold, refl, sym, ap, ◌∙◌, arith, append_assoc}
 use Rattle.std.specs.List.{list_any, range_with_len}
 use Rattle.std.proofs.lemmas.Bool.{or_parts, eqb-true, cases_lt}
@@ -113,7 +113,7 @@ pids_behind front x xs (o ∷ os) =
     ∙ pids_behind front x one.0 os
     ∙ ap (λ (l : List ℕ). front ++ fold with_pid_behind l os) (sym one.1)
 
--- The PIDs of numbers, parted at one of the numbers: those of the numbers up to it stand up to its PID, those of later ones from it on.
+-- The PIDs of numbers, divided at one of the numbers: those of the numbers up to it stand up to its PID, those of later ones from it on.
 
 start_is : (s : ℕ) → s + 0 ≡ s
 start_is s = omega arith
@@ -271,7 +271,7 @@ table_apart plan int right version k pid within known is own = by_test (eqb int.
         sym there ∙ ap (λ (n : ℕ). is_in n (flat_map (pids_in plan) (range_with_len 0 (length plan.services)))) (sym (eqb-true int.pid pid e)) ∙ absent in
         absurd (cc (never))
 
--- The PIDs of a service, parted at a version.
+-- The PIDs of a service, divided at a version.
 pub record AreParted (plan : PlanFields) (k pid version : ℕ) : Type 0 where
   pub before : List ℕ
   pub behind : List ℕ

@@ -47,7 +47,7 @@ from_behind plan k pid all place end [] r is =
 from_behind plan k pid all place end (x ∷ records) r is =
     ap (λ (t : List Record). cond (is_heard_on plan all k pid place) x no_record ∷ t) (from_behind plan k pid all (place + 1) end records r (omega (arith, is)))
 
--- it is the record where the service is heard on the PID by the records before it, and a blank one elsewhere
+-- it is the record where the version in force after the records before it has the service on the PID, and a blank one otherwise
 pub span_more : (plan : PlanFields) (k pid : ℕ) (records : List Record) (r : Record)
     → span_of plan k pid (records ++ r ∷ []) ≡ span_of plan k pid records ++ cond (is_heard_on plan records k pid (length records)) r no_record ∷ []
 span_more plan k pid records r =
@@ -81,7 +81,7 @@ span_blank plan k pid other records r on differs = span_by plan k pid records r 
 
 -- What a span that grows by a record of no use gives: the same as before.
 
--- the record is no packet of the PID, where the service is heard on it
+-- the version in force does not have the service on the PID, or the record is no packet of it
 abbrev pub IsOff : PlanFields → ℕ → ℕ → List Record → Record → Type 0
 IsOff plan k pid records r = (is_heard_on plan records k pid (length records) ≡ false) ⊎ (is_on pid r ≡ false)
 
@@ -185,7 +185,7 @@ no_numbers_on form on pid (inl is) records none =
     ap (λ (o : Option ℕ). numbers_if_on form o records) is ∙ ap (numbers_by form) none
 no_numbers_on form on pid (inr is) records none = ap (λ (o : Option ℕ). numbers_if_on form o records) is
 
--- where the service is heard on the PID at none of the records
+-- where the version in force has the service on the PID at none of the records
 pub blank_where : (plan : PlanFields) (k pid : ℕ) (records : List Record) → ((p : ℕ) → p < length records → is_heard_on plan records k pid p ≡ false) → IsBlank plan k pid records
 blank_where plan k pid records none = record {
   span = span;

@@ -22,7 +22,7 @@ use Rattle.reception_law.proofs.ServiceSpans.{IsOff, not_heard, span_heard, tell
 
 -- Spans to come.
 
--- a PID that is not that of a version up to the one in force is heard at none of the records
+-- the span of a PID that the service has in no version up to the one in force is blank
 not_yet : (plan : PlanFields) (k pid : ℕ) (records : List Record) (version : ℕ) → ((p : ℕ) → p < length records → version_at_place plan records p ≤ version)
     → ((earlier : ℕ) → earlier ≤ version → has_pid (pid_in plan earlier k) pid ≡ false) → IsBlank plan k pid records
 not_yet plan k pid records version below never = blank_where plan k pid records (λ p less. never (version_at_place plan records p) (below p less))
@@ -38,7 +38,7 @@ below_next plan records r p less =
       before plan records (r ∷ []) (length records) (omega arith),
     )
 
--- those behind that of the version in force
+-- those after that of the version in force
 behind_blank : (plan : PlanFields) (k pid : ℕ) (records : List Record) (parts : AreParted plan k pid (version_at_end plan records)) (x : ℕ) → is_in x parts.behind ≡ true
     → IsBlank plan k x records
 behind_blank plan k pid records parts x there = not_yet plan k x records (version_at_end plan records) (below_end plan records) (parts.later x there)

@@ -17,7 +17,7 @@ use Rattle.reception_law.specs.Sums.{no_units, unit_numbers_on}
 abbrev pub sections_ended : PlanFields → List Record → Record → List (List ℕ)
 sections_ended plan records r = drop (length (table_sections plan records)) (table_sections plan (records ++ r ∷ []))
 
--- the PID of service k in the version in force behind the records
+-- the PID of service k in the version in force after the records
 abbrev pub pid_in_force : PlanFields → ℕ → List Record → Option ℕ
 pid_in_force plan k records = pid_in plan (version_at_end plan records) k
 
@@ -54,7 +54,7 @@ pub record ComesLater (plan : PlanFields) (k pid version : ℕ) : Type 0 where
   pub within : later ≤ length plan.changes
   pub has_it : pid_in plan later k ≡ Some pid
 
--- nothing was heard of service k on the PID: its span is blank, and gives and counts nothing
+-- the span of service k on the PID is blank: it gives and counts nothing
 pub record IsBlank (plan : PlanFields) (k pid : ℕ) (records : List Record) : Type 0 where
   pub span : span_of plan k pid records ≡ map (λ (r : Record). no_record) records
   pub packets : received_packets pid (span_of plan k pid records) ≡ []

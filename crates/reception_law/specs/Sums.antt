@@ -23,7 +23,7 @@ unit_numbers_on plan k records pid = unit_numbers (service_on plan k pid) (units
 abbrev pub other_pids : PlanFields → ℕ → ℕ → List ℕ
 other_pids plan k pid = filter (λ other. not (other == pid)) (pids_in plan k)
 
--- the sums over them: where service k is heard on the PID, the numbers of the spans before
+-- the sums over them: where service k is on the PID, the numbers of its spans before
 abbrev pub numbers_before : PlanFields → ℕ → ℕ → List Record → PidNumbers
 numbers_before plan k pid records = fold sum_of_numbers no_numbers (map (numbers_on plan k records) (other_pids plan k pid))
 

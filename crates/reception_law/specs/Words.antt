@@ -13,7 +13,7 @@ added_by form service records r = drop (length (told_by false form service recor
 abbrev pub closed_by : RecordingForm → ServiceFields → List Record → List (List ℕ)
 closed_by form service records = drop (length (told_by false form service records)) (told_by true form service records)
 
--- the same of the span of service k on a PID: what a record adds where it is heard on the PID, and what is left where it is no longer
+-- the same of the span of service k on a PID: what one record more adds to it, and what its frame under way gives where no more records come
 abbrev pub added_on : PlanFields → ℕ → ℕ → List Record → Record → List (List ℕ)
 added_on plan k pid records r = added_by plan.recording (service_on plan k pid) (span_of plan k pid records) r
 

@@ -93,7 +93,7 @@ pub fn counters_of_64_bits_hold_all_numbers()
         → length plan.changes ≤ 31 → length records ≤ 2 ^ 32 → FramesAreAtMost (2 ^ 63) (told_frame_numbers plan k records) }
 {}
 
-/// One record more is one packet more of no service and not of the INT, or none, by the version in force behind those before it.
+/// One record more is one packet more of no service and not of the INT, or none, by the version in force after those before it.
 pub fn others_come_record_by_record()
     ensures none { (plan : PlanFields) → others_from plan [] 0 [] ≡ 0 }
     ensures more { (plan : PlanFields) (records : List Record) (r : Record)

@@ -26,7 +26,7 @@ pub fn a_packet_is_of_one_service_or_the_int()
     ensures packets { (a b : ℕ) (r : Record) → a ≢ b → is_on a r ≡ true → is_on b r ≡ false }
 {}
 
-/// One record more is one record more of each span: itself on the PID in force behind those before it, a blank one on others.
+/// One record more is one record more of each span: itself on the PID in force after those before it, a blank one on others.
 pub fn a_span_grows_record_by_record()
     ensures more { (plan : PlanFields) (k pid : ℕ) (records : List Record) (r : Record)
         → span_of plan k pid (records ++ r ∷ []) ≡ span_of plan k pid records ++ (if is_heard_on plan records k pid (length records) then r else no_record) ∷ [] }
@@ -36,7 +36,7 @@ pub fn a_span_grows_record_by_record()
         → span_of plan k pid (records ++ r ∷ []) ≡ span_of plan k pid records ++ no_record ∷ [] }
 {}
 
-/// On a PID to which a service comes later nothing was heard of it, also where the last record itself brings the version of the PID.
+/// The span on a PID to which a service comes later is blank, also where the last record itself brings the version of the PID.
 pub fn a_span_to_come_is_blank()
     ensures blank { (plan : PlanFields) (k pid : ℕ) (records : List Record) → has_wrong_change plan ≡ false → ComesLater plan k pid (version_at_end plan records)
         → IsBlank plan k pid records }

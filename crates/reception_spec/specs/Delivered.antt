@@ -24,8 +24,8 @@ told_by ended form service records =
 abbrev pub service_on : PlanFields → ℕ → ℕ → ServiceFields
 service_on plan k pid = on_pid (slice_index_or plan.services k no_service) pid
 
--- after the records no section can come to a frame of service k on this PID: the service is not heard there, and a PID that was left is
--- not taken again. On a PID that it comes to later there is no frame yet
+-- after the records no section can come to a frame of service k on this PID: the version in force does not have the service there, and
+-- a PID that was left is not taken again. On a PID that it comes to later there is no frame yet
 abbrev pub takes_no_more : PlanFields → List Record → ℕ → ℕ → Bool
 takes_no_more plan records k pid = not (has_pid (pid_in plan (version_at_end plan records) k) pid)
 

@@ -1,4 +1,4 @@
--- The version in force at each record, and the spans of a service: where it has a PID, the records in which that PID is heard.
+-- The version in force at each record, and the span of a service on a PID: the records at which the version in force has the service there.
 use Rattle.std.specs.Prelude.{ℕ, ◌+◌, List, [], ◌∷◌, length, take, if◌then◌else◌, Bool}
 use Rattle.ts_spec.specs.Recording.{Record}
 use Rattle.ts_spec.specs.Received.{no_record}
@@ -15,11 +15,11 @@ version_at_place plan records place = version_behind plan (table_sections plan (
 abbrev pub version_at_end : PlanFields → List Record → ℕ
 version_at_end plan records = version_at_place plan records (length records)
 
--- service k is heard on this PID at the record of a place
+-- the version in force at the record of a place has service k on this PID
 abbrev pub is_heard_on : PlanFields → List Record → ℕ → ℕ → ℕ → Bool
 is_heard_on plan records k pid place = has_pid (pid_in plan (version_at_place plan records place) k) pid
 
--- the records from a place on, and a blank one, which nobody reads, where service k is not heard on the PID
+-- the records from a place on, with a blank one, which nobody reads, for each at which the version in force does not have service k on the PID
 abbrev pub span_from : PlanFields → List Record → ℕ → ℕ → ℕ → List Record → List Record
 span_from plan records k pid place [] = []
 span_from plan records k pid place (r ∷ behind) =

@@ -1,6 +1,6 @@
 //! Definitions of a reception: what a recording delivers of each service of a plan, and every number that is counted of it.
 //!
-//! Words for contracts, and no code but examples of them. They stand on stream_spec, plan_spec and channel_spec.
+//! Words for contracts, and no code but examples of them. They stand on stream_spec, fec_frame_spec and plan_spec.
 //! Standards: ISO/IEC 13818-1 clause 2.4, RFC 4326, EN 301 192 clauses 7 and 8.
 #![tactic(auto)]
 

@@ -17,7 +17,8 @@ pub data CarriesInPieces (plan : PlanFields) (k : ℕ) (sent carried : List (Lis
   in_frames : is_baseband plan ≡ true → CarriesInFramesFor plan k sent carried → CarriesInPieces plan k sent carried
 
 -- The recorded pieces are a recording of them as service k asks it: they came through the channel, no damaged or spliced unit of the service
--- passes its check, no fragments are reassembled to a PDU that was not sent, and a service of MPE-FEC frames is heard as its law asks
+-- passes its check, no fragments are reassembled to a PDU that was not sent, and the sections of a service of MPE-FEC frames are accepted as
+-- its law asks
 abbrev pub IsRecordedInPieces : (plan : PlanFields) (k : ℕ) (sent carried : List (List ℕ)) → CarriesInPieces plan k sent carried → List (List ℕ) → Type 0
 IsRecordedInPieces plan k sent carried (in_packets is datagrams carries same) recorded =
     IsRecordedFor plan k (records_in plan sent) datagrams carries (records_in plan recorded)

@@ -22,7 +22,7 @@ pub record HasTaken (form : RecordingForm) (size : ℕ) (input now : InputTold) 
   pub input_faults : now.faults ≡ input.faults
   pub took : Took (records_of form pieces)
 
--- how a reading ends after these pieces and the bytes behind them
+-- how a reading of these pieces and the bytes after them ends
 abbrev pub Ends : Result ℕ ReadFault → RecordingForm → InputTold → InputTold → (List Record → Type 0) → (List Record → Type 0) → List (List ℕ) → List ℕ → Type 0
 Ends (Ok tail) form input now Took Stopped pieces behind =
     (tail ≡ length behind) × (length pieces < most_pieces) × IsAtEnd now.left × (now.ended ≡ true) × (now.faults ≡ input.faults) × Took (records_of form pieces)
@@ -33,7 +33,7 @@ Ends (Err fault.TooLong) form input now Took Stopped pieces behind =
 Ends (Err fault.Taker) form input now Took Stopped pieces behind =
     (behind ≡ []) × (length pieces ≤ most_pieces) × (now.faults ≡ input.faults) × Stopped (records_of form pieces)
 
--- A recording was read: what an input held begins with these pieces, each of so many bytes, and the bytes behind them, fewer than a piece
+-- A recording was read: what an input held begins with these pieces, each of so many bytes, and the bytes after them, fewer than a piece
 -- has; they were read, and the counter of bytes taken rose by their number; and what stands by the answer.
 pub record Reads (result : Result ℕ ReadFault) (form : RecordingForm) (size : ℕ) (input now : InputTold) (Took Stopped : List Record → Type 0) : Type 0 where
   pub pieces : List (List ℕ)

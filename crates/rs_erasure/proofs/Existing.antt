@@ -16,7 +16,7 @@ use Rattle.erasure_law.proofs.Unique.{clash, differences_fit}
 use Rattle.rs_erasure.proofs.Corrections.{behind_some}
 use Rattle.rs_erasure.proofs.Filling.{divided_back}
 
--- where nothing is left with a place, and nothing of the first without it, nothing is left without it, one value further
+-- where nothing is left with a place, and nothing of the first without it, nothing is left without it, one syndrome further
 pub one_back : (x : ℕ) (places : List ℕ) (t : ℕ → ℕ) (n : ℕ) → ((m : ℕ) → m < n → eliminated (x ∷ places) t m ≡ 0) → eliminated places t 0 ≡ 0
     → (m : ℕ) → m < suc n → eliminated places t m ≡ 0
 one_back x places t n none first zero lt = first
@@ -34,7 +34,7 @@ first_place places d lt =
     let e : suc d ≡ d + 1 = omega arith in
     drop-cons places d 0 lt ∙ ap (λ (k : ℕ). get_or places d 0 ∷ drop k places) e
 
--- nothing is left without the first k places, where nothing is left with all, and nothing of the first value with each number of the last
+-- nothing is left without the first k places, where nothing is left with all, and nothing of the first syndrome with each number of the last
 pub none_behind : (unknown : List ℕ) (t : ℕ → ℕ) (k : ℕ) → k ≤ length unknown
     → ((m : ℕ) → m + length unknown < 64 → eliminated unknown t m ≡ 0)
     → ((j : ℕ) → length unknown - k ≤ j → j < length unknown → eliminated (drop (length unknown - j) unknown) t 0 ≡ 0)

@@ -6,7 +6,7 @@ use Rattle.fec_spec.specs.Row.{is_among}
 use Rattle.fec_spec.specs.Table.{table_row}
 use Rattle.rs_erasure.specs.Columns.{cell}
 
--- column m of the work has the value of the table's row at the power m of 2, each m up to 63
+-- column m of the work has syndrome m of the table's row, for each m up to 63
 abbrev pub HasSyndromes : ℕ → List ℕ → List ℕ → ℕ → Type 0
 HasSyndromes rows table work row = (m : ℕ) → m < 64 → cell rows work m row ≡ syndromes_of (table_row 255 rows table row) m
 

@@ -82,7 +82,7 @@ pub fn decode_run_with_syndromes(
 /// Corrects the rows `from` up to but not including `to` of a table that stands column by column, 255 columns of `rows` bytes,
 /// where the columns of `unknown` are unknown, at most 64 of them.
 ///
-/// `bad` has one byte for each row: in the rows of the run it becomes 1 where no codeword agrees with the known bytes, else 0.
+/// `bad` has one byte for each row: in the rows of the run it becomes 1 where no codeword agrees with the known bytes, otherwise 0.
 /// `work` has 64 × `rows` bytes of any content, and nothing is said of them afterwards.
 pub fn decode_run(
     table: &mut [u8],

@@ -1,4 +1,4 @@
-//! Values of a row at powers of 2, and the powers of places.
+//! The syndromes of a row, which are its values at powers of 2, and the powers of places.
 
 ghost use Rattle.erasure_law.specs.Roots.{place_power};
 ghost use Rattle.fec_spec.specs.Codeword.{row_value};
@@ -38,7 +38,7 @@ pub fn syndromes_of(row: &[u8]) -> [u8; 64]
     syndromes
 }
 
-/// Whether a row is zero at the powers 0 to 63 of 2.
+/// Whether the syndromes of a row at the powers 0 to 63 of 2 are all 0.
 pub fn has_zeros(row: &[u8]) -> bool
     ensures yes { result ≡ true → (m : ℕ) → m < 64 → row_value (field_power 2 m) row.now ≡ 0 }
     ensures no { result ≡ false → (m : ℕ) × (m < 64) × (row_value (field_power 2 m) row.now ≢ 0) }

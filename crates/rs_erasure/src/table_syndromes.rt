@@ -1,7 +1,7 @@
 //! The syndromes of the rows of a run at the powers 0 to 63 of 2.
 //!
 //! 255 is 3 times 5 times 17, so the power 85 of a power of 2 is one of three, and the power 17 one of fifteen. Horner's rule first goes
-//! over every 85th column with each of the three: 85 values of thirds. With each of the fifteen it then goes over every seventeenth of
+//! over every 85th column with each of the three: 85 thirds. With each of the fifteen it then goes over every seventeenth of
 //! these: 17 class values. With each of the 64 powers it then goes over the 17 class values.
 
 ghost use Rattle.fec_spec.specs.Field.{field_power, field_product, field_sum};
@@ -102,7 +102,7 @@ fn find_classes(k: u8, run: Run, thirds: &[u8], classes: &mut [u8])
     }
 }
 
-/// The class syndromes at the powers 17 × k of 2 with k = h, h + 3 and so on, which have the same power 85 × h.
+/// The class values at the powers 17 × k of 2 with k = h, h + 3 and so on, which have the same power 85 × h.
 fn find_some_classes(h: u8, run: Run, table: &[u8], classes: &mut [u8])
     requires order { run.from ≤ run.to }
     requires within { run.to ≤ run.rows }
@@ -134,7 +134,7 @@ fn find_all_classes(run: Run, table: &[u8], classes: &mut [u8])
     }
 }
 
-/// The values at the power m of 2, from 17 columns of the class values from `first` on, in column m of `work`.
+/// The syndromes at the power m of 2, from 17 columns of the class values from `first` on, in column m of `work`.
 fn find_value(m: u8, run: Run, classes: &[u8], first: usize, work: &mut [u8])
     requires order { run.from ≤ run.to }
     requires within { run.to ≤ run.rows }

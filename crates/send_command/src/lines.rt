@@ -1,4 +1,4 @@
-//! The lines that are told of a send.
+//! The lines that are printed at the end of a send.
 ghost use Rattle.std.specs.Prelude.{◌≡◌, ℕ, ◌++◌, [], ◌∷◌, decimal};
 ghost use Rattle.wire_spec.specs.Causes.{HasCause};
 ghost use Rattle.wire_spec.specs.Content.{Puts};

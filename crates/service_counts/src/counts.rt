@@ -5,7 +5,7 @@ ghost use Rattle.service_counts.specs.Sums.{raised_counts};
 /// What was counted of one service. A kind of service that has no such packets, units or frames leaves the number 0.
 #[derive(Clone, Copy, Debug, Default, PartialEq, Eq)]
 pub struct ServiceCounts {
-    /// Packets of the service's PID, or frames of its ISI; duplicates are none.
+    /// Packets of the service's PID, or frames of its ISI; duplicates are not counted.
     pub heard: u64,
     /// Duplicate packets.
     pub repeats: u64,

@@ -238,7 +238,7 @@ refused_settings bytes top error.OutOfMemory is wrong = tt
 pub accepted_settings : (bytes : List ℕ) (top : Members) (plan : PlanFields) → IsDocument bytes top → IsAcceptedTable top plan → IsAccepted bytes plan
 accepted_settings bytes top plan is accepted = record { top = top; document = is; tables = accepted.tables; whole = accepted.whole; gives = accepted.gives }
 
--- accepted settings want memory alone
+-- accepted settings can only be out of memory
 pub only_memory : (bytes : List ℕ) (plan : PlanFields) (e : PlanError) → OnFault e (IsRefused bytes) → IsAccepted bytes plan → e ≡ error.OutOfMemory
 only_memory bytes plan (error.Fault f) refused accepted = absurd (acceptance_is_no_refusal bytes plan (fault_seen f) accepted refused)
 only_memory bytes plan error.OutOfMemory refused accepted = refl

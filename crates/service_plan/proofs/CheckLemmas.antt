@@ -146,7 +146,7 @@ own_count service count urgent is also = omega (arith, is, also, length-append s
 sum_is : (service : ServiceFields) (services : List ServiceFields) → sum_by length (all_rules_of (service ∷ services)) ≡ length (service.rules ++ service.urgent) + sum_by length (all_rules_of services)
 sum_is service services = sum_by-cons length (service.rules ++ service.urgent) (all_rules_of services)
 
--- where a count is wrong all are, else the others decide
+-- where a count is wrong all are, otherwise the others decide
 pub count_wrong : (services : List ServiceFields) (k total count urgent : ℕ) → k < length services → count ≡ length (get_or services k no_service).rules
     → urgent ≡ length (get_or services k no_service).urgent
     → true ≡ ((count == 0) || nat_lt 128 (total + (count + urgent))) → true ≡ (has_no_rule (rules_of (drop k services)) || passes_most total (drop k services))

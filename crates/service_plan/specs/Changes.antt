@@ -18,7 +18,7 @@ pub record IsRead {T V : Type 0} (Spells : T → V → Type 0) (text : T) (value
   pub all : spelled ≡ true → Spells text value
   pub only : (other : V) → Spells text other → (spelled ≡ true) × (other ≡ value)
 
--- the rules that a service has from now on: those of the texts where there are any, else the old ones
+-- the rules that a service has from now on: those of the texts where there are any, otherwise the old ones
 pub record AreNew (texts : Option (List (List ℕ))) (old rules : List Rule) (spelled : Bool) : Type 0 where
   pub given : Option (List Rule)
   pub are : rules ≡ unwrap_or given old

@@ -52,7 +52,7 @@ section_kept plan int table_is sections section before after few short same keep
 pub section_short : (section : List ℕ) → IsUnit section_form section → length section ≤ 4096
 section_short section unit = section_lawful.whole_most section (length section) unit.size
 
--- the events are heard, and their sections are kept
+-- the events are taken, and their sections are kept
 pub kept_heard : (plan : PlanFields) (int : IntFields) → plan.table ≡ Some int → {L : Type 0} (Hears : L → Event → L → Type 0) (view : L → KeptSections) → ((old new : L) (event : Event) → Hears old event new → KeepsEvent event (view old) (view new))
     → (events given : List Event) (old new : L) → HasHeard Hears old events new → AllProper section_form section_lawful events → length (given ++ events) < 2 ^ 64
     → view old ≡ kept_of plan int (units_in given) → view new ≡ kept_of plan int (units_in (given ++ events))

@@ -1,4 +1,4 @@
--- The events of a packet, heard one after another.
+-- The events of a packet, taken one after another.
 use Rattle.std.proofs.Common.{◌≡◌, ℕ, true, ◌^◌, ◌<◌, List, [], ◌∷◌, ◌++◌, length, refl, ap, sym, ◌∙◌, subst, arith, append_assoc, length-append, flat_map, Result, Ok, Err, OnOk, OnErr, Bor}
 use Rattle.std.specs.Prelude.{is_ok}
 use Rattle.std.proofs.lemmas.List.{append-nil}
@@ -77,7 +77,7 @@ module _ {T A E : Type 0} (StandsFor : T → List (ℕ × List ℕ) → Type 0) 
         stays = stays_both old.outlet mid.outlet new.outlet old.went mid.went new.went one.stays then.stays;
       }
 
-  -- A listener that hears each event so hears all of them so.
+  -- A listener that takes each event so takes all of them so.
   module _ {L : Type 0} (Hears : L → Event → L → Type 0) (view : L → Hearing T A E) (form : UnitForm) (lawful : IsLawful form) (IsOfKind : KindFields → Type 0)
       (each : (old new : L) (event : Event) → Hears old event new → HearsEvent StandsFor Refused services faults form IsOfKind event (view old) (view new)) where
     pub all_heard : (it : ServiceFields) (events : List Event) (old new : L) → HasHeard Hears old events new → IsServed IsOfKind (view old).filter it → AllProper form lawful events

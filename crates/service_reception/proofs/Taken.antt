@@ -74,7 +74,7 @@ counting_begins form pid it records moment bytes last joiner before after link o
   of_units_are = units ∙ on.of_units_are;
 }
 
--- the events that the packet adds were heard
+-- the events that the packet adds were taken
 pub told_with : {L : Type 0} (Hears : L → Event → L → Type 0) (form : UnitForm) (pid : ℕ) (records : List Record) (moment : ℕ) (bytes : List ℕ) (last : Option (List ℕ)) (link : Link) (now : JoinerState) (a b : L)
     → last ≡ last_bytes None (received_packets pid records) → is_of pid bytes ≡ true → link ≡ link_of last bytes
     → HasTold form now (packets_with link (received_packets pid records) (packet_at records moment bytes)) (events_of form (received_packets pid records)) Hears a b
@@ -130,7 +130,7 @@ record_stopped (Ok x) form pid it records r a b Refused number events form_is pi
 record_stopped (Err x) form pid it records r a b Refused number events form_is pid_is told stops =
     subst (λ (t : List (List ℕ)). DeliversFront a b Refused (pairs_of number t)) (sym (added_of form pid it records r events form_is pid_is told)) stops
 
--- What is known of a record once the listener heard its events.
+-- What is known of a record once the listener took its events.
 pub record IsHeard {T A E : Type 0} (StandsFor : T → List (ℕ × List ℕ) → Type 0) (Refused : T → ℕ → List ℕ → Type 0) (it : ServiceFields) (state : ReceptionState) (records : List Record) (r : Record)
     (number : ℕ) (before after : T) (went : Result A E) : Type 0 where
   pub received : HasTaken it state (records ++ r ∷ [])

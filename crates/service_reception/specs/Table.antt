@@ -83,7 +83,7 @@ pub record KeepsSection (section : List ℕ) (old new : KeptSections) : Type 0 w
   pub version_is : length section ≤ 4096 → new.version ≡ version_with old (put_in_force old section)
   pub shown_is : length section ≤ 4096 → new.shown ≡ shown_with old section (put_in_force old section)
 
--- one event more is heard: its section is kept
+-- one event more is taken: its section is kept
 abbrev pub KeepsEvent : Event → KeptSections → KeptSections → Type 0
 KeepsEvent (unit_event moment section) old new = KeepsSection section old new
 KeepsEvent bad_check_event old new = new ≡ old

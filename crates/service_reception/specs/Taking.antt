@@ -1,4 +1,4 @@
--- The events of a packet, heard one after another.
+-- The events of a packet, taken one after another.
 use Rattle.std.specs.Prelude.{◌≡◌, ℕ, ◌^◌, ◌<◌, List, [], ◌∷◌, ◌++◌, length, flat_map, Result, OnOk, OnErr}
 use Rattle.wire_spec.specs.Causes.{HasCause}
 use Rattle.ts_spec.specs.Form.{UnitForm, IsUnit}
@@ -42,7 +42,7 @@ pub record Hearing (T A E : Type 0) : Type 0 where
 
 -- The outlet's words stand before: what it stands for, what it refused, its services and its faults.
 module _ {T A E : Type 0} (StandsFor : T → List (ℕ × List ℕ) → Type 0) (Refused : T → ℕ → List ℕ → Type 0) where
-  -- some events were heard: they are counted, and their datagrams delivered up to the first that was refused
+  -- some events were taken: they are counted, and their datagrams delivered up to the first that was refused
   pub record HasHeardAll (it : ServiceFields) (events : List Event) (old new : Hearing T A E) : Type 0 where
     pub counted : (links : PidNumbers) (given : List Event) → length (given ++ events) < 2 ^ 64 → HasCounted it links old.counts given → HasCounted it links new.counts (given ++ events)
     pub told : OnOk old.went (OnOk new.went (Delivers (StandsFor old.outlet) (StandsFor new.outlet) (pairs_of old.number (delivered_of it events))))
@@ -50,7 +50,7 @@ module _ {T A E : Type 0} (StandsFor : T → List (ℕ × List ℕ) → Type 0) 
     pub stays : OnErr old.went ((new.went ≡ old.went) × (new.outlet ≡ old.outlet))
 
 module _ {T A E : Type 0} (StandsFor : T → List (ℕ × List ℕ) → Type 0) (Refused : T → ℕ → List ℕ → Type 0) (services faults : T → ℕ) where
-  -- one event more is heard: it is counted, and its datagrams are delivered where none was refused before
+  -- one event more is taken: it is counted, and its datagrams are delivered where none was refused before
   pub record HearsEvent (form : UnitForm) (IsOfKind : KindFields → Type 0) (event : Event) (old new : Hearing T A E) : Type 0 where
     pub filter_is : new.filter ≡ old.filter
     pub number_is : new.number ≡ old.number

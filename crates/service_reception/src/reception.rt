@@ -62,7 +62,7 @@ impl<K: UnitReader, A: Allocator> Reception<K, A> {
         }
     }
 
-    /// Begins anew, as where the service goes on to another PID: nothing was received, and nothing is counted. A unit under way is
+    /// Begins again, as where the service goes on to another PID: nothing was received, and nothing is counted. A unit under way is
     /// dropped without an event.
     pub fn begin_anew(&mut self)
         ensures received { (it : ServiceFields) (pid : ℕ) → pid_of it.kind ≡ Some pid → HasTaken it self.new [] }

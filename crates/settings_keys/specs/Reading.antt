@@ -12,7 +12,7 @@ use Rattle.settings_keys.specs.declared.fault.PlanFault.{PlanFault}
 abbrev pub rule_for : Key → Bool → Values → KeyRule
 rule_for k is_required values = record { name = key_text k; is_required = is_required; values = values }
 
--- the answer is right: a value of which this holds where nothing is wrong, else what is wrong
+-- the answer is right: a value of which this holds where nothing is wrong, otherwise what is wrong
 abbrev pub Answers : {T : Type 0} → Result T PlanFault → Option SettingsFault → (T → Type 0) → Type 0
 Answers result fault P = MatchResult result (λ x. (fault ≡ None) × P x) (λ f. fault ≡ Some (fault_seen f))
 

@@ -1,7 +1,7 @@
 //! Settings that are accepted give what the laws of a stream ask of a plan.
 //!
 //! Laws over definitions alone: each is a function that does nothing, whose contract is the law.
-//! They stand on plan_spec; end_to_end_law stands on them.
+//! They stand on settings_spec and plan_spec; service_plan and end_to_end_law stand on them.
 #![tactic(auto)]
 
 ghost use Rattle.std.specs.Prelude.{◌≡◌, List, ℕ, true};

@@ -40,7 +40,7 @@ fault_key wrong_carrier = []
 fault_key unknown_key = []
 fault_key wrong_change = []
 
--- the line that is told of a file that gives no plan
+-- the line that is printed for a file that gives no plan
 abbrev pub refusal_line : Refusal → List ℕ
 refusal_line too_long = codes "ipencap: settings too long" ++ 10 ∷ []
 refusal_line (refused fault) = codes "ipencap: settings " ++ decimal (fault_number fault) ++ fault_key fault ++ 10 ∷ []
@@ -81,6 +81,6 @@ abbrev pub changes_text : PlanFields → ℕ → List ChangeFields → List ℕ
 changes_text plan version [] = []
 changes_text plan version (change ∷ changes) = change_text plan version change ++ changes_text plan (version + 1) changes
 
--- the lines of a plan: one for each service in order, as it is at first, and behind them those of its changes
+-- the lines of a plan: one for each service in order, as it is at first, and after them those of its changes
 abbrev pub check_text : PlanFields → List ℕ
 check_text plan = joined (map service_line plan.services) ++ changes_text plan 1 plan.changes

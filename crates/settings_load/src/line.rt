@@ -1,4 +1,4 @@
-//! What is wrong with a settings file -> the line that is told of it.
+//! What is wrong with a settings file -> the line that is printed for it.
 ghost use Rattle.std.specs.Prelude.{◌≡◌, ◌++◌};
 ghost use Rattle.wire_spec.specs.Causes.{HasCause};
 ghost use Rattle.wire_spec.specs.Content.{Puts};

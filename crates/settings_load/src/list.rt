@@ -134,7 +134,7 @@ fn put_plan<O: Sink>(plan: &Plan, output: &mut O) -> Result<(), Failed>
     put_changes(plan, output)
 }
 
-/// Puts the lines of a plan, and flushes all of them: one for each service, and behind them, for each change, `change` with the
+/// Puts the lines of a plan, and flushes all of them: one for each service, and after them, for each change, `change` with the
 /// number of its record, and one for each service that it moves.
 ///
 /// A line of a service is its name, its kind and its PID or ISI in decimal, separated by one space; one that a change moves has its

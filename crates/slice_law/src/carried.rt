@@ -1,4 +1,4 @@
-//! Receiving without time slicing: accepted sections are parted as their frames are, whatever the channel drops, repeats, damages or inserts.
+//! Receiving without time slicing: accepted sections are separated as their frames are, whatever the channel drops, repeats, damages or inserts.
 ghost use Rattle.std.specs.Prelude.{◌≡◌, ℕ, ◌+◌, ◌<◌, ◌≤◌, not, List, ◌==◌};
 ghost use Rattle.ts_spec.specs.Recording.{Record};
 ghost use Rattle.ts_spec.specs.Reassembly.{PlacedUnit};
@@ -8,7 +8,7 @@ ghost use Rattle.slice_spec.specs.Sections.{indexed, SectionTime, is_parted};
 ghost use Rattle.slice_spec.specs.Frames.{IsIndexed};
 ghost use Rattle.slice_law.specs.Carried.{IsNumberedUnit, time_seen};
 
-/// Without time slicing an accepted section is parted from one of the same or an earlier frame exactly where the frames are two.
+/// Without time slicing an accepted section is separated from one of the same or an earlier frame exactly when they are of two frames.
 /// Both are sections that were sent, of frames that are less than 4,096 apart; stamps may become what they will.
 pub fn accepted_sections_are_parted_by_index()
     ensures parted { (pids : List ℕ) (sent recorded : List Record) (channel : Channel pids sent recorded)

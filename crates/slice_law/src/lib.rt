@@ -1,7 +1,7 @@
 //! What time slicing gives: bursts are timed as they are sent, and separated as they are received.
 //!
 //! Laws over definitions alone: each is a function that does nothing, whose contract is the law.
-//! They stand on slice_spec and channel_spec; what sends and what receives MPE-FEC frames stands on them.
+//! They stand on slice_spec and channel_spec; what sends MPE-FEC frames stands on them.
 //! Begin with `bursts_are_timed` and `bursts_are_parted_as_received`.
 #![tactic(auto)]
 

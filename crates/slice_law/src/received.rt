@@ -3,7 +3,7 @@ ghost use Rattle.std.specs.Prelude.{◌≡◌, ℕ, ◌+◌, ◌<◌, ◌≤◌,
 ghost use Rattle.slice_spec.specs.Sections.{indexed, sliced, SectionTime, is_parted, IsShifted};
 ghost use Rattle.slice_spec.specs.Frames.{IsOf, IsTimed, IsIndexed};
 
-/// Where a service is timed, a section is parted from one of the same or an earlier frame exactly where the frames are two.
+/// Where a service is timed, a section is separated from one of the same or an earlier frame exactly when they are of two frames.
 /// Moments may have been shifted by an interval that all have in common, and frames between may be lost.
 pub fn bursts_are_parted_as_received()
     ensures parted { (frames : List (List SectionTime)) (i j : ℕ) (x y a b : SectionTime) → IsOf frames i x → IsOf frames j y → i ≤ j

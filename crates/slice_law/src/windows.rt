@@ -1,4 +1,4 @@
-//! Windows: whose a slot is.
+//! Windows: which service owns a slot.
 ghost use Rattle.std.specs.Prelude.{◌≡◌, ◌↔◌, ℕ, ◌+◌, ◌<◌, List, Some};
 ghost use Rattle.std.specs.List.{slice_get};
 ghost use Rattle.slice_spec.specs.Windows.{OwnedWindow, owner_of, AreApart};

@@ -1,6 +1,6 @@
 //! Definitions of time slicing: moments of slots, delta_t, the sections that belong together, windows and bursts.
 //!
-//! Words for contracts, and no code but examples of them. They stand on ts_spec and wire_spec.
+//! Words for contracts, and no code but examples of them. They stand on ts_spec.
 //! Standard: EN 301 192 clause 9. Windows and what delta_t counts are our own.
 #![tactic(auto)]
 

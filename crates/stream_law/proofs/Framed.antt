@@ -121,7 +121,7 @@ module _ (rows columns : ℕ) (unicast : List ℕ) (least : 256 ≤ rows) (most 
         frames_size (number + 1) frames,
       )
 
-  -- Datagrams that are parted into frames.
+  -- Datagrams that are divided into frames.
 
   bytes_with : (frames : List (List (List ℕ))) (d : List ℕ) → bytes_of (with_datagram (fits_table rows) frames d) ≡ bytes_of frames + length d
   bytes_with [] d = omega arith

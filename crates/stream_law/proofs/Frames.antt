@@ -1,4 +1,4 @@
--- Datagrams parted into frames: each is in one, in order, and they fit.
+-- Datagrams divided into frames: each is in one, in order, and they fit.
 use Rattle.std.proofs.Common.{◌≡◌, inl, inr, ℕ, ◌+◌, ◌*◌, ◌<◌, ◌≤◌, Bool, true, false, cond, leb, List, [], ◌∷◌, ◌++◌, length, refl, ap, sym, ◌∙◌, arith, append_assoc}
 use Rattle.std.specs.Prelude.{flat_map}
 use Rattle.std.specs.List.{fold}
@@ -39,7 +39,7 @@ pub framed_both : (a b : List (List ℕ)) → AreFramed a → AreFramed b → Ar
 framed_both [] b are others = others
 framed_both (datagram ∷ a) b are others = (are.0, framed_both a b are.1 others)
 
--- where datagrams are parted by what may share a frame
+-- where datagrams are divided by what may share a frame
 module _ (fits : List (List ℕ) → Bool) where
   -- all datagrams, in order
   all_with : (frames : List (List (List ℕ))) (d : List ℕ)

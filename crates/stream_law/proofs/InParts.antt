@@ -51,7 +51,7 @@ module _ (plan : PlanFields) (whole : is_whole_plan plan ≡ true) (datagrams : 
       pieces_have plan.recording plan.packet_rate (flat_map (pieces plan datagrams slots) (versions plan)) (flat_map (packets plan datagrams slots) (versions plan))
       (all_stamped plan datagrams slots timed)
 
-  -- The parts, one behind another.
+  -- The parts, one after another.
 
   are_parts : AreParts plan sent begin
   are_parts = record {

@@ -34,7 +34,7 @@ packets_from k (service ∷ services) packets schedules datagrams =
 abbrev pub service_packets : PartFields → List (List PacketFields)
 service_packets part = packets_from 0 part.plan.services part.packets_before part.schedules part.datagrams
 
--- the packets of the INT in a cycle: its section is packetized anew in each, and the counter goes on (EN 301 192 clause 8.4)
+-- the packets of the INT in a cycle: its section is packetized again in each, and the counter goes on (EN 301 192 clause 8.4)
 abbrev pub int_packets : PartFields → Option IntFields → ℕ → List PacketFields
 int_packets part None cycle = []
 int_packets part (Some int) cycle =

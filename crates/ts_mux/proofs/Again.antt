@@ -164,7 +164,7 @@ module _ (plan : PlanFields) (whole : is_whole_plan plan ≡ true) (datagrams : 
           = shared_so (pid_in plan (version + 1) k) (pid_in plan u k) later (all u).0 later_is (all u).1 ∙ others u (omega (arith, less)) in
           omega (arith, ap (λ (b : Bool). cond b (packet_count plan datagrams k u) 0) not_shared)
 
-  -- so the counter behind the part before, or 0, is right
+  -- so the counter after the part before, or 0, is right
   pub counter_is : (behind : List ℕ) → slice_index behind k ≡ ((part version).packets_before k + length (slice_index_or (service_packets (part version)) k [])) % 16
       → counter_at plan (version + 1) behind k ≡ (part (version + 1)).packets_before k % 16
   counter_is behind is = by_pid (shares_pid (pid_in plan (version + 1) k) (pid_in plan (version + 1 - 1) k)) refl

@@ -62,7 +62,7 @@ module _ (cycle start size : ℕ) (some : 0 < cycle) (inside : start + size ≤ 
   shape_late c o less =
       same_bursts _ _ _ _ _ _ refl (ap (λ (b : Bool). cond b 0 (slice_index sizes c - (o - start))) (late o less)) (ap (λ (b : Bool). drop (cond b c (c + 1)) sizes) (late o less))
 
-  -- behind the burst
+  -- after the burst
   shape_over : (c o : ℕ) → slice_index sizes c ≤ o - start → shape_open c o ≡ record { packets = drop (out_before sizes c + slice_index sizes c) packets; under_way = 0; sizes = drop (c + 1) sizes }
   shape_over c o le =
       let all : out_before sizes c + min (slice_index sizes c) (o - start) ≡ out_before sizes c + slice_index sizes c = omega (arith, le) in

@@ -399,6 +399,6 @@ under_way_next plan part place after of_stream old mid new before held back rest
       handed = one_handed plan part place of_stream next later old mid new before held back adds way.handed rest piece;
     })
 
--- behind the last
+-- after the last
 pub under_way_last : (part : PartFields) (place slots : ℕ) → IsSlotCount (slot_in part) slots → place ≤ slots → slots ≤ place → IsSlotCount (slot_in part) place
 under_way_last part place slots count le ge = let same : slots ≡ place = omega (arith, le, ge) in subst (IsSlotCount (slot_in part)) same count

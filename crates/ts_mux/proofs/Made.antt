@@ -230,7 +230,7 @@ module _ (plan : PlanFields) (version : ℕ) (lists : List (List (List (List ℕ
           let it = item k less in
           omega (arith, ap (λ (ps : List PacketFields). length ps) (map_item turns_in_service items k it.0 [] it.1), turns_few it.0, (made k it.0 it.1).most)
 
--- the counter behind the packets of the service at a place
+-- the counter after the packets of the service at a place
 pub behind_at : (services : List ServicePackets) (k : ℕ) (service : ServicePackets) → k < length services → service ≡ get_or services k service → slice_index (map behind_in services) k ≡ behind_in service
 behind_at [] k service less is = absurd (omega (arith, less))
 behind_at (first ∷ services) zero service less is = ap behind_in (sym is)

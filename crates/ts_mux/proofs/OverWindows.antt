@@ -1,4 +1,4 @@
--- A slot and the windows: whose it is, and how the bursts of all services stand behind it.
+-- A slot and the windows: which service owns it, and how the bursts of all services stand after it.
 use Rattle.std.proofs.Common.{◌≡◌, ◌⊎◌, inl, inr, ℕ, zero, suc, ◌+◌, ◌-◌, ◌/◌, ◌%◌, ◌<◌, ◌≤◌, Bool, true, false, cond, eqb, ltb, List, [], ◌∷◌, length, set, refl, sym, ap, ◌∙◌, arith, Option, Some, None}
 use Rattle.std.specs.Prelude.{slice_index, slice_index_or, drop}
 use Rattle.std.specs.Option.{option_or}

@@ -175,7 +175,7 @@ module _ (plan : PlanFields) (datagrams : ℕ → ℕ → List (List ℕ)) (slot
   pub windows_stay : (version place slot : ℕ) (serving : Serving) (signals : IntPackets) → StandBefore plan (part version) place slot serving signals → serving.windows ≡ windows_of plan
   windows_stay version place slot serving signals stand = stand.services.windows ∙ windows_kept plan version
 
-  -- all parts up to that of a version are written or held back, and all stands behind it
+  -- all parts up to that of a version are written or held back, and all stands after it
   pub record IsBehind (version slot : ℕ) (old new : Option (List ℕ)) (back : List ℕ) (serving : Serving) (signals : IntPackets) : Type 0 where
     pub handed : HasHanded (version + 1) slot old new back
     pub stand : StandBefore plan (part version) (slots version) slot serving signals
@@ -263,7 +263,7 @@ module _ (plan : PlanFields) (datagrams : ℕ → ℕ → List (List ℕ)) (slot
       services = services_start (part version) (omega (arith, some_cycle)) serving begins;
     }
 
-    -- behind a part that is not the last the counter of the INT is that of the next
+    -- after a part that is not the last the counter of the INT is that of the next
     pub counter_behind : (version counter : ℕ) → version < last
         → counter ≡ ((part version).table_before + (slots version / plan.cycle * table_packets (plan_in plan version) + min (slots version % plan.cycle) (table_packets (plan_in plan version)))) % 16
         → counter ≡ (part (version + 1)).table_before % 16
@@ -276,7 +276,7 @@ module _ (plan : PlanFields) (datagrams : ℕ → ℕ → List (List ℕ)) (slot
         none_more : (b a t : ℕ) → b + (a + min 0 t) ≡ b + a
         none_more b a t = omega arith
 
-    -- no slots are behind the last
+    -- no slots are after the last
     none_later : (version : ℕ) → last < version → version ≤ length plan.changes → slots version ≡ 0
     none_later version more within = by_some (cases_lt 0 (slots version))
       where

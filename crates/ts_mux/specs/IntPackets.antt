@@ -1,4 +1,4 @@
--- The INT on its way: its section is packetized anew in each cycle.
+-- The INT on its way: its section is packetized again in each cycle.
 use Rattle.std.specs.Prelude.{◌≡◌, ℕ, ◌+◌, ◌*◌, ◌/◌, ◌%◌, ◌<◌, ◌≤◌, true, List, [], ◌∷◌, drop, min, Option, Some, None}
 use Rattle.int_spec.specs.Table.{table_bytes}
 use Rattle.plan_spec.specs.Plan.{IntFields}

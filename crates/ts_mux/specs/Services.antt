@@ -70,7 +70,7 @@ abbrev pub shape_of : Option SlicedFields → Option (ℕ × ℕ)
 shape_of None = None
 shape_of (Some fields) = Some (fields.rows, fields.parity)
 
--- of each service what it has left in rotation, its bursts, the rows and columns of its frames where it is sliced, and the counter behind its
+-- of each service what it has left in rotation, its bursts, the rows and columns of its frames where it is sliced, and the counter after its
 -- packets; the windows; and which service is asked first for its turn
 pub record Serving : Type 0 where
   pub turns : List (List PacketFields)

@@ -95,7 +95,7 @@ abbrev pub Hands : {T E : Type 0} → Result T E → Option (List ℕ) → Optio
 Hands result old new before after =
     MatchResult result (λ _. (front : List ℕ) × Appends old new front × (before ≡ front ++ after)) (λ _. (n : ℕ) × Appends old new (take n before))
 
--- records went behind those that were held back: at Ok all, and a front of all is appended, the others are held back; at Err a prefix is
+-- records went after those that were held back: at Ok all, and a front of all is appended, the others are held back; at Err a prefix is
 -- appended of what was to be
 abbrev pub Passes : {T E : Type 0} → Result T E → Option (List ℕ) → Option (List ℕ) → List ℕ → List ℕ → List ℕ → Type 0
 Passes result old new before after records =
@@ -118,7 +118,7 @@ pub record WritesSlots {E : Type 0} (plan : PlanFields) (part : PartFields) (fil
   pub passes : Passes result old new before after (joined (records_of_slots part (slots_with filled part.plan.cycle least)))
   pub stand : IfOk result (λ of_stream. StandBefore plan part (slots_with filled part.plan.cycle least) of_stream serving table)
 
--- the records up to the end of the cycle of a slot went behind those before it
+-- the records up to the end of the cycle of a slot went after those before it
 pub record FillsCycle {E : Type 0} (plan : PlanFields) (part : PartFields) (slot : ℕ) (result : Result ℕ E) (old new : Option (List ℕ)) (before after : List ℕ) (serving : Serving) (table : IntPackets) : Type 0 where
   pub passes : Passes result old new before after (joined (records_of_slots part (whole_cycles part.plan.cycle slot)))
   pub stand : IfOk result (λ of_stream. StandBefore plan part (whole_cycles part.plan.cycle slot) of_stream serving table)

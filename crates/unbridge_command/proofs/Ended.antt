@@ -1,4 +1,4 @@
--- How an unbridging ends, from what became of the file's head, of the reading behind it and of the flush.
+-- How an unbridging ends, from what became of the file's head, of the reading after it and of the flush.
 use Rattle.std.proofs.Common.{◌≡◌, inl, inr, ℕ, ◌+◌, ◌*◌, ◌^◌, ◌<◌, ◌≤◌, false, List, [], ◌∷◌, ◌++◌, length, take, refl, ap, sym, ◌∙◌, subst, append_assoc, arith, Option, IfSome, Result, Ok, Err}
 use Rattle.std.specs.Bool.{⊤}
 use Rattle.std.specs.List.{flat_map}

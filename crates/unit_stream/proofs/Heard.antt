@@ -1,4 +1,4 @@
--- Events heard one after another.
+-- Events taken one after another.
 use Rattle.std.proofs.Common.{◌≡◌, ℕ, List, [], ◌∷◌, ◌++◌, refl, sym, ap, ◌∙◌, subst, append_assoc, Option, Some, None, option_to_list}
 use Rattle.std.proofs.lemmas.List.{append-nil}
 use Rattle.ts_spec.specs.Form.{UnitForm}
@@ -19,7 +19,7 @@ module _ {L : Type 0} (Hears : L → Event → L → Type 0) where
   heard_then old mid new (event ∷ some) others (now, (one, rest)) then = (now, (one, heard_then now mid new some others rest then))
 
   module _ (form : UnitForm) (packet : PacketFields) where
-    -- none is heard
+    -- none is taken
     pub tells_none : (state : JoinerState) (old : L) → IsPastOutcome state → Tells form packet state state Hears old old
     tells_none state old past = record {
       events = [];
@@ -29,7 +29,7 @@ module _ {L : Type 0} (Hears : L → Event → L → Type 0) where
       heard = refl;
     }
 
-    -- some are heard, and then some others
+    -- some are taken, and then some others
     pub tells_then : (one two three : JoinerState) (old mid new : L) → Tells form packet one two Hears old mid → Tells form packet two three Hears mid new
         → Tells form packet one three Hears old new
     tells_then one two three old mid new first then = record {
@@ -40,7 +40,7 @@ module _ {L : Type 0} (Hears : L → Event → L → Type 0) where
       heard = heard_then old mid new first.events then.events first.heard then.heard;
     }
 
-    -- the outcome of the unit that ended is heard
+    -- the outcome of the unit that ended is taken
     pub tells_end : (ended : Ended) (rest : Option Place) (buffer : List ℕ) (after : JoinerState) (event : Event) (old new : L)
         → left_events form packet (ended_state ended rest buffer) ≡ event ∷ rest_events form packet rest → after ≡ state_after rest → Hears old event new
         → Tells form packet (ended_state ended rest buffer) after Hears old new
@@ -56,7 +56,7 @@ module _ {L : Type 0} (Hears : L → Event → L → Type 0) where
         past None = tt
         past (Some place) = tt
 
-    -- the event of a unit that starts at a place is heard, where there is one
+    -- the event of a unit that starts at a place is taken, where there is one
     pub tells_start : (place : Place) (event : Option Event) (state : JoinerState) (old new : L) → Reads form packet place event state
         → HasHeard Hears old (option_to_list event) new → Tells form packet (reading place) state Hears old new
     tells_start place event state old new read heard = record {
@@ -80,7 +80,7 @@ module _ {L : Type 0} (Hears : L → Event → L → Type 0) where
       heard = tells.heard;
     }
 
-  -- where all events are given, none is heard
+  -- where all events are given, none is taken
   pub drained_told : (form : UnitForm) (packet : PacketFields) (packets : List Arrival) (before : List Event) (joiner : JoinerState) (old : L)
       → IsGiving form joiner packet packets before → IsDrained joiner → HasTold form joiner packets before Hears old old
   drained_told form packet packets before joiner old gives (under_way, all) =

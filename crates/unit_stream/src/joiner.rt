@@ -70,7 +70,7 @@ impl<F: UnitForm, A: Allocator> Joiner<F, A> {
         self.state = feed_packet::<F>(&mut self.buffer, self.state, link, packet, moment);
     }
 
-    /// Takes the next packet of the PID as `feed` does, and tells the listener each of its events, in order.
+    /// Takes the next packet of the PID as `feed` does, and gives the listener each of its events, in order.
     pub fn take<L: Listener>(
         &mut self,
         link: Link,

@@ -18,12 +18,12 @@ pub trait Listener {
     /// What an event makes of it.
     ghost Hears: { Self → Event → Self → Type 0 };
 
-    /// Hears the next event. It refuses none: one that fails keeps that to itself.
+    /// Takes the next event. It refuses none: a listener that fails keeps the failure to itself.
     fn hear(&mut self, event: &JoinEvent<'_>)
         ensures heard { Hears self.old (event_in event.now) self.new };
 }
 
-/// Takes the next packet as `feed_packet` does, tells its events, and answers what it leaves.
+/// Takes the next packet as `feed_packet` does, gives the listener its events, and answers what it leaves.
 pub(crate) fn tell_packet<F: UnitForm, L: Listener>(
     buffer: &mut [u8],
     state: State,
@@ -44,7 +44,7 @@ pub(crate) fn tell_packet<F: UnitForm, L: Listener>(
     tell_events::<F, L>(buffer, state, packet, listener)
 }
 
-/// Tells the events of the packet fed last that are not given yet, and answers what it leaves.
+/// Gives the listener the events of the packet fed last that are not given yet, and answers what it leaves.
 fn tell_events<F: UnitForm, L: Listener>(
     buffer: &mut [u8],
     state: State,
@@ -65,7 +65,7 @@ fn tell_events<F: UnitForm, L: Listener>(
     state
 }
 
-/// Tells how the unit under way ended, where it did, and answers what is left then.
+/// Gives the listener the event of the unit under way, where it ended, and answers what is left then.
 fn tell_end<F: UnitForm, L: Listener>(buffer: &[u8], state: State, listener: &mut L) -> State
     requires fits { FitsState F.form state buffer.now }
     ensures fits { FitsState F.form result buffer.now }
@@ -80,7 +80,7 @@ fn tell_end<F: UnitForm, L: Listener>(buffer: &[u8], state: State, listener: &mu
     }
 }
 
-/// Tells the event of the unit that starts at a place of the payload, where there is one, and answers what is left then.
+/// Gives the listener the event of the unit that starts at a place of the payload, where there is one, and answers what is left then.
 fn tell_start<F: UnitForm, L: Listener>(
     buffer: &mut [u8],
     position: Position,

@@ -87,7 +87,7 @@ fn events_of(
     Ok(text)
 }
 
-/// Writes what it hears, up to the first event that fails.
+/// Writes the events that it takes, up to the first that fails.
 #[derive(Drop)]
 struct Writer {
     text: String,
@@ -104,7 +104,7 @@ impl Listener for Writer {
     }
 }
 
-/// The events of a packet, which a listener hears.
+/// The events of a packet, which a listener takes.
 fn heard_events(
     alloc: Global,
     joiner: &mut Joiner<SmallForm, Global>,

@@ -1,4 +1,4 @@
-//! Time slicing under accepted settings: whose a slot is, bursts that are timed, and the slots in which they go out.
+//! Time slicing under accepted settings: which service owns a slot, bursts that are timed, and the slots in which they go out.
 //!
 //! Laws over definitions alone: each is a function that does nothing, whose contract is the law.
 //! They stand on slice_law, plan_spec and stream_spec; what sends MPE-FEC frames stands on them.

@@ -1,4 +1,4 @@
-//! Windows of accepted settings: whose a slot is.
+//! Windows of accepted settings: which service owns a slot.
 ghost use Rattle.std.specs.Prelude.{◌≡◌, ◌↔◌, ℕ, ◌+◌, ◌<◌, ◌≤◌, true, Some};
 ghost use Rattle.plan_spec.specs.Plan.{PlanFields, SlicedFields, sliced_of};
 ghost use Rattle.plan_spec.specs.Signalling.{table_packets};
