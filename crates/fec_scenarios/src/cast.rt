@@ -1,6 +1,5 @@
 //! Datagrams of a service of frames -> their stream; a recording -> what must be left of it: the capture and the report.
-use ipencap_engine::Status;
-use scenario_runs::{expect, sent};
+use scenario_runs::{Status, expect, sent};
 use std::alloc::Global;
 use std::test::Fail;
 use test_recordings::settings::settings_of;

@@ -1,12 +1,37 @@
-//! MPE-FEC frames sent, damaged on their way, and received: datagrams -> [ipencap_engine] -> a stream -> what comes of it.
+//! MPE-FEC frames, with time slicing and without: datagrams -> [scenario_runs] -> a stream, damaged on its way or made by hand ->
+//! [scenario_runs] -> what comes of it.
 //!
-//! Tests alone, but for `cast`: what is sent, and what must come. Begin with `rows` and `losses`, the tables.
+//! Tests alone. Begin with `cast` and `burst_sent`, which say what is sent and what must come of it; `frame_losses` and `burst_losses` are
+//! tables of what happens on the way.
 #![tactic(auto)]
 
-pub mod cast;
 #[cfg(test)]
-mod losses;
+mod burst_deltas;
 #[cfg(test)]
-mod rows;
+mod burst_losses;
 #[cfg(test)]
-mod starts;
+mod burst_sent;
+#[cfg(test)]
+mod burst_stamps;
+#[cfg(test)]
+mod burst_whole;
+#[cfg(test)]
+mod cast;
+#[cfg(test)]
+mod failing_calls;
+#[cfg(test)]
+mod failing_frame_tests;
+#[cfg(test)]
+mod failing_sndu_tests;
+#[cfg(test)]
+mod frame_end_faults;
+#[cfg(test)]
+mod frame_end_moves;
+#[cfg(test)]
+mod frame_losses;
+#[cfg(test)]
+mod frame_rows;
+#[cfg(test)]
+mod made_sections;
+#[cfg(test)]
+mod section_starts;

@@ -1,4 +1,4 @@
-//! GSE over baseband frames: datagrams -> [ipencap_engine] -> frames, lost, damaged or made by hand -> what comes of them.
+//! GSE over baseband frames: datagrams -> [scenario_runs] -> frames, lost, damaged or made by hand -> what comes of them.
 //!
 //! Tests alone. Begin with `long` and `rotation`, which show what goes out, and `losses`, the table of what comes of it.
 #![tactic(auto)]

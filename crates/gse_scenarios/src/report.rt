@@ -1,6 +1,5 @@
 //! What a recording of baseband frames must leave: the capture of each service, and the report. An independent program gave the numbers.
-use ipencap_engine::Status;
-use scenario_runs::expect;
+use scenario_runs::{Status, expect};
 use std::alloc::{AllocError as OutOfMemory, Global};
 use std::test::Fail;
 use test_recordings::settings::settings_of;

@@ -1,13 +1,33 @@
-//! Two services sent, their stream damaged on its way, and received: datagrams -> [ipencap_engine] -> a stream -> what comes of it.
+//! What is sent, damaged on its way, and received: datagrams and settings -> [scenario_runs] -> a stream -> [scenario_runs] -> what comes
+//! of it.
 //!
-//! Tests alone. Begin with `pair`, which says what is sent, and `losses`, the table of what happens to it.
+//! Tests alone. Begin with `pair` and `change_plans`, which say what is sent; `pair_losses`, `change_moves`, `change_losses` and
+//! `hostile_cases` are the tables of what happens to it.
 #![tactic(auto)]
 
 #[cfg(test)]
-mod fault_tests;
+mod change_losses;
 #[cfg(test)]
-mod losses;
+mod change_moves;
+#[cfg(test)]
+mod change_plans;
+#[cfg(test)]
+mod change_received;
+#[cfg(test)]
+mod change_settings_tests;
+#[cfg(test)]
+mod change_stream_tests;
+#[cfg(test)]
+mod hostile_cases;
+#[cfg(test)]
+mod hostile_columns;
+#[cfg(test)]
+mod hostile_received;
 #[cfg(test)]
 mod pair;
+#[cfg(test)]
+mod pair_fault_tests;
+#[cfg(test)]
+mod pair_losses;
 #[cfg(test)]
 mod pair_tests;

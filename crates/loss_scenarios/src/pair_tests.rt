@@ -1,8 +1,7 @@
 //! The pair end to end: what is sent is received as the loss law promises, whatever happens on the way.
-use crate::losses::{Delivered, LOSSES, Loss, NO_LOSS, WHOLE_FILES, WHOLE_LECTURE};
 use crate::pair::{FILE_SIZES, LECTURE_SIZES, settings_of_pair, stream_of_pair};
-use ipencap_engine::Status;
-use scenario_runs::expect;
+use crate::pair_losses::{Delivered, LOSSES, Loss, NO_LOSS, WHOLE_FILES, WHOLE_LECTURE};
+use scenario_runs::{Status, expect};
 use std::alloc::Global;
 use std::test::Fail;
 use test_recordings::{

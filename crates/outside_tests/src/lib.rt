@@ -1,4 +1,5 @@
-//! Tests of the outside and of what stands in files: bytes -> [ipe_io, pcap_file, ts_record] -> records, captured datagrams, files.
+//! Tests of the outside and of what stands in files: bytes -> [ipe_io, pcap_file, ts_record, recording_reader] -> records, captured
+//! datagrams, files.
 //!
 //! Tests alone. They stand apart from the crates that they test, so that a change of a test proves none of them anew.
 #![tactic(auto)]
@@ -11,5 +12,7 @@ mod file_tests;
 mod memory_tests;
 #[cfg(test)]
 mod pcap_file_tests;
+#[cfg(test)]
+mod recording_reader_tests;
 #[cfg(test)]
 mod ts_record_tests;

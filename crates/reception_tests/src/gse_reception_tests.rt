@@ -1,7 +1,7 @@
 //! Data fields by hand (TS 102 606-1 clause 4.2); their CRC-32 was worked out apart from this program.
 ghost use Rattle.std.specs.Prelude.{◌≡◌, vec_len, length, IfOk};
 
-use crate::outlet::{Noted, SERVICE, put_deliveries, put_rise};
+use crate::counting_outlet::{Noted, SERVICE, put_deliveries, put_rise};
 use addr_rules::MacList;
 use bb_frame::Frame;
 use gse_reassembly::Slot;

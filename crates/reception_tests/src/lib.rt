@@ -1,11 +1,24 @@
-//! Tests of what receives frames: packets and data fields by hand -> [fec_reception, gse_reception] -> datagrams and counts.
+//! Tests of what receives frames: packets and frames by hand -> [fec_reception, gse_reception, bridge_frame, demux_core] -> datagrams,
+//! Ethernet frames and counts.
 //!
-//! Tests alone. They stand apart from the crates that they test, so that those are proved once.
+//! Tests alone. They stand apart from the crates that they test, so that those are proved once and know nothing of settings.
 #![tactic(auto)]
 
 #[cfg(test)]
-mod frame_reception_tests;
+mod bb_frame_cases;
+#[cfg(test)]
+mod bb_receiver_tests;
+#[cfg(test)]
+mod bridge_outlet;
+#[cfg(test)]
+mod bridge_reading_tests;
+#[cfg(test)]
+mod bridged_pdu_tests;
+#[cfg(test)]
+mod bridged_sndu_tests;
+#[cfg(test)]
+mod counting_outlet;
+#[cfg(test)]
+mod fec_reception_tests;
 #[cfg(test)]
 mod gse_reception_tests;
-#[cfg(test)]
-mod outlet;

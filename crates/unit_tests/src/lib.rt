@@ -1,7 +1,7 @@
-//! Tests of what carries units: bytes and texts by hand -> [ip_datagram, addr_rules, ts_packet, unit_stream, section_codec, mpe_section,
-//! ule_unit, ule_extension] -> fields, bytes and faults.
+//! Tests of units and tables: bytes and texts by hand -> [ip_datagram, addr_rules, ts_packet, unit_stream, section_codec, mpe_section,
+//! ule_unit, ule_extension, int_table, psi_tables, loss_report] -> fields, bytes, lines and faults.
 //!
-//! Tests alone. They stand apart from the crates that they test, so that each of these is proved once.
+//! Tests alone. They stand apart from the crates that they test, so that each of these is proved once. Begin with `cases`.
 #![tactic(auto)]
 
 #[cfg(test)]
@@ -9,9 +9,19 @@ mod addr_rules_tests;
 #[cfg(test)]
 mod cases;
 #[cfg(test)]
+mod int_table_tests;
+#[cfg(test)]
 mod ip_datagram_tests;
 #[cfg(test)]
+mod loss_report_tests;
+#[cfg(test)]
 mod mpe_section_tests;
+#[cfg(test)]
+mod pat_tests;
+#[cfg(test)]
+mod pmt_tests;
+#[cfg(test)]
+mod psi_finder_tests;
 #[cfg(test)]
 mod section_codec_tests;
 #[cfg(test)]

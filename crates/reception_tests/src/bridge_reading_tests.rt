@@ -1,0 +1,64 @@
+//! Recordings by hand, read to their end by a bridge: a packet with an SNDU, and a baseband frame of 2,000 bytes with a GSE packet.
+use crate::bridge_outlet::{Noted, empty_slots, text_of, zeros};
+use bridge_frame::Bridge;
+use ipe_io::{Recording, StdSource};
+use recording_reader::{FramePieces, PacketPieces, read_to_end};
+use std::alloc::Global;
+use std::test::Fail;
+use test_recordings::bytes_of;
+
+/// The SNDU of a frame of 60 bytes on PID 256: pointer 0, then the SNDU and 115 bytes FF.
+const PACKET: &str = "47410010 00 80400001 FF*6 020000000001 88B5 00*46 BC0730EC FF*115";
+
+/// The same frame in a GSE packet on ISI 7, and zeros.
+const BASEBAND: &str = "500700000200000000BD E03E0001 FF*6 020000000001 88B5 00*46 00*1926";
+
+/// What is delivered of a recording of packets, and how many bytes are left.
+fn of_packets(alloc: Global, bytes: &[u8]) -> Result<String, Fail> {
+    let mut bridge = Bridge::over(zeros(alloc, 32_771)?, empty_slots(alloc, 0)?, true);
+    bridge.select(256);
+    let mut pieces = PacketPieces::new(Recording::Plain);
+    let mut source = StdSource::new(alloc, bytes)?;
+    let mut outlet = Noted::new(9);
+    let tail = match read_to_end(&mut pieces, &mut source, &mut bridge, &mut outlet) {
+        Ok(tail) => tail,
+        Err(_) => return Err(Fail::new("not read to its end")),
+    };
+    let mut text = text_of(alloc, &outlet)?;
+    write!(text, " left {tail}")?;
+    Ok(text)
+}
+
+/// What is delivered of a recording of frames, and how many bytes are left.
+fn of_frames(alloc: Global, bytes: &[u8]) -> Result<String, Fail> {
+    let buffer = zeros(alloc, 16_778_240)?;
+    let mut bridge = Bridge::over(buffer, empty_slots(alloc, 256)?, false);
+    bridge.select(7);
+    let mut pieces = FramePieces::over(2000, zeros(alloc, 2000)?);
+    let mut source = StdSource::new(alloc, bytes)?;
+    let mut outlet = Noted::new(9);
+    let tail = match read_to_end(&mut pieces, &mut source, &mut bridge, &mut outlet) {
+        Ok(tail) => tail,
+        Err(_) => return Err(Fail::new("not read to its end")),
+    };
+    let mut text = text_of(alloc, &outlet)?;
+    write!(text, " left {tail}")?;
+    Ok(text)
+}
+
+/// A packet, a duplicate of it and a tail; a baseband frame twice, which is no duplicate there.
+#[test]
+fn recordings_give_their_frames(rt: HostRuntime) -> Result<(), Fail> {
+    let alloc = rt.alloc();
+    let mut packets = bytes_of(alloc, PACKET)?;
+    let packet = bytes_of(alloc, PACKET)?;
+    packets.extend_from_slice(&packet)?;
+    packets.extend_from_slice(&[0xEE; 5])?;
+    assert_eq!(rt; of_packets(alloc, &packets)?.as_str(), "1 0 0 left 5");
+    let mut frames = bytes_of(alloc, BASEBAND)?;
+    let frame = bytes_of(alloc, BASEBAND)?;
+    frames.extend_from_slice(&frame)?;
+    frames.extend_from_slice(&[0xEE; 9])?;
+    assert_eq!(rt; of_frames(alloc, &frames)?.as_str(), "2 0 0 left 9");
+    Ok(())
+}

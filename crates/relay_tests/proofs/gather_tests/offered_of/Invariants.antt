@@ -1,6 +1,0 @@
--- The outer plan is the one that is given.
-use Rattle.plan.specs.PlanView.{plan_fields}
-use Rattle.relay_tests.proofs.gather_tests.offered_of.Given as goal
-
-abbrev pub ghosts-offered_under : goal.ghosts-offered_under
-ghosts-offered_under a = record { outer = plan_fields a.plan.now }
