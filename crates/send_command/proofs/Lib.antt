@@ -1,7 +1,6 @@
 pub mod Puts
 pub mod Given
-pub mod Intakes
-pub mod Taking
+pub mod Taken
 pub mod Counts
 pub mod Written
 pub mod Standing

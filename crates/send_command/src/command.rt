@@ -10,8 +10,10 @@ ghost use Rattle.send_command.specs.Gathering.{IsGathered};
 ghost use Rattle.send_command.specs.Sending.{Sends, Reads, OnCapture, is_done, is_whole, is_begun};
 
 use crate::ends::SendEnd;
-use crate::gather::{Gathered, ReadFault, gather};
 use crate::offered::send_offered;
+use crate::taker::PlanTaker;
+use capture_intake::{CaptureReadFault, PlacedFault, read_capture};
+use datagram_routing::Offered;
 use ipe_io::{Sink, Source};
 use mux_core::MuxFault;
 use plan::Plan;
@@ -46,36 +48,44 @@ pub fn send<I: Source, O: Sink>(
     ensures input_kept { result ≢ SendEnd.SourceFault → (I.told input.new).faults ≡ (I.told input.old).faults }
     ensures output_kept { result ≢ SendEnd.SinkFault → (O.told output.new).faults ≡ (O.told output.old).faults }
 {
-    match gather(alloc, plan, input) {
-        Ok(gathered) => write_stream(alloc, plan, &gathered, output),
-        Err(ReadFault::Source) => SendEnd::SourceFault,
-        Err(ReadFault::OutOfMemory) => SendEnd::OutOfMemory,
+    let offered = match Offered::new(alloc, plan) {
+        Ok(offered) => offered,
+        Err(_) => return SendEnd::OutOfMemory,
+    };
+    let mut taker = PlanTaker { plan, offered };
+    match read_capture(alloc, input, &mut taker) {
+        Ok(found) => write_stream(alloc, plan, &taker.offered, found, output),
+        Err(CaptureReadFault::Source) => SendEnd::SourceFault,
+        Err(CaptureReadFault::OutOfMemory) => SendEnd::OutOfMemory,
     }
 }
 
-/// Writes the stream of what was gathered, and flushes it.
-fn write_stream<O: Sink>(alloc: Global, plan: &Plan, gathered: &Gathered, output: &mut O) -> SendEnd
-    requires offered { IsUnderPlan (plan_fields plan.now) gathered.now.offered }
-    ensures sent { (bytes : List ℕ) → IsGathered (plan_fields plan.now) bytes gathered.now → Sends (plan_fields plan.now) bytes result (O.told output.old).held (O.told output.new).held }
+/// Writes the stream of what the records of a capture offered, and flushes it. Then it answers the fault that was found behind them.
+fn write_stream<O: Sink>(
+    alloc: Global,
+    plan: &Plan,
+    offered: &Offered,
+    found: Option<PlacedFault>,
+    output: &mut O,
+) -> SendEnd
+    requires offered { IsUnderPlan (plan_fields plan.now) offered.now }
+    ensures sent { (bytes : List ℕ) → IsGathered (plan_fields plan.now) bytes offered.now found → Sends (plan_fields plan.now) bytes result (O.told output.old).held (O.told output.new).held }
     ensures flushed { is_whole result ≡ true → IsFlushed (O.told output.new).held (O.told output.new).flushed }
     ensures unchanged { is_begun result ≡ true ⊎ (output.new ≡ output.old) }
     ensures unflushed { result ≡ SendEnd.SinkFault → Stays (O.told output.old).flushed (O.told output.new).flushed }
-    ensures done { is_done result ≡ true → gathered.now.fault ≡ None }
-    ensures fault { OnCapture result (λ fault place. gathered.now.fault ≡ Some (record { fault = fault; place = place })) }
+    ensures done { is_done result ≡ true → found ≡ None }
+    ensures fault { OnCapture result (λ fault place. found ≡ Some (record { fault = fault; place = place })) }
     ensures source { result ≢ SendEnd.SourceFault }
     ensures sink { result ≡ SendEnd.SinkFault → Rose (O.told output.old).faults (O.told output.new).faults }
     ensures output_kept { result ≢ SendEnd.SinkFault → (O.told output.new).faults ≡ (O.told output.old).faults }
 {
-    let tally = match send_offered(alloc, plan, &gathered.offered, output) {
+    let tally = match send_offered(alloc, plan, offered, output) {
         Ok(tally) => tally,
         Err(MuxFault::Sink) => return SendEnd::SinkFault,
         Err(MuxFault::OutOfMemory) => return SendEnd::OutOfMemory,
     };
-    match gathered.fault {
-        Some(found) => SendEnd::Capture {
-            fault: found.fault,
-            place: found.place,
-        },
+    match found {
+        Some(PlacedFault { fault, place }) => SendEnd::Capture { fault, place },
         None => SendEnd::Done(tally),
     }
 }
