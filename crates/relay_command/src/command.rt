@@ -6,9 +6,8 @@ ghost use Rattle.relay_command.specs.Relaying.{Relays};
 use crate::ends::{GatherEnd, RelayEnd};
 use crate::gathering::gather_recording;
 use ipe_io::{Sink, Source};
-use mux_core::MuxFault;
 use plan::Plan;
-use send_command::send_offered;
+use send_command::{MuxFault, send_offered};
 use std::alloc::Global;
 
 /// Receives the recording that is read from `input` under the inner plan, writes the stream of all that it delivers under the outer plan, and

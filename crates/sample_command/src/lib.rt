@@ -14,3 +14,4 @@ mod summary;
 
 pub use command::sample;
 pub use laws::a_sample_has_one_summary;
+pub use ts_mux::MuxFault;
