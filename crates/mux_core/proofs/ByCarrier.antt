@@ -1,18 +1,13 @@
 -- What is written of a stream, by the plan's carrier.
 use Rattle.std.proofs.Common.{◌≡◌, ℕ, true, false, List, Option, Result, Ok, Err}
 use Rattle.plan_spec.specs.Plan.{PlanFields, is_baseband}
-use Rattle.datagram_routing.specs.declared.offered.Offered.{Offered}
-use Rattle.bb_mux.specs.Sending.{WritesBaseband, IsUnderPlan as IsInFrames}
+use Rattle.bb_mux.specs.Sending.{WritesBaseband}
 use Rattle.bb_mux.specs.declared.sending.StreamFault.{StreamFault}
 use Rattle.carrier_law.proofs.Cases.{in_frames, in_records}
-use Rattle.ts_mux.specs.Sending.{IsUnderPlan, WritesPackets}
+use Rattle.ts_mux.specs.Sending.{WritesPackets}
 use Rattle.ts_mux.specs.declared.sending.Sent.{Sent}
 use Rattle.ts_mux.specs.declared.sending.MuxFault.{MuxFault}
 use Rattle.mux_core.specs.Sending.{WritesStream}
-
--- what was offered is the same for both
-pub in_frames_under : (plan : PlanFields) (offer : Offered) → IsUnderPlan plan offer → IsInFrames plan offer
-in_frames_under plan offer under = record { records = under.records; stands = under.stands; datagrams = under.datagrams; few = under.few }
 
 -- of transport packets
 pub writes_packets : (plan : PlanFields) (datagrams : ℕ → ℕ → List (List ℕ)) (result : Result Sent MuxFault) (old new : Option (List ℕ)) → is_baseband plan ≡ false

@@ -5,8 +5,8 @@ ghost use Rattle.wire_spec.specs.Content.{Stays};
 ghost use Rattle.plan_spec.specs.Plan.{is_baseband};
 ghost use Rattle.plan_spec.specs.Offered.{Records, offered_in};
 ghost use Rattle.plan.specs.PlanView.{plan_fields};
-ghost use Rattle.datagram_routing.specs.Offering.{IsOffered};
-ghost use Rattle.ts_mux.specs.Sending.{IsUnderPlan, datagram_count};
+ghost use Rattle.datagram_routing.specs.Offering.{IsOffered, IsUnderPlan};
+ghost use Rattle.ts_mux.specs.Sending.{datagram_count};
 ghost use Rattle.mux_core.specs.Sending.{WritesStream};
 ghost use Rattle.ts_mux.specs.declared.sending.MuxFault.TheVariants.{Sink as SinkFault, OutOfMemory as NoMemory};
 

@@ -7,9 +7,8 @@ use Rattle.wire_spec.specs.Datagram.{IsDatagram}
 use Rattle.ipe_io.specs.Told.{InputTold}
 use Rattle.plan_spec.specs.Plan.{PlanFields}
 use Rattle.plan_spec.specs.Offered.{Records}
-use Rattle.datagram_routing.specs.Offering.{IsOffered, HoldDatagrams}
+use Rattle.datagram_routing.specs.Offering.{IsOffered, HoldDatagrams, IsUnderPlan}
 use Rattle.datagram_routing.specs.declared.offered.Offered.{Offered}
-use Rattle.ts_mux.specs.Sending.{IsUnderPlan}
 use Rattle.recording_spec.specs.Relayed.{as_records, relayed}
 use Rattle.relay_core.specs.Gathering.{GatherState, delivered_records}
 use Rattle.relay_command.specs.Gathered.{GathersAll}

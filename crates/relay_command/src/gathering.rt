@@ -1,7 +1,7 @@
 //! A recording -> the datagrams that it delivers, of all services in one order, offered under another plan.
 ghost use Rattle.std.specs.Prelude.{◌≡◌, false, [], IfOk, IsErrOf};
 ghost use Rattle.plan.specs.PlanView.{plan_fields};
-ghost use Rattle.ts_mux.specs.Sending.{IsUnderPlan};
+ghost use Rattle.datagram_routing.specs.Offering.{IsUnderPlan};
 ghost use Rattle.demux_core.specs.Carriers.{stream_of};
 ghost use Rattle.demux_core.specs.Carried.{IsReady};
 ghost use Rattle.recording_reader.specs.Any.{form_in, size_in, content_in, count_in, HasReadIn};

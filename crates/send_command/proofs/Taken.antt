@@ -11,8 +11,7 @@ use Rattle.pcap_file.specs.declared.faults.CaptureFault.{CaptureFault}
 use Rattle.plan_spec.specs.Offered.{Records}
 use Rattle.plan.specs.PlanView.{plan_fields}
 use Rattle.stream_law.specs.Captures.{datagram_in, given_by}
-use Rattle.datagram_routing.specs.Offering.{IsOffered, HasRoom}
-use Rattle.ts_mux.specs.Sending.{IsUnderPlan}
+use Rattle.datagram_routing.specs.Offering.{IsOffered, HasRoom, IsUnderPlan}
 use Rattle.capture_intake.specs.Wanted.{TellsWanted, ShowsFault as ShowsWanted, place_in_wanted, every_link, is_refused, is_wanted}
 use Rattle.capture_intake.specs.Taken.{HasTaken, IsToldBy, ReadsBytes}
 use Rattle.capture_intake.specs.declared.faults.PlacedFault.{PlacedFault}

@@ -5,7 +5,7 @@ ghost use Rattle.wire_spec.specs.Content.{Stays};
 ghost use Rattle.ipe_io.specs.Counts.{IsFlushed};
 ghost use Rattle.pcap_file.specs.Reader.{is_cut};
 ghost use Rattle.plan.specs.PlanView.{plan_fields};
-ghost use Rattle.ts_mux.specs.Sending.{IsUnderPlan};
+ghost use Rattle.datagram_routing.specs.Offering.{IsUnderPlan};
 ghost use Rattle.send_command.specs.Gathering.{IsGathered};
 ghost use Rattle.send_command.specs.Sending.{Sends, Reads, OnCapture, is_done, is_whole, is_begun};
 

@@ -4,12 +4,12 @@ ghost use Rattle.wire_spec.specs.Causes.{Rose};
 ghost use Rattle.wire_spec.specs.Content.{Stays};
 ghost use Rattle.plan_spec.specs.Offered.{Records, offered_in};
 ghost use Rattle.plan.specs.PlanView.{plan_fields};
-ghost use Rattle.datagram_routing.specs.Offering.{IsOffered};
+ghost use Rattle.datagram_routing.specs.Offering.{IsOffered, IsUnderPlan};
 ghost use Rattle.wire_spec.specs.Causes.{HasCause};
 ghost use Rattle.stream_spec.specs.Parts.{PartFields};
 ghost use Rattle.ts_mux.specs.Services.{packet_total, AreTaken, HasLists, Begins};
 ghost use Rattle.ts_mux.specs.PartUnits.{MadeUnits};
-ghost use Rattle.ts_mux.specs.Sending.{IsUnderPlan, WritesPackets, WritesRecords, AreUnits, AreDatagrams, datagram_count};
+ghost use Rattle.ts_mux.specs.Sending.{WritesPackets, WritesRecords, AreUnits, AreDatagrams, datagram_count};
 ghost use Rattle.stream_spec.specs.Stream.{are_on_pids};
 ghost use Rattle.ts_mux.specs.declared.sending.MuxFault.TheVariants.{Sink as SinkFault, OutOfMemory as NoMemory};
 

@@ -7,7 +7,7 @@ use Rattle.stream_law.proofs.Wholes.{few_changes}
 use Rattle.ts_mux.specs.declared.sending.MuxFault.TheVariants as fault
 use Rattle.ts_mux.specs.Sending.{datagram_count}
 use Rattle.ts_mux.proofs.Streamed.{few_lists, length-offered}
-use Rattle.mux_core.proofs.ByCarrier.{in_frames_under, writes_frames, writes_front}
+use Rattle.mux_core.proofs.ByCarrier.{writes_frames, writes_front}
 use Rattle.mux_core.proofs.carriers.stream_in_frames.Goals as goal
 
 pub count_datagrams-datagrams-requires-clause-versions : goal.count_datagrams-datagrams-requires-clause-versions
@@ -27,7 +27,7 @@ count_datagrams-datagrams-requires-clause-few g c =
     below n less = less
 
 pub stream_frames-requires-clause-offered : goal.stream_frames-requires-clause-offered
-stream_frames-requires-clause-offered g c = in_frames_under (plan_fields c.args.plan.now) c.args.offered.now c.requires.offered
+stream_frames-requires-clause-offered g c = c.requires.offered
 
 pub returns-in-Ok-clause-written : goal.returns-in-Ok-clause-written
 returns-in-Ok-clause-written g c = λ gives stands.

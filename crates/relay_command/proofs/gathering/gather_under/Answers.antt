@@ -4,7 +4,7 @@ use Rattle.plan.specs.PlanView.{plan_fields}
 use Rattle.receive_command.proofs.Plans.{services_count}
 use Rattle.receive_command.proofs.Begun.{is_fresh, has_room, is_ready}
 use Rattle.datagram_routing.specs.declared.offered.Offered.{Offered}
-use Rattle.ts_mux.specs.Sending.{IsUnderPlan}
+use Rattle.datagram_routing.specs.Offering.{IsUnderPlan}
 use Rattle.relay_command.specs.Relaying.{GathersInto, at_datagram}
 use Rattle.relay_command.proofs.Receiving.{too_many, lacks}
 use Rattle.relay_command.proofs.AsRecords.{received_into, under_plan}

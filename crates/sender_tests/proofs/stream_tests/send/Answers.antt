@@ -3,9 +3,8 @@ use Rattle.wire_spec.specs.Datagram.{IsDatagram}
 use Rattle.plan_spec.specs.Plan.{PlanFields}
 use Rattle.plan_spec.specs.Offered.{Records}
 use Rattle.plan.specs.PlanView.{plan_fields}
-use Rattle.datagram_routing.specs.Offering.{IsOffered, HasRoom, HoldDatagrams}
+use Rattle.datagram_routing.specs.Offering.{IsOffered, HasRoom, HoldDatagrams, IsUnderPlan}
 use Rattle.datagram_routing.specs.declared.offered.Offered.{Offered}
-use Rattle.ts_mux.specs.Sending.{IsUnderPlan}
 use Rattle.sender_tests.proofs.stream_tests.send.Goals as goal
 
 room : (plan : PlanFields) (records : Records) (o : Offered) → length records < 9 → IsOffered plan records o → HasRoom plan o
