@@ -1,5 +1,4 @@
 pub mod Views
-pub mod Pieces
 pub mod Refusals
 pub mod First
 pub mod Watching

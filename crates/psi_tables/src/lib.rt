@@ -8,7 +8,6 @@
 mod finder;
 mod first;
 mod pat;
-mod pieces;
 mod pmt;
 mod psi;
 mod streams;

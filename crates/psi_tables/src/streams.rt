@@ -2,13 +2,13 @@
 ghost use Rattle.std.specs.Prelude.{◌≡◌, ◌≤◌, ◌+◌, true, drop, length, find, option_map, slice_index, nat_le};
 ghost use Rattle.std.specs.List.{list_all};
 ghost use Rattle.psi_spec.specs.Pmt.{descriptors_in, is_right as descriptor_is_right, are_right as all_are_right, is_identifier, is_stream, stream_pieces, stream_info, streams_part, program_info, info_size, has_loops as body_has_loops, has_descriptors as body_has_descriptors, has_right_info, stream_of as stream_in, tag_of as tag_in};
-ghost use Rattle.psi_tables.specs.Pieces.{pieces_of};
+ghost use Rattle.int_table.specs.Pieces.{pieces_of};
 ghost use Rattle.psi_tables.specs.Views.{stream_seen};
 
 use crate::pat::PIDS;
-use crate::pieces::{Cut, LoopPieces};
 use crate::pmt::Stream;
 use crate::psi::u16_in;
+use int_table::{Kind, Pieces};
 
 /// Bytes of a body before its descriptors.
 pub(crate) const HEAD: usize = 9;
@@ -31,10 +31,13 @@ fn rest_from(bytes: &[u8], count: usize) -> &[u8]
 }
 
 /// The descriptors one after another in some bytes.
-fn descriptors(bytes: &[u8]) -> LoopPieces<'_>
-    ensures { pieces_of result.cut result.rest.now ≡ descriptors_in bytes.now }
+fn descriptors(bytes: &[u8]) -> Pieces<'_>
+    ensures { pieces_of result.kind result.rest.now ≡ descriptors_in bytes.now }
 {
-    LoopPieces::over(Cut::Descriptors, bytes)
+    Pieces {
+        kind: Kind::Descriptor,
+        rest: bytes,
+    }
 }
 
 /// Whether a descriptor is whole, and has one byte where it is a stream_identifier_descriptor.
@@ -68,11 +71,14 @@ fn size_of_info(body: &[u8]) -> usize
 }
 
 /// The streams of a body.
-pub(crate) fn streams(body: &[u8]) -> LoopPieces<'_>
+pub(crate) fn streams(body: &[u8]) -> Pieces<'_>
     requires { 9 ≤ length body.now }
-    ensures { pieces_of result.cut result.rest.now ≡ stream_pieces body.now }
+    ensures { pieces_of result.kind result.rest.now ≡ stream_pieces body.now }
 {
-    LoopPieces::over(Cut::Streams, rest_from(body, HEAD + size_of_info(body)))
+    Pieces {
+        kind: Kind::Stream,
+        rest: rest_from(body, HEAD + size_of_info(body)),
+    }
 }
 
 /// Whether a stream is as long as it tells.
