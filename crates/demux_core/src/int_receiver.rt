@@ -11,11 +11,10 @@ use bumpalo::Bump;
 use byte_slices::zeros;
 use ipe_io::OutOfMemory;
 use plan::IntPlan;
+use section_codec::SectionForm;
 use service_reception::IntReception;
 use ts_packet::Packet;
-
-/// The longest section (ISO/IEC 13818-1 clause 2.4.4).
-const LONGEST: usize = 4096;
+use unit_stream::UnitForm;
 
 /// The receiver of the INT's PID.
 #[derive(Drop)]
@@ -38,8 +37,8 @@ pub(crate) fn open_int<'a>(
         Some(int) => int,
         None => return Ok(None),
     };
-    let buffer = zeros(arena, LONGEST)?;
-    let kept = zeros(arena, LONGEST)?;
+    let buffer = zeros(arena, SectionForm::LONGEST)?;
+    let kept = zeros(arena, SectionForm::LONGEST)?;
     let reception = IntReception::over(buffer, kept, int.platform_id, last_version);
     Ok(Some(IntReceiver {
         pid: int.pid,
