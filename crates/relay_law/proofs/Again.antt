@@ -34,8 +34,8 @@ use Rattle.end_to_end_law.specs.Sent.{IsSent, offered_by, offered_on, sent_recor
 use Rattle.end_to_end_law.specs.Units.{wants_datagram}
 use Rattle.end_to_end_law.specs.Spans.{DeliversOfSpans}
 use Rattle.end_to_end_law.proofs.OverSpans.{own_pid}
-use Rattle.bb_end_to_end_law.specs.Sent.{IsSentInFrames, offered_to, wants_in_frames}
-use Rattle.bb_end_to_end_law.specs.Delivered.{DeliversNumbered}
+use Rattle.end_to_end_law.specs.BbSent.{IsSentInFrames, offered_to, wants_in_frames}
+use Rattle.end_to_end_law.specs.BbDelivered.{DeliversNumbered}
 use Rattle.recording_spec.specs.Pieces.{records_in, delivered_of}
 use Rattle.recording_spec.specs.Relayed.{relayed, as_records}
 use Rattle.recording_law.specs.Hop.{CarriesInPieces, in_packets, in_frames, IsRecordedInPieces, wanted_in, DeliversWanted}

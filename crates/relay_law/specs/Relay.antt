@@ -11,7 +11,7 @@ use Rattle.carrier_spec.specs.Stream.{piece_size}
 use Rattle.bb_stream_spec.specs.Stream.{order_of}
 use Rattle.bb_reception_spec.specs.Delivered.{service_at}
 use Rattle.end_to_end_law.specs.Units.{wants_datagram}
-use Rattle.bb_end_to_end_law.specs.Sent.{wants_in_frames}
+use Rattle.end_to_end_law.specs.BbSent.{wants_in_frames}
 use Rattle.recording_spec.specs.Interleaving.{IsInterleaving}
 use Rattle.recording_spec.specs.Pieces.{delivered_of}
 use Rattle.recording_spec.specs.Relayed.{relayed, as_records, IsRelayed}

@@ -8,22 +8,20 @@ ghost use Rattle.stream_law.specs.Captures.{given_by};
 ghost use Rattle.gse_spec.specs.Classes.{Class, datagrams_of_class};
 ghost use Rattle.bb_reception_spec.specs.Delivered.{service_at};
 ghost use Rattle.end_to_end_law.specs.Sent.{IsSent};
-ghost use Rattle.bb_end_to_end_law.specs.Sent.{IsSentInFrames};
+ghost use Rattle.end_to_end_law.specs.BbSent.{IsSentInFrames};
 ghost use Rattle.recording_spec.specs.Pieces.{delivered_of};
 ghost use Rattle.recording_spec.specs.Relayed.{relayed, as_records};
 ghost use Rattle.recording_law.specs.Hop.{CarriesInPieces, IsRecordedInPieces, wanted_in};
 ghost use Rattle.relay_law.specs.Relay.{IsRelay, reordered, ArrivesAgain, ArrivesMerged};
 
-use bb_end_to_end_law::{
-    all_of_a_capture_arrives_where_no_frame_is_lost, each_capture_is_sent_in_frames,
-    each_class_of_a_capture_arrives_in_order, each_datagram_is_sent_in_a_pdu,
-    what_arrives_of_a_capture_in_frames,
-};
 use bb_loss_law::{
     a_frame_stream_is_a_recording_of_itself, each_gse_service_delivers_what_arrived_intact,
 };
 use end_to_end_law::{
-    all_of_a_capture_arrives_where_nothing_is_lost, what_arrives_of_a_capture,
+    all_of_a_capture_arrives_where_no_frame_is_lost,
+    all_of_a_capture_arrives_where_nothing_is_lost, each_capture_is_sent_in_frames,
+    each_class_of_a_capture_arrives_in_order, each_datagram_is_sent_in_a_pdu,
+    what_arrives_of_a_capture, what_arrives_of_a_capture_in_frames,
     where_nothing_is_lost_a_stream_is_a_recording_of_itself,
 };
 use recording_law::{

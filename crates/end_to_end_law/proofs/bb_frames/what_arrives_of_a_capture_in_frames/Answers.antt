@@ -1,0 +1,35 @@
+use Rattle.std.proofs.Common.{ℕ, List, subst}
+use Rattle.plan_spec.specs.Plan.{ServiceFields}
+use Rattle.std.proofs.lemmas.Option.{slice_get-get_or}
+use Rattle.plan_spec.specs.Changes.{no_service}
+use Rattle.stream_law.specs.Captures.{given_by}
+use Rattle.bb_stream_spec.specs.Stream.{order_of}
+use Rattle.gse_spec.specs.Received.{carried_by_pdu}
+use Rattle.bb_reception_spec.specs.Delivered.{service_at, delivered_of}
+use Rattle.end_to_end_law.specs.BbSent.{offered_to}
+use Rattle.end_to_end_law.specs.BbDelivered.{DeliversNumbered}
+use Rattle.end_to_end_law.proofs.BbServices.{is_of_gse, are_datagrams}
+use Rattle.end_to_end_law.proofs.BbOrders.{order_datagrams}
+use Rattle.end_to_end_law.proofs.BbWanted.{delivers_numbered}
+use Rattle.end_to_end_law.proofs.bb_frames.what_arrives_of_a_capture_in_frames.Goals as goal
+
+pub returns : goal.returns
+returns c = record {
+  arrives = λ plan capture told frames sent k isi is recorded is_recorded.
+      let service : ServiceFields = service_at plan k in
+      let kind = is_of_gse service.kind isi is.own in
+      let order : List (List ℕ) → List (List ℕ) = order_of plan sent.stream.size k in
+      let offered : List (List ℕ) = order (offered_to plan capture told k) in
+      let delivers = c.each_gse_service_delivers_what_arrived_intact.ensures.delivers plan k frames recorded is_recorded offered
+      (c.each_gse_service_delivers_what_arrived_intact.ensures.carries plan frames (λ n. order_of plan sent.stream.size n (offered_to plan capture told n)) (c.each_datagram_is_sent_in_a_pdu.ensures.carries plan capture told frames sent) k) in
+      subst (λ (ds : List (List ℕ)). DeliversNumbered is_recorded.channel isi service (order ds) (delivered_of plan k recorded))
+      (c.each_capture_is_sent_in_frames.ensures.all plan capture told frames sent k)
+      (delivers_numbered service isi kind.0 kind.1 (c.offered_datagrams_are_carried.ensures.carried kind.0 service.unicast) frames offered
+      (order_datagrams service.urgent (offered_to plan capture told k) offered
+      (c.a_baseband_stream_carries_what_was_offered.ensures.classes plan sent.accepted sent.of_bytes (given_by capture told) frames sent.stream k service
+      (slice_get-get_or plan.services k no_service is.service))
+      (are_datagrams plan capture told frames sent (c.a_capture_gives_datagrams.ensures.are capture told sent.fault sent.capture_bytes sent.tells) k))
+      (c.each_datagram_is_sent_in_a_pdu.ensures.pdus plan capture told frames sent k isi kind.0 is.service kind.1)
+      (c.the_pdus_say_what_is_delivered.ensures.delivered carried_by_pdu service.filter isi frames)
+      is_recorded.channel (delivered_of plan k recorded) (delivers.each isi is));
+}
