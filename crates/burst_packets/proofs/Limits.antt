@@ -15,8 +15,8 @@ use Rattle.fec_frame_spec.specs.Sender.{frame_of, section_of_datagram, section_o
 use Rattle.unit_stream.specs.Packing.{byte_count, packetized, pieces}
 use Rattle.unit_stream.proofs.Written.{length-numbered}
 use Rattle.unit_stream.specs.Packers.{AreRising, end_of}
-use Rattle.window_law.specs.Packets.{AreSome}
-use Rattle.window_law.proofs.Filling.{few_packets}
+use Rattle.slice_law.specs.Packets.{AreSome}
+use Rattle.slice_law.proofs.Filling.{few_packets}
 use Rattle.fec_sent_law.specs.Frames.{AreSendable, IsSendable}
 use Rattle.stream_spec.specs.Units.{mac_for, sized_units, burst_size}
 use Rattle.stream_law.proofs.Framed.{byte_both, data_size, column_size, all_data, all_columns}

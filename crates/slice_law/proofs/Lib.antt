@@ -6,3 +6,10 @@ pub mod Segments
 pub mod Stamped
 pub mod Accepted
 pub mod Rows
+pub mod Checks
+pub mod PlanOwners
+pub mod Filling
+pub mod Fits
+pub mod Turned
+pub mod After
+pub mod InPlans

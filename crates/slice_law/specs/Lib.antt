@@ -1,2 +1,5 @@
 pub mod Carried
 pub mod Cycles
+pub mod Plans
+pub mod Packets
+pub mod Kept

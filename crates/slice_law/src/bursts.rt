@@ -1,5 +1,5 @@
-//! Sending: the bursts of a sliced service are timed.
-ghost use Rattle.std.specs.Prelude.{◌≡◌, ◌↔◌, ℕ, ◌+◌, ◌*◌, ◌^◌, ◌<◌, ◌≤◌, false, List, [], ◌∷◌, ◌++◌, length, Contains, Some};
+//! Sending: the bursts of a sliced service are timed, also those of accepted settings.
+ghost use Rattle.std.specs.Prelude.{◌≡◌, ◌↔◌, ℕ, ◌+◌, ◌*◌, ◌^◌, ◌<◌, ◌≤◌, true, false, List, [], ◌∷◌, ◌++◌, length, Contains, Some};
 ghost use Rattle.std.specs.List.{slice_get};
 ghost use Rattle.ts_spec.specs.Recording.{stamped};
 ghost use Rattle.slice_spec.specs.Moments.{ten, moment_of};
@@ -7,6 +7,10 @@ ghost use Rattle.slice_spec.specs.Sections.{SectionTime};
 ghost use Rattle.slice_spec.specs.Frames.{IsOf, IsTimed};
 ghost use Rattle.slice_spec.specs.Bursts.{Slicing, Burst, slot_of, moment_in, times_of, AreInWindows, IsSliceable};
 ghost use Rattle.slice_law.specs.Cycles.{bursts_from};
+ghost use Rattle.plan_spec.specs.Plan.{PlanFields, SlicedFields, sliced_of};
+ghost use Rattle.plan_spec.specs.Valid.{is_plan};
+ghost use Rattle.stream_spec.specs.Services.{kind_at};
+ghost use Rattle.slice_law.specs.Plans.{slicing_of};
 
 /// The bursts of a service are timed, in each form of recording, for each rate, cycle and window that leave a gap of ten milliseconds;
 /// delta_t fits 12 bits, and is 0 in the last frame alone.
@@ -43,3 +47,19 @@ pub fn two_bursts_announce_their_times()
     ensures times { times_of (record { form = stamped; rate = 10000; cycle = 20000; start = 100; length = 1500 }) false (bursts_from 0 ((0 ∷ 7 ∷ []) ∷ (0 ∷ []) ∷ []))
         ≡ (record { moment = 10000; delta = 200 } ∷ record { moment = 10700; delta = 199 } ∷ []) ∷ (record { moment = 2010000; delta = 0 } ∷ []) ∷ [] }
 {}
+
+/// The bursts of each sliced service are timed, in each form of recording, for all packet rates, cycles and windows that the checks
+/// accept. From each packet of a window the next one is as near as delta_t needs it.
+pub fn bursts_of_a_plan_are_timed()
+    ensures sliceable { (plan : PlanFields) → is_plan plan ≡ true → (k : ℕ) (fields : SlicedFields) → sliced_of (kind_at plan k) ≡ Some fields
+        → IsSliceable (slicing_of plan fields) }
+    ensures timed { (plan : PlanFields) → is_plan plan ≡ true → (k : ℕ) (fields : SlicedFields) → sliced_of (kind_at plan k) ≡ Some fields
+        → (bursts : List Burst) → AreInWindows (slicing_of plan fields) bursts → IsTimed (ten plan.recording) (times_of (slicing_of plan fields) false bursts) }
+    ensures near { (plan : PlanFields) → is_plan plan ≡ true → (k : ℕ) (fields : SlicedFields) → sliced_of (kind_at plan k) ≡ Some fields
+        → (c n : ℕ) → n < fields.length
+        → (moment_in (slicing_of plan fields) c n + ten plan.recording ≤ moment_in (slicing_of plan fields) (c + 1) 0)
+        × (moment_in (slicing_of plan fields) (c + 1) 0 < moment_in (slicing_of plan fields) c n + 4096 * ten plan.recording) }
+{
+    bursts_are_timed();
+    windows_leave_gaps();
+}

@@ -11,9 +11,9 @@ use Rattle.stream_spec.specs.Services.{kind_at}
 use Rattle.stream_spec.specs.Slots.{of_table, of_service, empty, IsSlotCount}
 use Rattle.stream_spec.specs.Windows.{windows_of}
 use Rattle.stream_spec.specs.Parts.{PartFields, service_packets, turn_count, turn_counts, sizes_in, kept_in, slot_in}
-use Rattle.window_law.proofs.Checks.{shorter}
-use Rattle.window_law.proofs.Turned.{IsWindowed, more, all_out}
-use Rattle.window_law.proofs.InPlans.{windowed}
+use Rattle.slice_law.proofs.Checks.{shorter}
+use Rattle.slice_law.proofs.Turned.{IsWindowed, more, all_out}
+use Rattle.slice_law.proofs.InPlans.{windowed}
 use Rattle.stream_law.specs.Words.{number_of}
 use Rattle.stream_law.proofs.Turns.{KeepsNoneOf, none_of, out_of}
 use Rattle.stream_law.proofs.Ends.{all_out as turns_out}

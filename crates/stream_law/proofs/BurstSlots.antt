@@ -17,7 +17,7 @@ use Rattle.stream_spec.specs.Services.{kind_at}
 use Rattle.stream_spec.specs.Slots.{Slot, of_table, of_service, empty, IsSlotCount}
 use Rattle.stream_spec.specs.Windows.{windows_of, out_before}
 use Rattle.stream_spec.specs.Parts.{PartFields, service_packets, turn_counts, sizes_in, kept_in, slot_in}
-use Rattle.window_law.proofs.Turned.{IsWindowed}
+use Rattle.slice_law.proofs.Turned.{IsWindowed}
 use Rattle.stream_law.specs.Words.{number_of}
 use Rattle.stream_law.proofs.Turns.{carried_there}
 use Rattle.stream_law.proofs.Records.{read_of}

@@ -9,8 +9,8 @@ use Rattle.std.proofs.lemmas.List.{length-map, get_or_past}
 use Rattle.std.proofs.lemmas.List.Sums.{sum_by-cons}
 use Rattle.ts_spec.specs.Packet.{PacketFields}
 use Rattle.slice_spec.specs.Windows.{owner_of}
-use Rattle.window_law.specs.Kept.{AreWithin}
-use Rattle.window_law.proofs.After.{leaves, keeps_none}
+use Rattle.slice_law.specs.Kept.{AreWithin}
+use Rattle.slice_law.proofs.After.{leaves, keeps_none}
 use Rattle.plan_spec.specs.Plan.{KindFields, mpe, ServiceFields, kinds, sliced_of}
 use Rattle.plan_spec.specs.Signalling.{table_packets}
 use Rattle.stream_spec.specs.Services.{kind_at}

@@ -10,7 +10,7 @@ use Rattle.plan_spec.specs.Valid.{is_plan}
 use Rattle.stream_spec.specs.Services.{kind_at}
 use Rattle.stream_spec.specs.Slots.{Slot, of_table, of_service, empty, is_of_service, IsSlotCount}
 use Rattle.stream_spec.specs.Parts.{PartFields, service_packets, turn_counts, sizes_in, kept_in, slot_in}
-use Rattle.window_law.proofs.Checks.{shorter}
+use Rattle.slice_law.proofs.Checks.{shorter}
 use Rattle.stream_law.specs.Words.{number_of, AreOutIn, AreFirstOutIn}
 use Rattle.stream_law.proofs.Ranges.{range_append}
 use Rattle.stream_law.proofs.Turns.{carried_there}

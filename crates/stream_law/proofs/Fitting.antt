@@ -14,8 +14,8 @@ use Rattle.plan_spec.specs.Route.{longest_of}
 use Rattle.plan_spec.specs.Valid.{is_plan}
 use Rattle.plan_spec.specs.Wholes.{is_whole_plan}
 use Rattle.plan_spec.specs.Offered.{datagrams as datagrams_of, offered_in}
-use Rattle.window_law.specs.Packets.{AreSome}
-use Rattle.window_law.proofs.Fits.{fits_window as fits_its_window}
+use Rattle.slice_law.specs.Packets.{AreSome}
+use Rattle.slice_law.proofs.Fits.{fits_window as fits_its_window}
 use Rattle.stream_spec.specs.Services.{kind_at}
 use Rattle.stream_spec.specs.Units.{mac_for, sized_units, burst_size, fits_window, datagrams_by_burst, burst_sizes}
 use Rattle.stream_law.specs.Words.{IsByteDatagram, FitsWindow}

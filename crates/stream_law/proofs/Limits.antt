@@ -45,7 +45,7 @@ use Rattle.stream_law.proofs.Versions.{limits_of_version, taken_in_version}
 use Rattle.stream_law.proofs.Wholes.{few_changes, version_accepted}
 use Rattle.stream_law.proofs.KindPackets.{no_bursts}
 use Rattle.stream_law.proofs.Carrying.{length-packets_from, same_length, cycles_of, leaves_slots, free_after, keeps_none_from}
-use Rattle.window_law.proofs.Checks.{rate_above, sliceable}
+use Rattle.slice_law.proofs.Checks.{rate_above, sliceable}
 use Rattle.stream_law.proofs.Plans.{at_most, at_least, ranges, sendable, few_services, few_rules}
 use Rattle.stream_law.proofs.TableSizes.{table_size}
 use Rattle.stream_law.proofs.Counted.{slots_most}

@@ -20,8 +20,8 @@ use Rattle.slice_spec.specs.Bursts.{Slicing, Burst, delta_to_next, times_of as t
 use Rattle.slice_law.specs.Cycles.{bursts_from}
 use Rattle.slice_law.proofs.Timed.{announced_below}
 use Rattle.slice_law.proofs.Rows.{in_a_row}
-use Rattle.window_law.proofs.Checks.{sliceable}
-use Rattle.window_law.proofs.InPlans.{there}
+use Rattle.slice_law.proofs.Checks.{sliceable}
+use Rattle.slice_law.proofs.InPlans.{there}
 use Rattle.fec_frame_spec.specs.Sections.{FrameSection, data_section, parity_section, TimedSection, times_of}
 use Rattle.fec_frame_spec.specs.Frame.{FrameFields, AreSentFrames}
 use Rattle.fec_frame_spec.specs.Sender.{frame_of, section_of_datagram, section_of_column, section_unit}

@@ -8,7 +8,7 @@ use Rattle.ts_spec.specs.Recording.{records_of}
 use Rattle.ts_spec.specs.Received.{Arrival, arrivals}
 use Rattle.ts_packet.specs.Fields.{written_fields}
 use Rattle.slice_spec.specs.Moments.{moment_of}
-use Rattle.window_law.proofs.Checks.{rate_above, checks, some_sliced}
+use Rattle.slice_law.proofs.Checks.{rate_above, checks, some_sliced}
 use Rattle.plan_spec.specs.Plan.{WindowFields, KindFields, fec, PlanFields, kinds, SlicedFields, sliced_of}
 use Rattle.plan_spec.specs.Checks.{is_plain, is_sliced}
 use Rattle.plan_spec.specs.Changes.{plan_in, pid_in, has_pid, versions}

@@ -24,7 +24,7 @@ use Rattle.stream_law.proofs.Ranges.{sum_most}
 use Rattle.stream_law.proofs.Counted.{slots_most}
 use Rattle.stream_law.proofs.Plans.{ranges, at_least, at_most, few_services}
 use Rattle.stream_law.proofs.Carrying.{cycles_of, leaves_slots, free_after, keeps_none_from}
-use Rattle.window_law.proofs.Checks.{shorter}
+use Rattle.slice_law.proofs.Checks.{shorter}
 use Rattle.ts_mux.specs.Services.{AreTaken, Takes, packet_total, rotation, Serving, Begins}
 use Rattle.ts_mux.specs.Sending.{AreDatagrams}
 use Rattle.ts_mux.specs.Slots.{IsFew}

@@ -7,7 +7,7 @@ use Rattle.std.proofs.Math.Nat.{mod-lt}
 use Rattle.ts_spec.specs.Packet.{PacketFields}
 use Rattle.ts_spec.specs.Packetized.{packet_at}
 use Rattle.stream_spec.specs.Windows.{out_before}
-use Rattle.window_law.proofs.Turned.{out_more}
+use Rattle.slice_law.proofs.Turned.{out_more}
 use Rattle.ts_mux.specs.Services.{Bursts, opening}
 use Rattle.ts_mux.specs.Slots.{bursts_before}
 use Rattle.ts_mux.proofs.Signalled.{next_place, last_place, first_place}

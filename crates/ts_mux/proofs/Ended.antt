@@ -26,8 +26,8 @@ use Rattle.stream_law.proofs.KindPackets.{no_bursts as no_sizes_of}
 use Rattle.stream_law.proofs.Turns.{KeepsNoneOf, out_of}
 use Rattle.stream_law.proofs.AllOut.{in_window, all_are}
 use Rattle.stream_law.proofs.FirstOut.{out_there}
-use Rattle.window_law.proofs.Checks.{shorter}
-use Rattle.window_law.proofs.Turned.{out_more, out_is as windowed_out}
+use Rattle.slice_law.proofs.Checks.{shorter}
+use Rattle.slice_law.proofs.Turned.{out_more, out_is as windowed_out}
 use Rattle.ts_mux.specs.Services.{Serving, Bursts, no_bursts, bursts_of, packet_total, burst_total, left_in, turn_of, left_of, rotation, AreAt, all_bursts, Begins}
 use Rattle.ts_mux.specs.Slots.{turns_in, bursts_where, bursts_there, ServicesAt, StandBefore, IsOver, AddsRecord, AreHanded}
 use Rattle.ts_mux.proofs.Turned.{found_has, total_at}

@@ -14,8 +14,8 @@ use Rattle.stream_spec.specs.Services.{kind_at}
 use Rattle.stream_spec.specs.Slots.{of_table, of_service}
 use Rattle.stream_spec.specs.Windows.{windows_of, out_before, of_owner}
 use Rattle.stream_spec.specs.Parts.{PartFields, service_packets, sizes_in, kept_in}
-use Rattle.window_law.proofs.Checks.{inside, shorter}
-use Rattle.window_law.proofs.Owners.{owner_is, is_owned}
+use Rattle.slice_law.proofs.Checks.{inside, shorter}
+use Rattle.slice_law.proofs.PlanOwners.{owner_is, is_owned}
 use Rattle.ts_mux.specs.Services.{Bursts, no_bursts, bursts_of, opening, opened_at, opened_by, burst_at}
 use Rattle.ts_mux.specs.Slots.{is_early, bursts_before, bursts_where, bursts_there}
 use Rattle.ts_mux.proofs.Windowed.{some_slots, known_there}

@@ -13,7 +13,7 @@ use Rattle.stream_spec.specs.Services.{kind_at}
 use Rattle.stream_spec.specs.Units.{FrameSchedule, fits_window, frame_count, burst_sizes, packets_of_kind}
 use Rattle.stream_spec.specs.Stream.{has_frames, has_frames_after, schedule_of}
 use Rattle.stream_law.proofs.Kept.{kind_of_version, frame_count_kept}
-use Rattle.window_law.proofs.Checks.{sliceable}
+use Rattle.slice_law.proofs.Checks.{sliceable}
 use Rattle.ts_mux.specs.Services.{listed, frames_before, shape_of, GoesBy, HasTimes, BeginsService, BeginsIn}
 use Rattle.ts_mux.specs.ServiceUnits.{AreUnitsFor}
 use Rattle.ts_mux.specs.declared.service_packets.Times.{Times}

@@ -18,7 +18,7 @@ use Rattle.stream_spec.proofs.Over.{turns_kept, turns_served}
 use Rattle.stream_law.proofs.Turns.{IsWithin, within_at}
 use Rattle.stream_law.proofs.Next.{has_turn, true_ltb, false_ltb}
 use Rattle.stream_law.proofs.Carrying.{count_of}
-use Rattle.window_law.proofs.Owners.{plan_apart, owner_is}
+use Rattle.slice_law.proofs.PlanOwners.{plan_apart, owner_is}
 use Rattle.ts_mux.specs.Services.{Serving, Bursts, bursts_of, has_packets, turn_of, TakesTurn, left_of, AreAt, rotation, opened_by, with_opened, burst_of, GivesBurst}
 use Rattle.ts_mux.specs.IntPackets.{IsTableAt, packet_of_table}
 use Rattle.ts_mux.specs.declared.int_packets.IntPackets.{IntPackets}

@@ -9,7 +9,7 @@ use Rattle.plan_spec.specs.Checks.{leaves_cycle, is_too_short, is_too_long}
 use Rattle.plan_spec.specs.Signalling.{table_packets, burst_duration}
 use Rattle.plan_spec.specs.Valid.{is_plan}
 use Rattle.stream_spec.specs.Services.{kind_at}
-use Rattle.window_law.proofs.Checks.{neither, not_below, no_wrong_window, rate_above}
+use Rattle.slice_law.proofs.Checks.{neither, not_below, no_wrong_window, rate_above}
 use Rattle.std.specs.Prelude.{length}
 
 -- a quotient is small where the dividend is

@@ -1,7 +1,7 @@
 use Rattle.std.proofs.Common.{◌*◌}
 use Rattle.plan_spec.specs.Plan.{kinds}
 use Rattle.stream_spec.specs.Parts.{service_packets, turn_counts, kept_in}
-use Rattle.window_law.proofs.Checks.{shorter}
+use Rattle.slice_law.proofs.Checks.{shorter}
 use Rattle.stream_law.proofs.Ends.{ends_from}
 use Rattle.stream_law.proofs.Carrying.{cycles_of, leaves_slots, keeps_none_from}
 use Rattle.stream_law.proofs.AllOut.{service_out}

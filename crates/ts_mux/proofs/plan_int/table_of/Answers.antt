@@ -7,7 +7,7 @@ use Rattle.int_spec.specs.Descriptors.{has_right_slash}
 use Rattle.std.specs.List.{list_all}
 use Rattle.int_spec.specs.Table.{IsRule, TableFields}
 use Rattle.plan_spec.specs.Plan.{ServiceFields, PlanFields, sliced_of}
-use Rattle.window_law.proofs.Checks.{rate_above}
+use Rattle.slice_law.proofs.Checks.{rate_above}
 use Rattle.ts_mux.proofs.Windowed.{short_burst}
 use Rattle.ts_mux.proofs.Scheduled.{kind_there}
 use Rattle.plan_spec.specs.Changes.{plan_in, service_in}

@@ -12,7 +12,7 @@ use Rattle.std.proofs.Math.Nat.{add-mul, mod-lt}
 use Rattle.stream_spec.specs.Slots.{Slot, of_table, of_service, Turns, has_left, next_service, asked, turns_at, slot_of_service, slot_at}
 use Rattle.slice_spec.specs.Windows.{OwnedWindow, owner_of}
 use Rattle.stream_spec.specs.Windows.{out_before, of_owner, sliced_at, kept_for_bursts}
-use Rattle.window_law.specs.Kept.{number_of}
+use Rattle.slice_law.specs.Kept.{number_of}
 
 found : (p : ℕ → Bool) (xs : List ℕ) (k : ℕ) → find p xs ≡ Some k → p k ≡ true
 found p [] k e = absurd (cc)

@@ -1,8 +1,8 @@
 use Rattle.plan_spec.specs.Signalling.{table_packets}
 use Rattle.stream_spec.specs.Windows.{windows_of}
-use Rattle.window_law.proofs.InPlans.{windowed, there}
-use Rattle.window_law.proofs.Turned.{all_out}
-use Rattle.window_law.proofs.slots.bursts_go_out_in_their_windows.Goals as goal
+use Rattle.slice_law.proofs.InPlans.{windowed, there}
+use Rattle.slice_law.proofs.Turned.{all_out}
+use Rattle.slice_law.proofs.slots.bursts_go_out_in_their_windows.Goals as goal
 
 pub returns-clause-there : goal.returns-clause-there
 returns-clause-there c = there

@@ -2,7 +2,7 @@
 use Rattle.std.proofs.Common.{◌≡◌, ◌⊎◌, inl, inr, ℕ, zero, suc, ◌+◌, ◌-◌, ◌*◌, ◌%◌, ◌<◌, ◌≤◌, Bool, true, false, cond, ◌||◌, leb, eqb, List, [], ◌∷◌, length, take, drop, refl, ap, arith, length-drop}
 use Rattle.section_spec.specs.Section.{section_form}
 use Rattle.unit_stream.specs.Packing.{Filling, stuffed, behind_unit, filled, Piece, may_begin, begin_piece, middle_piece, pieces, byte_count, numbered, packetized}
-use Rattle.window_law.specs.Packets.{AreSome}
+use Rattle.slice_law.specs.Packets.{AreSome}
 
 -- what is left of units
 abbrev left : List ℕ → List (List ℕ) → ℕ

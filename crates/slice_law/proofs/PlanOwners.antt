@@ -8,7 +8,7 @@ use Rattle.stream_spec.specs.Services.{kind_at}
 use Rattle.slice_spec.specs.Windows.{OwnedWindow, has_slot, owner_of, AreApart}
 use Rattle.slice_law.proofs.Owners.{slot_is, owner_has, has_owner}
 use Rattle.stream_spec.specs.Windows.{owned, windows_from, windows_of}
-use Rattle.window_law.proofs.Checks.{neither, none_overlap}
+use Rattle.slice_law.proofs.Checks.{neither, none_overlap}
 
 abbrev meets : OwnedWindow → OwnedWindow → Bool
 meets a b = ltb a.start (b.start + b.length) && ltb b.start (a.start + a.length)

@@ -8,7 +8,7 @@ use Rattle.std.proofs.Math.Nat.{le-mul_of_pos_right}
 use Rattle.stream_spec.specs.Slots.{Slot, of_table, of_service, empty, is_of_service}
 use Rattle.slice_spec.specs.Windows.{OwnedWindow, owner_of}
 use Rattle.stream_spec.specs.Windows.{out_before, of_owner, sliced_at, kept_for_bursts}
-use Rattle.window_law.specs.Kept.{AreWithin}
+use Rattle.slice_law.specs.Kept.{AreWithin}
 
 module _ (cycle table : ℕ) (windows : List OwnedWindow) (sizes : ℕ → List ℕ) (cycles : ℕ) (are : AreWithin cycles sizes) (less : table < cycle) where
   -- a cycle after all bursts has none

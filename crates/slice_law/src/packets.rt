@@ -5,7 +5,7 @@ ghost use Rattle.unit_stream.specs.Packing.{byte_count, packetized};
 ghost use Rattle.plan_spec.specs.Plan.{PlanFields, SlicedFields, sliced_of};
 ghost use Rattle.plan_spec.specs.Valid.{is_plan};
 ghost use Rattle.stream_spec.specs.Services.{kind_at};
-ghost use Rattle.window_law.specs.Packets.{AreSome};
+ghost use Rattle.slice_law.specs.Packets.{AreSome};
 
 /// Sections take at most one packet for each 183 of their bytes, a begun 183 counted.
 pub fn packets_of_sections_are_full()

@@ -9,9 +9,9 @@ use Rattle.stream_spec.specs.Services.{kind_at}
 use Rattle.stream_spec.specs.Slots.{of_service}
 use Rattle.slice_spec.specs.Windows.{owner_of}
 use Rattle.stream_spec.specs.Windows.{windows_of, out_before, kept_for_bursts}
-use Rattle.window_law.proofs.Checks.{inside, shorter}
-use Rattle.window_law.proofs.Owners.{owner_is, is_owned}
-use Rattle.window_law.proofs.Turned.{IsWindowed, kept_there}
+use Rattle.slice_law.proofs.Checks.{inside, shorter}
+use Rattle.slice_law.proofs.PlanOwners.{owner_is, is_owned}
+use Rattle.slice_law.proofs.Turned.{IsWindowed, kept_there}
 
 module _ (plan : PlanFields) (accepted : is_plan plan ≡ true) (k : ℕ) (fields : SlicedFields) (is : sliced_of (kind_at plan k) ≡ Some fields)
     (sizes : ℕ → List ℕ) (fits : (c : ℕ) → slice_index (sizes k) c ≤ fields.length) where

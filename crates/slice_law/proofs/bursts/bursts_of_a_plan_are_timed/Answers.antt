@@ -1,6 +1,6 @@
-use Rattle.window_law.specs.Plans.{slicing_of}
-use Rattle.window_law.proofs.Checks.{sliceable}
-use Rattle.window_law.proofs.bursts.bursts_of_a_plan_are_timed.Goals as goal
+use Rattle.slice_law.specs.Plans.{slicing_of}
+use Rattle.slice_law.proofs.Checks.{sliceable}
+use Rattle.slice_law.proofs.bursts.bursts_of_a_plan_are_timed.Goals as goal
 
 pub returns-clause-sliceable : goal.returns-clause-sliceable
 returns-clause-sliceable c = sliceable

@@ -10,7 +10,7 @@ use Rattle.plan_spec.specs.Valid.{is_valid_service, is_valid_int, is_valid_frame
 use Rattle.stream_spec.specs.Services.{kind_at}
 use Rattle.slice_spec.specs.Moments.{units_per_second, ten}
 use Rattle.slice_spec.specs.Bursts.{IsSliceable}
-use Rattle.window_law.specs.Plans.{slicing_of}
+use Rattle.slice_law.specs.Plans.{slicing_of}
 
 pub both : (a b : Bool) → (a && b) ≡ true → (a ≡ true) × (b ≡ true)
 both true b e = (refl, e)

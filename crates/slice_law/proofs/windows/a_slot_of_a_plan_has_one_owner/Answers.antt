@@ -1,6 +1,6 @@
-use Rattle.window_law.proofs.Checks.{inside}
-use Rattle.window_law.proofs.Owners.{plan_apart, owner_is, is_owned}
-use Rattle.window_law.proofs.windows.a_slot_of_a_plan_has_one_owner.Goals as goal
+use Rattle.slice_law.proofs.Checks.{inside}
+use Rattle.slice_law.proofs.PlanOwners.{plan_apart, owner_is, is_owned}
+use Rattle.slice_law.proofs.windows.a_slot_of_a_plan_has_one_owner.Goals as goal
 
 pub returns-clause-apart : goal.returns-clause-apart
 returns-clause-apart c = plan_apart

@@ -3,10 +3,10 @@ use Rattle.plan_spec.specs.Plan.{SlicedFields, sliced_of}
 use Rattle.plan_spec.specs.Signalling.{table_packets}
 use Rattle.stream_spec.specs.Services.{kind_at}
 use Rattle.stream_spec.specs.Windows.{windows_of}
-use Rattle.window_law.proofs.Checks.{shorter}
-use Rattle.window_law.proofs.Owners.{owner_is}
-use Rattle.window_law.proofs.After.{leaves, keeps_none, keeps_none_of}
-use Rattle.window_law.proofs.slots.bursts_leave_slots.Goals as goal
+use Rattle.slice_law.proofs.Checks.{shorter}
+use Rattle.slice_law.proofs.PlanOwners.{owner_is}
+use Rattle.slice_law.proofs.After.{leaves, keeps_none, keeps_none_of}
+use Rattle.slice_law.proofs.slots.bursts_leave_slots.Goals as goal
 
 not_both : (fields : SlicedFields) (o : Option SlicedFields) → o ≡ Some fields → o ≡ None → ⊥
 not_both fields o e e2 = absurd (cc)

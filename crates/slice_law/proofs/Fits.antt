@@ -7,9 +7,9 @@ use Rattle.plan_spec.specs.Checks.{leaves_cycle, is_too_short, is_too_long}
 use Rattle.plan_spec.specs.Signalling.{table_packets}
 use Rattle.plan_spec.specs.Valid.{is_plan}
 use Rattle.stream_spec.specs.Services.{kind_at}
-use Rattle.window_law.specs.Packets.{AreSome}
-use Rattle.window_law.proofs.Filling.{few_packets}
-use Rattle.window_law.proofs.Checks.{neither, not_below, no_wrong_window}
+use Rattle.slice_law.specs.Packets.{AreSome}
+use Rattle.slice_law.proofs.Filling.{few_packets}
+use Rattle.slice_law.proofs.Checks.{neither, not_below, no_wrong_window}
 
 module _ (plan : PlanFields) (accepted : is_plan plan ≡ true) (k : ℕ) (fields : SlicedFields) (is : sliced_of (kind_at plan k) ≡ Some fields) where
   pub fits_window : (pid counter : ℕ) (units : List (List ℕ)) → AreSome units → byte_count units ≤ 4096 + fields.parity * (fields.rows + 16)

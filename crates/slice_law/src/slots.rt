@@ -7,7 +7,7 @@ ghost use Rattle.plan_spec.specs.Valid.{is_plan};
 ghost use Rattle.stream_spec.specs.Services.{kind_at};
 ghost use Rattle.stream_spec.specs.Slots.{Slot, of_service, is_of_service, slot_at};
 ghost use Rattle.stream_spec.specs.Windows.{windows_of, out_before, kept_for_bursts};
-ghost use Rattle.window_law.specs.Kept.{number_of, AreWithin};
+ghost use Rattle.slice_law.specs.Kept.{number_of, AreWithin};
 
 /// Accepted settings, bursts that are no longer than their window, and a service of which no packet goes out in rotation: packet n of a
 /// burst stands in slot n of the window of its cycle, and the slots of whole cycles carry all packets of the bursts, in order and each

@@ -1,5 +1,0 @@
-use Rattle.window_law.proofs.Fits.{fits_window}
-use Rattle.window_law.proofs.packets.a_burst_of_one_datagram_fits.Goals as goal
-
-pub returns : goal.returns
-returns c = record { fits = fits_window }
