@@ -1,3 +1,4 @@
+pub mod Horner
 pub mod Places
 pub mod Lookup
 pub mod ByHalves

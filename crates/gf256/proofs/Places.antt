@@ -79,7 +79,7 @@ place_done f n source first now x low same is done =
 abbrev pub behind : ℕ → List ℕ → List ℕ
 behind n xs = take (length xs - n) (drop n xs)
 
-length-behind : (n : ℕ) (xs : List ℕ) → length (behind n xs) ≡ length xs - n
+pub length-behind : (n : ℕ) (xs : List ℕ) → length (behind n xs) ≡ length xs - n
 length-behind n xs = length-take-le (length xs - n) (drop n xs) (omega (arith, length-drop n xs))
 
 get_or-behind : (n : ℕ) (xs : List ℕ) (j : ℕ) → n + j < length xs → get_or (behind n xs) j 0 ≡ get_or xs (n + j) 0

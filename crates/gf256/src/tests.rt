@@ -79,4 +79,29 @@ fn each_place_is_reached(rt: HostRuntime) {
     let mut state = [0x80u8; 18];
     horner_step(Gf(2), &[1; 18], &mut state);
     assert_eq!(rt; state, [0x1C; 18]);
+    let mut source = [0x80u8; 160];
+    source[80..].fill(1);
+    let mut values = [0u8; 66];
+    horner_columns(Gf(2), &source, 3, 80, 2, &mut values);
+    assert_eq!(rt; values, [0x1C; 66]);
+}
+
+/// Blocks of 64 bytes and one column after another: three columns, with nothing, 1 and 63 bytes after the last whole block.
+#[test]
+fn values_of_columns_are_those_of_the_plain_steps(rt: HostRuntime) -> Result<(), Fail> {
+    let source = column(rt.alloc(), 700, 7)?;
+    for length in [0usize, 1, 63, 64, 65, 191] {
+        let mut fast = column(rt.alloc(), length, 11)?;
+        let mut plain = column(rt.alloc(), length, 0)?;
+        horner_columns(Gf(29), source.as_slice(), 5, 201, 3, fast.as_mut_slice());
+        for at in [5usize, 206, 407] {
+            plain::horner_step(Gf(29), &source[at..at + length], plain.as_mut_slice());
+        }
+        assert_eq!(rt;
+            fast.as_slice(),
+            plain.as_slice(),
+            "{length} bytes of each column"
+        );
+    }
+    Ok(())
 }
