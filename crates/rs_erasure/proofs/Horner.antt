@@ -1,5 +1,6 @@
 -- Horner's rule over every seventeenth column, and then over the seventeen values of them.
-use Rattle.std.proofs.Common.{ℕ, zero, suc, List, ◌≡◌, ◌+◌, ◌*◌, ◌/◌, ◌%◌, ◌^◌, ◌<◌, ◌≤◌, length, get_or, take, refl, ap, ap₂, sym, ◌∙◌, arith, bit_xor}
+use Rattle.std.proofs.Common.{ℕ, zero, suc, List, ◌≡◌, ◌+◌, ◌-◌, ◌*◌, ◌/◌, ◌%◌, ◌^◌, ◌<◌, ◌≤◌, length, get_or, take, ap, ap₂, sym, ◌∙◌, arith, bit_xor}
+use Rattle.std.proofs.Math.Nat.{mul_assoc}
 use Rattle.std.specs.Int.Bits.{xor_zero_r, xor_assoc}
 use Rattle.std.proofs.lemmas.List.{take_all}
 use Rattle.fec_spec.specs.Field.{field_product, field_power}
@@ -10,17 +11,11 @@ use Rattle.field_law.proofs.Powers.{power-add, power-power, power_255}
 use Rattle.field_law.proofs.Products.{xor_swap}
 use Rattle.erasure_law.proofs.Sums.{row_value_none}
 use Rattle.erasure_law.proofs.Tables.{length-table_row}
+use Rattle.gf256.proofs.Horner.{horner_none, horner_more}
 use Rattle.rs_erasure.specs.Columns.{cell}
-use Rattle.rs_erasure.specs.Syndromes.{horner_value}
+use Rattle.gf256.specs.Horner.{horner_value}
+use Rattle.rs_erasure.proofs.Changes.{cell_is}
 use Rattle.rs_erasure.proofs.Runs.{value_step, cell_fits}
-
-pub horner_none : (z : ℕ) (f : ℕ → ℕ) → horner_value z f 0 ≡ 0
-unfolding horner_value
-horner_none z f = refl
-
-pub horner_more : (z : ℕ) (f : ℕ → ℕ) (n : ℕ) → horner_value z f (suc n) ≡ bit_xor (field_product (horner_value z f n) z) (f n)
-unfolding horner_value
-horner_more z f n = refl
 
 -- a value is a byte, and so is its product with 1
 horner_one : (z : ℕ) (f : ℕ → ℕ) (n : ℕ) → ((i : ℕ) → f i < 2 ^ 8) → field_product (horner_value z f n) 1 ≡ horner_value z f n
@@ -172,8 +167,25 @@ value_of_classes rows table r m c bytes are =
     ∙ horner_row rows table r z 255 bytes (omega arith)
     ∙ ap (λ (t : List ℕ). row_value z t) (take_all 255 (table_row 255 rows table r) (omega arith))
 
--- one coefficient more
-pub horner_step : (z : ℕ) (f : ℕ → ℕ) (n v c : ℕ) → v ≡ horner_value z f n → c ≡ f n → bit_xor (field_product v z) c ≡ horner_value z f (n + 1)
-horner_step z f n v c is_v is_c =
-    let e : suc n ≡ n + 1 = omega arith in
-    ap₂ (λ s t. bit_xor (field_product s z) t) is_v is_c ∙ sym (horner_more z f n) ∙ ap (λ k. horner_value z f k) e
+-- a byte of a column, told by the places of a buffer
+column_place : (first apart rows from q k : ℕ) → first * rows + from + q * (apart * rows) + k ≡ (first + q * apart) * rows + (from + k)
+column_place first apart rows from q k =
+    let e : (first + q * apart) * rows ≡ first * rows + q * apart * rows = omega arith in
+    let h : q * apart * rows ≡ q * (apart * rows) = mul_assoc q apart rows in
+    omega (arith, e, h)
+
+-- the last of some columns ends within the buffer
+pub columns_end : (first apart count rows room : ℕ) → (first + (count - 1) * apart + 1) * rows ≤ room → first * rows + (count - 1) * (apart * rows) + rows ≤ room
+columns_end first apart count rows room le =
+    let e : first * rows + 0 + (count - 1) * (apart * rows) + rows ≡ (first + (count - 1) * apart) * rows + (0 + rows) = column_place first apart rows 0 (count - 1) rows in
+    let h : (first + (count - 1) * apart + 1) * rows ≡ (first + (count - 1) * apart) * rows + 1 * rows = omega arith in
+    omega (arith, e, h, le)
+
+-- the values of some columns in a row
+pub values_at : (z first apart count rows from : ℕ) (source : List ℕ) (i k : ℕ) → from + i ≡ k
+    → horner_value z (λ q. get_or source (first * rows + from + q * (apart * rows) + i) 0) count ≡ horner_value z (λ q. cell rows source (first + q * apart) k) count
+values_at z first apart count rows from source i k e =
+    horner_same z (λ q. get_or source (first * rows + from + q * (apart * rows) + i) 0) (λ q. cell rows source (first + q * apart) k) count
+    (λ q low.
+    let p : first * rows + from + q * (apart * rows) + i ≡ (first + q * apart) * rows + k = omega (arith, column_place first apart rows from q i) in
+    ap (λ n. get_or source n 0) p ∙ sym (cell_is rows source (first + q * apart) k))

@@ -1,7 +1,6 @@
 -- The syndromes of a row, as they stand in the work, and what is left of them.
-use Rattle.std.specs.Prelude.{ℕ, zero, suc, List, ◌≡◌, ◌⊎◌, ◌+◌, ◌<◌, ◌≤◌, true, length, slice_index}
+use Rattle.std.specs.Prelude.{ℕ, List, ◌≡◌, ◌⊎◌, ◌+◌, ◌<◌, ◌≤◌, true, length, slice_index}
 use Rattle.erasure_law.specs.Roots.{eliminated, syndromes_of}
-use Rattle.fec_spec.specs.Field.{field_sum, field_product}
 use Rattle.fec_spec.specs.Row.{is_among}
 use Rattle.fec_spec.specs.Table.{table_row}
 use Rattle.rs_erasure.specs.Columns.{cell}
@@ -9,11 +8,6 @@ use Rattle.rs_erasure.specs.Columns.{cell}
 -- column m of the work has syndrome m of the table's row, for each m up to 63
 abbrev pub HasSyndromes : ℕ → List ℕ → List ℕ → ℕ → Type 0
 HasSyndromes rows table work row = (m : ℕ) → m < 64 → cell rows work m row ≡ syndromes_of (table_row 255 rows table row) m
-
--- the value at z of so many coefficients, the highest first, by Horner's rule
-unfoldable pub horner_value : ℕ → (ℕ → ℕ) → ℕ → ℕ
-horner_value z f zero = 0
-horner_value z f (suc n) = field_sum (field_product (horner_value z f n) z) (f n)
 
 -- column length places + m of the work has what is left from the power m of 2 on, where the places are eliminated from the table's row
 abbrev pub HasLeft : ℕ → List ℕ → List ℕ → List ℕ → ℕ → Type 0

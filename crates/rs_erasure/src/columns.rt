@@ -1,10 +1,11 @@
-//! Buffers of columns of one length, and a step on one of their columns, in the rows of a run.
+//! Buffers of columns of one length, and what is done to one of their columns, in the rows of a run.
 
 ghost use Rattle.fec_spec.specs.Field.{field_product, field_sum};
+ghost use Rattle.gf256.specs.Horner.{horner_value};
 ghost use Rattle.rs_erasure.specs.Columns.{IsColumnChanged, cell};
 ghost use Rattle.std.specs.Prelude.{◌+◌, ◌-◌, ◌*◌, ◌<◌, ◌≡◌, ◌≤◌, ℕ, length, slice_index};
 
-use gf256::{Gf, horner_step, mul_add};
+use gf256::{Gf, horner_columns, mul_add};
 
 /// The rows `from` up to but not including `to` of columns of `rows` bytes.
 #[derive(Clone, Copy)]
@@ -12,6 +13,14 @@ pub struct Run {
     pub rows: usize,
     pub from: usize,
     pub to: usize,
+}
+
+/// So many columns of a buffer: `first`, `first + apart` and so on.
+#[derive(Clone, Copy)]
+pub struct Columns {
+    pub first: usize,
+    pub apart: usize,
+    pub count: usize,
 }
 
 /// Makes a column 0.
@@ -25,12 +34,12 @@ pub fn clear_column(run: Run, buffer: &mut [u8], column: usize)
     buffer[start + run.from..start + run.to].fill(0);
 }
 
-/// One step of Horner's rule: a column of `work` becomes itself times `root` plus a column of a source, from the rows of its own run.
-pub fn step_column(
+/// Makes a column of `work` the values at `root` of some columns of a source, by Horner's rule, from the rows of their own run.
+pub fn find_values(
     root: Gf,
     there: Run,
     source: &[u8],
-    column: usize,
+    columns: Columns,
     run: Run,
     work: &mut [u8],
     into: usize,
@@ -39,15 +48,19 @@ pub fn step_column(
     requires within { run.to ≤ run.rows }
     requires there_within { there.to ≤ there.rows }
     requires same { there.to ≡ there.from + (run.to - run.from) }
-    requires source_room { (column + 1) * there.rows ≤ length source.now }
+    requires several { 1 < columns.count }
+    requires source_room { (columns.first + (columns.count - 1) * columns.apart + 1) * there.rows ≤ length source.now }
     requires room { (into + 1) * run.rows ≤ length work.old }
-    ensures { IsColumnChanged run.rows run.from run.to into (λ r. field_sum (field_product (cell run.rows work.old into r) root.0) (cell there.rows source.now column (there.from + (r - run.from)))) work.old work.new }
+    ensures { IsColumnChanged run.rows run.from run.to into (λ r. horner_value root.0 (λ q. cell there.rows source.now (columns.first + q * columns.apart) (there.from + (r - run.from))) columns.count) work.old work.new }
 {
-    let from = column * there.rows;
+    let first = columns.first * there.rows + there.from;
     let here = into * run.rows;
-    horner_step(
+    horner_columns(
         root,
-        &source[from + there.from..from + there.to],
+        source,
+        first,
+        columns.apart * there.rows,
+        columns.count,
         &mut work[here + run.from..here + run.to],
     );
 }

@@ -4,12 +4,13 @@
 //! over every 85th column with each of the three: 85 thirds. With each of the fifteen it then goes over every seventeenth of
 //! these: 17 class values. With each of the 64 powers it then goes over the 17 class values.
 
-ghost use Rattle.fec_spec.specs.Field.{field_power, field_product, field_sum};
+ghost use Rattle.fec_spec.specs.Field.{field_power};
+ghost use Rattle.gf256.specs.Horner.{horner_value};
 ghost use Rattle.rs_erasure.specs.Columns.{IsColumnChanged, cell};
-ghost use Rattle.rs_erasure.specs.Syndromes.{HasSyndromes, horner_value};
+ghost use Rattle.rs_erasure.specs.Syndromes.{HasSyndromes};
 ghost use Rattle.std.specs.Prelude.{◌+◌, ◌*◌, ◌-◌, ◌%◌, ◌<◌, ◌≡◌, ◌≤◌, ◌⊎◌, ℕ, length};
 
-use crate::columns::{Run, clear_column, step_column};
+use crate::columns::{Columns, Run, find_values};
 use gf256::Gf;
 
 /// So many rows are taken together at most: a frame has 256, 512, 768 or 1,024.
@@ -46,10 +47,12 @@ fn find_third(root: Gf, e: usize, run: Run, table: &[u8], thirds: &mut [u8])
     ensures { IsColumnChanged 256 0 (run.to - run.from) e (λ i. horner_value root.0 (λ t. cell run.rows table.now (e + t * 85) (run.from + i)) 3) thirds.old thirds.new }
 {
     let block = block_of(run);
-    clear_column(block, thirds, e);
-    for t in 0..3usize {
-        step_column(root, run, table, e + t * 85, block, thirds, e);
-    }
+    let columns = Columns {
+        first: e,
+        apart: 85,
+        count: 3,
+    };
+    find_values(root, run, table, columns, block, thirds, e);
 }
 
 /// The 85 thirds at the power 85 × h of 2.
@@ -79,10 +82,12 @@ fn find_class(root: Gf, b: usize, run: Run, thirds: &[u8], classes: &mut [u8], i
     ensures { IsColumnChanged 256 0 (run.to - run.from) into (λ i. horner_value root.0 (λ a. cell 256 thirds.now (b + a * 17) i) 5) classes.old classes.new }
 {
     let block = block_of(run);
-    clear_column(block, classes, into);
-    for a in 0..5usize {
-        step_column(root, block, thirds, b + a * 17, block, classes, into);
-    }
+    let columns = Columns {
+        first: b,
+        apart: 17,
+        count: 5,
+    };
+    find_values(root, block, thirds, columns, block, classes, into);
 }
 
 /// The 17 class values at the power 17 × k of 2, from the thirds at its power 5.
@@ -148,10 +153,12 @@ fn find_value(m: u8, run: Run, classes: &[u8], first: usize, work: &mut [u8])
     let root = Gf(2).power(u32::from(m));
     let block = block_of(run);
     let into = usize::from(m);
-    clear_column(run, work, into);
-    for b in 0..17usize {
-        step_column(root, block, classes, first + b, run, work, into);
-    }
+    let columns = Columns {
+        first,
+        apart: 1,
+        count: 17,
+    };
+    find_values(root, block, classes, columns, run, work, into);
 }
 
 /// The syndromes of the rows of a block.

@@ -2,7 +2,7 @@ use Rattle.std.proofs.Common.{arith, ℕ, List, inl, inr, ◌≡◌, ◌%◌, �
 use Rattle.std.proofs.lemmas.Bool.{cases_lt}
 use Rattle.fec_spec.specs.Field.{field_power}
 use Rattle.rs_erasure.specs.Columns.{cell}
-use Rattle.rs_erasure.specs.Syndromes.{horner_value}
+use Rattle.gf256.specs.Horner.{horner_value}
 use Rattle.rs_erasure.proofs.table_syndromes.find_all_classes.Goals as goal
 
 pub loop-h-preserved : goal.loop-h-preserved

@@ -4,7 +4,7 @@ use Rattle.fec_spec.specs.Field.{field_power}
 use Rattle.fec_spec.specs.Table.{table_row}
 use Rattle.erasure_law.specs.Roots.{syndromes_of}
 use Rattle.rs_erasure.specs.Columns.{cell}
-use Rattle.rs_erasure.specs.Syndromes.{horner_value}
+use Rattle.gf256.specs.Horner.{horner_value}
 use Rattle.rs_erasure.proofs.Changes.{column_outside}
 use Rattle.rs_erasure.proofs.Horner.{value_of_classes}
 use Rattle.rs_erasure.proofs.table_syndromes.find_block.Goals as goal

@@ -1,7 +1,7 @@
 use Rattle.std.proofs.Common.{ℕ, ◌≡◌, ◌<◌, ◌+◌, ◌*◌, ◌-◌}
 use Rattle.fec_spec.specs.Field.{field_power}
 use Rattle.rs_erasure.specs.Columns.{cell}
-use Rattle.rs_erasure.specs.Syndromes.{horner_value}
+use Rattle.gf256.specs.Horner.{horner_value}
 use Rattle.rs_erasure.proofs.table_syndromes.find_thirds.Given as goal
 
 abbrev pub invariant-loop-e : goal.invariant-loop-e
