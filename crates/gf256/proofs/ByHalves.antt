@@ -6,7 +6,7 @@ use Rattle.division_law.specs.Registers.{register_steps}
 use Rattle.fec_spec.specs.Field.{field_product}
 use Rattle.field_law.proofs.Field.{product_comm, product_halves}
 use Rattle.field_law.proofs.Shifts.{by_shifts, product_is}
-use Rattle.gf256.specs.declared.halves.TheConstants.{HIGH_HIGH, HIGH_LOW, LOW_HIGH, LOW_LOW}
+use Rattle.gf256.specs.declared.halves.TheConstants.{HIGH_HIGH, HIGH_LOW, LOW_LOW}
 
 -- 256 entries that agree with the products agree at each two halves
 entry_at : (table : List (List ℕ)) (s t : ℕ) → s < 17 → t < 17
@@ -38,7 +38,7 @@ all_high_low : agree_below (λ n. true) (λ n. get_or (get_or HIGH_LOW (n / 16) 
 unfolding by_shifts register_steps
 all_high_low = refl
 
-all_low_high : agree_below (λ n. true) (λ n. get_or (get_or LOW_HIGH (n / 16) []) (n % 16) 0 == by_shifts 8 (n / 16 * 1) (n % 16 * 16)) 256 ≡ true
+all_low_high : agree_below (λ n. true) (λ n. get_or (get_or HIGH_LOW (n / 16) []) (n % 16) 0 == by_shifts 8 (n / 16 * 1) (n % 16 * 16)) 256 ≡ true
 unfolding by_shifts register_steps
 all_low_high = refl
 
@@ -61,15 +61,15 @@ low_is v i fits low =
     ∙ product_by_halves v (i * 1) ∙ ap (λ t. field_product v t) e
 
 -- with a multiple of 16
-pub high_is : (v i : ℕ) → v < 256 → i < 16 → bit_xor (get_or (get_or HIGH_HIGH (v / 16) []) i 0) (get_or (get_or LOW_HIGH (v % 16) []) i 0) ≡ field_product v (i * 16)
+pub high_is : (v i : ℕ) → v < 256 → i < 16 → bit_xor (get_or (get_or HIGH_HIGH (v / 16) []) i 0) (get_or (get_or HIGH_LOW (v % 16) []) i 0) ≡ field_product v (i * 16)
 high_is v i fits low =
     ap₂ bit_xor (entry_at HIGH_HIGH 16 16 (omega arith) (omega arith) all_high_high (v / 16) i (omega arith) low)
-    (entry_at LOW_HIGH 1 16 (omega arith) (omega arith) all_low_high (v % 16) i (omega arith) low)
+    (entry_at HIGH_LOW 1 16 (omega arith) (omega arith) all_low_high (v % 16) i (omega arith) low)
     ∙ product_by_halves v (i * 16)
 
 -- with any byte
 pub product_of_halves : (a b : ℕ) → a < 256 → b < 256
-    → bit_xor (bit_xor (get_or (get_or HIGH_HIGH (a / 16) []) (b / 16) 0) (get_or (get_or LOW_HIGH (a % 16) []) (b / 16) 0))
+    → bit_xor (bit_xor (get_or (get_or HIGH_HIGH (a / 16) []) (b / 16) 0) (get_or (get_or HIGH_LOW (a % 16) []) (b / 16) 0))
     (bit_xor (get_or (get_or HIGH_LOW (a / 16) []) (b % 16) 0) (get_or (get_or LOW_LOW (a % 16) []) (b % 16) 0)) ≡ field_product a b
 product_of_halves a b fits_a fits_b =
     ap₂ bit_xor (high_is a (b / 16) fits_a (omega arith)) (low_is a (b % 16) fits_a (omega arith)) ∙ sym (product_halves a b)

@@ -2,7 +2,7 @@
 ghost use Rattle.std.specs.Prelude.{◌≡◌, ◌≢◌, if◌then◌else◌};
 ghost use Rattle.fec_spec.specs.Field.{field_power, field_product, field_sum};
 
-use crate::halves::{HIGH_HIGH, HIGH_LOW, LOW_HIGH, LOW_LOW};
+use crate::halves::{HIGH_HIGH, HIGH_LOW, LOW_LOW};
 
 /// An element of the field; bit 7 is the coefficient of x^7.
 #[derive(Clone, Copy, Debug, PartialEq, Eq)]
@@ -31,7 +31,7 @@ impl Gf {
         let high = usize::from(self.0 / 16);
         let by_low = usize::from(other.0 % 16);
         let by_high = usize::from(other.0 / 16);
-        let first = HIGH_HIGH[high][by_high] ^ LOW_HIGH[low][by_high];
+        let first = HIGH_HIGH[high][by_high] ^ HIGH_LOW[low][by_high];
         let second = HIGH_LOW[high][by_low] ^ LOW_LOW[low][by_low];
         Gf(first ^ second)
     }

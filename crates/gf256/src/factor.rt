@@ -5,7 +5,7 @@ ghost use Rattle.std.specs.Prelude.{◌*◌, ◌≡◌, ◌<◌, ◌≤◌, ℕ,
 ghost use Rattle.fec_spec.specs.Field.{field_product, field_sum};
 
 use crate::element::Gf;
-use crate::halves::{HIGH_HIGH, HIGH_LOW, LOW_HIGH, LOW_LOW};
+use crate::halves::{HIGH_HIGH, HIGH_LOW, LOW_LOW};
 use std::simd::prelude::*;
 
 /// How far the higher half of a byte is shifted.
@@ -43,7 +43,7 @@ impl Factor {
         let low_half = usize::from(value.0 % 16);
         let high_half = usize::from(value.0 / 16);
         let low = u8x16::from_array(sums(&HIGH_LOW[high_half], &LOW_LOW[low_half]));
-        let high = u8x16::from_array(sums(&HIGH_HIGH[high_half], &LOW_HIGH[low_half]));
+        let high = u8x16::from_array(sums(&HIGH_HIGH[high_half], &HIGH_LOW[low_half]));
         Factor { value, low, high }
     }
 

@@ -1,5 +1,5 @@
 use Rattle.std.proofs.Common.{arith, ℕ, [], ◌<◌, ◌∙◌, ap₂, bit_xor, get_or}
-use Rattle.gf256.specs.declared.halves.TheConstants.{HIGH_HIGH, HIGH_LOW, LOW_HIGH, LOW_LOW}
+use Rattle.gf256.specs.declared.halves.TheConstants.{HIGH_HIGH, HIGH_LOW, LOW_LOW}
 use Rattle.gf256.proofs.ByHalves.{high_is, low_is}
 use Rattle.gf256.proofs.factor.Factor.of.Goals as goal
 
@@ -14,6 +14,6 @@ invariant_of-result c =
           ∙ low_is v i fits low;
       high_products = λ i low.
           c.sums-high.ensures i low
-          ∙ ap₂ (λ (h : ℕ) (l : ℕ). bit_xor (get_or (get_or HIGH_HIGH h []) i 0) (get_or (get_or LOW_HIGH l []) i 0)) c.from-high_half.ensures c.from-low_half.ensures
+          ∙ ap₂ (λ (h : ℕ) (l : ℕ). bit_xor (get_or (get_or HIGH_HIGH h []) i 0) (get_or (get_or HIGH_LOW l []) i 0)) c.from-high_half.ensures c.from-low_half.ensures
           ∙ high_is v i fits low;
     }
