@@ -17,8 +17,11 @@ use crate::syndromes::locator_of;
 use crate::table_syndromes::find_syndromes;
 use gf256::Gf;
 
-/// So many steps on columns the syndromes take, and the elimination of some places.
-const STEPS: usize = 5000;
+/// The syndromes take as long as so many steps on columns.
+const STEPS: usize = 2100;
+
+/// So many steps the elimination of a place takes; of 48, the mean.
+const STEPS_OF_PLACE: usize = 40;
 
 /// So many bytes are looked at together.
 const BLOCK: usize = 256;
@@ -203,7 +206,8 @@ pub fn find_left(places: &[u8], run: Run, table: &[u8], work: &mut [u8])
     ensures { (r : ℕ) → run.from ≤ r → r < run.to → HasLeft run.rows places.now table.now work.new r }
 {
     let marks = columns_with_bytes(run, table, places);
-    if count_of(&marks) * (64 - places.len()) < STEPS {
+    let steps = STEPS + STEPS_OF_PLACE * places.len();
+    if count_of(&marks) * (64 - places.len()) < steps {
         find_by_columns(&marks, places, run, table, work);
     } else {
         find_by_syndromes(places, run, table, work);
