@@ -8,3 +8,4 @@ pub mod Written
 pub mod Shortest
 pub mod Timed
 pub mod PartEnds
+pub mod Ends

@@ -123,11 +123,11 @@ module _ (rows columns : ℕ) (unicast : List ℕ) (ds : List (List ℕ)) (delta
       ∙ map-append (λ (u : List ℕ). length u) (map data_of (range_with_len 0 (length ds))) (map column_of (range_with_len 0 columns))
       ∙ ap₂ (λ (x y : List ℕ). x ++ y) data_sizes_are (column_sizes_are few)
 
-some_data : (ds : List (List ℕ)) (more : List ℕ) → AreSome more → AreSome (data_sizes ds ++ more)
+pub some_data : (ds : List (List ℕ)) (more : List ℕ) → AreSome more → AreSome (data_sizes ds ++ more)
 some_data [] more some = some
 some_data (d ∷ ds) more some = (omega arith, some_data ds more some)
 
-some_columns : (rows columns : ℕ) → AreSome (column_sizes rows columns)
+pub some_columns : (rows columns : ℕ) → AreSome (column_sizes rows columns)
 some_columns rows zero = tt
 some_columns rows (suc columns) = (omega arith, some_columns rows columns)
 

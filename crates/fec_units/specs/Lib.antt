@@ -3,4 +3,5 @@ pub mod Packets
 pub mod Timed
 pub mod Room
 pub mod Held
+pub mod Ends
 pub mod Bursts

@@ -23,7 +23,9 @@ pub(crate) const PARITY_COLUMNS: usize = 64;
 const FRAME_NUMBERS: u32 = 4096;
 
 /// Where the datagrams of a frame end that begins at a place of the list.
-pub(crate) fn frame_end(list: &DatagramList, rows: u16, from: usize) -> usize
+///
+/// A frame takes as many datagrams as its application data table of 191 columns has room for.
+pub fn frame_end(list: &DatagramList, rows: u16, from: usize) -> usize
     requires datagrams { AreSendable list.now }
     requires rows { IsRows rows }
     requires from { from < length list.now }
@@ -45,7 +47,7 @@ pub(crate) fn frame_end(list: &DatagramList, rows: u16, from: usize) -> usize
 }
 
 /// How many frames the datagrams take.
-fn frames_in(list: &DatagramList, rows: u16) -> u32
+pub(crate) fn frames_in(list: &DatagramList, rows: u16) -> u32
     requires datagrams { AreSendable list.now }
     requires rows { IsRows rows }
     requires few { length list.now < 2 ^ 32 }

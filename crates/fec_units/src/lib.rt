@@ -8,6 +8,7 @@ mod burst_buffer;
 mod burst_sections;
 mod bursts;
 mod columns;
+mod frame_units;
 mod frames;
 mod packets;
 mod sections;
@@ -16,5 +17,6 @@ mod units;
 
 pub use burst_buffer::BurstBuffer;
 pub use bursts::burst_ends;
-pub use frames::make_units;
+pub use frame_units::{FrameUnits, unit_ends};
+pub use frames::{frame_end, make_units};
 pub use units::FecUnits;
