@@ -3,3 +3,6 @@ mod Limits
 mod Opened
 mod Same
 mod Sent
+mod Carried
+mod FramesLeft
+mod FramesSent

@@ -15,7 +15,7 @@ use std::marker::Model;
 use unit_stream::Packer;
 
 /// Packets of the longest burst: of 1,024 rows and 64 columns, and of 9,779 datagrams of 20 bytes, with 418,608 bytes of sections.
-const MOST_PACKETS: usize = 2_288;
+pub(crate) const MOST_PACKETS: usize = 2_288;
 
 /// The frames of a service.
 #[derive(Clone, Copy)]

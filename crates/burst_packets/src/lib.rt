@@ -5,7 +5,10 @@
 #![tactic(auto)]
 
 mod bursts;
+mod frame_bytes;
+mod frames;
 mod timing;
 
 pub use bursts::{BurstPackets, Shape};
+pub use frames::FramePackets;
 pub use timing::Timing;
