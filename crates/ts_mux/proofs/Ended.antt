@@ -320,7 +320,7 @@ services_start part some serving begins = record {
   turns = at_start part serving begins.turns begins.first;
   bursts = λ k. begins.bursts k ∙ bursts_start part some k;
   count = begins.count;
-  sliced = begins.sliced;
+  shapes = begins.shapes;
   windows = begins.windows;
 }
 

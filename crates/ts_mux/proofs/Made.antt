@@ -5,8 +5,8 @@ use Rattle.std.specs.List.{cons_option}
 use Rattle.std.proofs.lemmas.Bool.{cases_lt}
 use Rattle.std.proofs.lemmas.List.{length-map, get_or_past}
 use Rattle.ts_spec.specs.Packet.{PacketFields}
-use Rattle.plan_spec.specs.Plan.{KindFields, mpe, ServiceFields, PlanFields, kinds, SlicedFields, sliced_of}
-use Rattle.plan_spec.specs.Changes.{no_service, services_in, service_in, plan_in}
+use Rattle.plan_spec.specs.Plan.{KindFields, ule, mpe, fec, gse, ServiceFields, PlanFields, kinds, SlicedFields, sliced_of}
+use Rattle.plan_spec.specs.Changes.{no_service, services_in, service_in, plan_in, with_pid}
 use Rattle.plan_law.proofs.Kept.{length-services_in}
 use Rattle.slice_spec.specs.Windows.{OwnedWindow}
 use Rattle.stream_spec.specs.Services.{kind_at}
@@ -15,9 +15,9 @@ use Rattle.stream_spec.specs.Stream.{schedule_of}
 use Rattle.stream_spec.specs.Windows.{owned, windows_from, windows_of}
 use Rattle.stream_spec.specs.Parts.{PartFields, packets_from, service_packets, sizes_in}
 use Rattle.stream_law.proofs.Carrying.{same_length, no_sizes}
-use Rattle.stream_law.proofs.Kept.{sliced_kept, sizes_kept}
+use Rattle.stream_law.proofs.Kept.{part_kept, sliced_kept, sizes_kept}
 use Rattle.stream_law.proofs.Wholes.{no_item}
-use Rattle.ts_mux.specs.Services.{packets_in, behind_in, turns_in_service, bursts_in, shape_in, shape_of, no_bursts, bursts_of, serving_of, packet_total, rotation, shapes_of, listed, BeginsIn, HasLists, all_bursts, Begins}
+use Rattle.ts_mux.specs.Services.{packets_in, behind_in, turns_in_service, bursts_in, shape_in, shape_of, is_sliced, no_bursts, bursts_of, serving_of, packet_total, rotation, shapes_of, listed, BeginsIn, HasLists, all_bursts, Begins}
 use Rattle.ts_mux.specs.declared.service_packets.ServicePackets.{ServicePackets}
 use Rattle.ts_mux.specs.declared.service_packets.ServicePackets.TheVariants.{Ule, Mpe, Fec, Sliced}
 use Rattle.ts_mux.proofs.Moved.{some_item}
@@ -69,13 +69,13 @@ windows_kept plan version =
     (λ k. sliced_kept plan version k)
 
 -- What a service has in rotation, and what in bursts.
-pub turns_of : (it : ServicePackets) → turns_in_service it ≡ cond (is_some (shape_in it)) [] (packets_in it)
+pub turns_of : (it : ServicePackets) → turns_in_service it ≡ cond (is_sliced (shape_in it)) [] (packets_in it)
 turns_of (Ule coming) = refl
 turns_of (Mpe coming) = refl
 turns_of (Fec coming) = refl
 turns_of (Sliced coming) = refl
 
-pub bursts_are : (it : ServicePackets) → (bursts_in it).packets ≡ cond (is_some (shape_in it)) (packets_in it) []
+pub bursts_are : (it : ServicePackets) → (bursts_in it).packets ≡ cond (is_sliced (shape_in it)) (packets_in it) []
 bursts_are (Ule coming) = refl
 bursts_are (Mpe coming) = refl
 bursts_are (Fec coming) = refl
@@ -87,12 +87,26 @@ turns_few (Mpe coming) = omega arith
 turns_few (Fec coming) = omega arith
 turns_few (Sliced coming) = omega arith
 
--- a service has a shape where it is sliced
-some_shape : (o : Option SlicedFields) → is_some (shape_of o) ≡ is_some o
-some_shape None = refl
-some_shape (Some fields) = refl
+-- the frames of a sliced service are bursts
+sliced_shape : (kind : KindFields) → is_sliced (shape_of kind) ≡ is_some (sliced_of kind)
+sliced_shape (ule pid address packing) = refl
+sliced_shape (mpe pid) = refl
+sliced_shape (fec pid rows parity None) = refl
+sliced_shape (fec pid rows parity (Some window)) = refl
+sliced_shape (gse isi address) = refl
 
-pub shapes_at : (ks : List KindFields) (k : ℕ) → k < length ks → get_or (map (λ (kind : KindFields). shape_of (sliced_of kind)) ks) k None ≡ shape_of (sliced_of (get_or ks k (mpe 0)))
+-- frames stay as they are in all versions
+pub shape_kept : (plan : PlanFields) (version k : ℕ) → shape_of (kind_at (plan_in plan version) k) ≡ shape_of (kind_at plan k)
+shape_kept plan version k = part_kept shape_of stays plan version k
+  where
+    stays : (kind : KindFields) (pid : ℕ) → shape_of (with_pid kind pid) ≡ shape_of kind
+    stays (ule old address packing) pid = refl
+    stays (mpe old) pid = refl
+    stays (fec old rows parity None) pid = refl
+    stays (fec old rows parity (Some window)) pid = refl
+    stays (gse isi address) pid = refl
+
+pub shapes_at : (ks : List KindFields) (k : ℕ) → k < length ks → get_or (map shape_of ks) k None ≡ shape_of (get_or ks k (mpe 0))
 shapes_at [] k less = absurd (omega (arith, less))
 shapes_at (kind ∷ ks) zero less = refl
 shapes_at (kind ∷ ks) (suc k) less = shapes_at ks k (omega (arith, less))
@@ -138,14 +152,14 @@ module _ (plan : PlanFields) (version : ℕ) (lists : List (List (List (List ℕ
         ∙ sym (packets_in_part part.packets_before part.schedules part.datagrams (services_in plan version) 0 k k (omega arith) (omega (arith, known, length-services_in plan version)))
         ∙ ap (λ (ss : List ServiceFields). slice_index_or (packets_from 0 ss part.packets_before part.schedules part.datagrams) k []) (sym services_are)
 
-    sliced_at : (k : ℕ) → sliced_of (kind_at part.plan k) ≡ sliced_of (kind_at plan k)
-    sliced_at k = ap (λ (p : PlanFields). sliced_of (kind_at p k)) has.plan_is ∙ sliced_kept plan version k
+    same_shape : (k : ℕ) → shape_of (kind_at part.plan k) ≡ shape_of (kind_at plan k)
+    same_shape k = ap (λ (p : PlanFields). shape_of (kind_at p k)) has.plan_is ∙ shape_kept plan version k
 
-    shape_at : (k : ℕ) (it : ServicePackets) → slice_get items k ≡ Some it → shape_in it ≡ shape_of (sliced_of (kind_at part.plan k))
-    shape_at k it is = (made k it is).sliced_is ∙ ap shape_of (sym (sliced_at k))
+    shape_at : (k : ℕ) (it : ServicePackets) → slice_get items k ≡ Some it → shape_in it ≡ shape_of (kind_at part.plan k)
+    shape_at k it is = (made k it is).shape_is ∙ sym (same_shape k)
 
-    is_sliced_at : (k : ℕ) (it : ServicePackets) → slice_get items k ≡ Some it → is_some (shape_in it) ≡ is_some (sliced_of (kind_at part.plan k))
-    is_sliced_at k it is = ap (λ (o : Option (ℕ × ℕ)). is_some o) (shape_at k it is) ∙ some_shape (sliced_of (kind_at part.plan k))
+    is_sliced_at : (k : ℕ) (it : ServicePackets) → slice_get items k ≡ Some it → is_sliced (shape_in it) ≡ is_some (sliced_of (kind_at part.plan k))
+    is_sliced_at k it is = ap is_sliced (shape_at k it is) ∙ sliced_shape (kind_at part.plan k)
 
     sizes_at : (k : ℕ) (it : ServicePackets) → slice_get items k ≡ Some it → k < length items → (bursts_in it).sizes ≡ sizes_in part k
     sizes_at k it is less =
@@ -191,7 +205,7 @@ module _ (plan : PlanFields) (version : ℕ) (lists : List (List (List (List ℕ
         (λ k less. at k (omega (arith, less, length-are)))
       where
         length-are : length (shapes_of part.plan) ≡ length items
-        length-are = length-map (kinds part.plan) (λ (kind : KindFields). shape_of (sliced_of kind)) ∙ length-map part.plan.services (λ (s : ServiceFields). s.kind) ∙ size_is
+        length-are = length-map (kinds part.plan) shape_of ∙ length-map part.plan.services (λ (s : ServiceFields). s.kind) ∙ size_is
 
         at : (k : ℕ) → k < length items → get_or (map shape_in items) k None ≡ get_or (shapes_of part.plan) k None
         at k less =
@@ -215,7 +229,7 @@ module _ (plan : PlanFields) (version : ℕ) (lists : List (List (List (List ℕ
       turns = turns_are;
       bursts = bursts_all;
       count = length-map items bursts_in ∙ sym size_is;
-      sliced = sliced_all;
+      shapes = sliced_all;
       windows = are ∙ sym (ap windows_of has.plan_is ∙ windows_kept plan version);
       behind = behind_all;
       first = refl;

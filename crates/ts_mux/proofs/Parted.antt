@@ -9,7 +9,7 @@ use Rattle.std.proofs.lemmas.List.{length-append, length-map, take_at, take-appe
 use Rattle.std.proofs.lemmas.List.Sums.{sum_by-cons}
 use Rattle.std.proofs.lemmas.Grind.{flat_map-append}
 use Rattle.wire_spec.specs.Lists.{joined}
-use Rattle.plan_spec.specs.Plan.{KindFields, ServiceFields, PlanFields, kinds, SlicedFields, sliced_of}
+use Rattle.plan_spec.specs.Plan.{ServiceFields, PlanFields, kinds, SlicedFields, sliced_of}
 use Rattle.plan_spec.specs.Changes.{plan_in, versions}
 use Rattle.plan_spec.specs.Signalling.{table_packets}
 use Rattle.plan_spec.specs.Wholes.{is_whole_plan}
@@ -17,7 +17,6 @@ use Rattle.plan_law.proofs.Kept.{length-services_in}
 use Rattle.stream_spec.specs.Services.{kind_at}
 use Rattle.stream_spec.specs.Units.{burst_sizes}
 use Rattle.stream_spec.specs.Windows.{windows_of}
-use Rattle.stream_law.proofs.Kept.{sliced_kept}
 use Rattle.stream_spec.specs.Slots.{IsSlotCount}
 use Rattle.stream_spec.specs.Parts.{PartFields, service_packets, slot_in, record_of_slot, records_of_slots}
 use Rattle.stream_spec.specs.Stream.{earlier, part_of, has_datagrams, is_last, whole_cycles, IsPartCount}
@@ -29,7 +28,7 @@ use Rattle.ts_mux.specs.Slots.{IsPartOf, StandBefore, slots_with}
 use Rattle.ts_mux.specs.IntPackets.{IsTableAt}
 use Rattle.ts_mux.specs.declared.int_packets.IntPackets.{IntPackets}
 use Rattle.ts_mux.proofs.Signalled.{cycle_some, same_place}
-use Rattle.ts_mux.proofs.Made.{same_items, shapes_at, windows_kept}
+use Rattle.ts_mux.proofs.Made.{same_items, shape_kept, shapes_at, windows_kept}
 use Rattle.ts_mux.proofs.Ended.{services_start, joined-append}
 use Rattle.ts_mux.proofs.Filled.{is_end}
 use Rattle.stream_law.proofs.Wholes.{version_accepted}
@@ -69,14 +68,14 @@ shapes_kept : (plan : PlanFields) (version : ℕ) → shapes_of (plan_in plan ve
 shapes_kept plan version =
     same_items None (shapes_of (plan_in plan version)) (shapes_of plan) size
     (λ k less.
-    shapes_at (kinds (plan_in plan version)) k (omega (arith, less, size, length-map (kinds (plan_in plan version)) (λ (kind : KindFields). shape_of (sliced_of kind))))
-    ∙ ap shape_of (sliced_kept plan version k)
-    ∙ sym (shapes_at (kinds plan) k (omega (arith, less, length-map (kinds plan) (λ (kind : KindFields). shape_of (sliced_of kind))))))
+    shapes_at (kinds (plan_in plan version)) k (omega (arith, less, size, length-map (kinds (plan_in plan version)) shape_of))
+    ∙ shape_kept plan version k
+    ∙ sym (shapes_at (kinds plan) k (omega (arith, less, length-map (kinds plan) shape_of))))
   where
     size : length (shapes_of (plan_in plan version)) ≡ length (shapes_of plan)
     size =
-        length-map (kinds (plan_in plan version)) (λ (kind : KindFields). shape_of (sliced_of kind)) ∙ length-map (plan_in plan version).services (λ (s : ServiceFields). s.kind)
-        ∙ length-services_in plan version ∙ sym (length-map plan.services (λ (s : ServiceFields). s.kind)) ∙ sym (length-map (kinds plan) (λ (kind : KindFields). shape_of (sliced_of kind)))
+        length-map (kinds (plan_in plan version)) shape_of ∙ length-map (plan_in plan version).services (λ (s : ServiceFields). s.kind)
+        ∙ length-services_in plan version ∙ sym (length-map plan.services (λ (s : ServiceFields). s.kind)) ∙ sym (length-map (kinds plan) shape_of)
 
 -- this version is the last with datagrams, where one has some
 pub record IsLastOf (plan : PlanFields) (datagrams : ℕ → ℕ → List (List ℕ)) (last : ℕ) : Type 0 where
@@ -169,8 +168,8 @@ module _ (plan : PlanFields) (datagrams : ℕ → ℕ → List (List ℕ)) (slot
   services_stay version place slot serving signals stand = stand.services.count ∙ length-services_in plan version
 
   -- which of them are sliced, and their windows
-  pub sliced_stay : (version place slot : ℕ) (serving : Serving) (signals : IntPackets) → StandBefore plan (part version) place slot serving signals → serving.sliced ≡ shapes_of plan
-  sliced_stay version place slot serving signals stand = stand.services.sliced ∙ shapes_kept plan version
+  pub sliced_stay : (version place slot : ℕ) (serving : Serving) (signals : IntPackets) → StandBefore plan (part version) place slot serving signals → serving.shapes ≡ shapes_of plan
+  sliced_stay version place slot serving signals stand = stand.services.shapes ∙ shapes_kept plan version
 
   pub windows_stay : (version place slot : ℕ) (serving : Serving) (signals : IntPackets) → StandBefore plan (part version) place slot serving signals → serving.windows ≡ windows_of plan
   windows_stay version place slot serving signals stand = stand.services.windows ∙ windows_kept plan version

@@ -110,7 +110,7 @@ module _ (plan : Plan) (version k : ℕ) (service : Service) (found : slice_get 
         (sym (kind_in plan version k service found pid pid_is)) (sym (stays_in plan version k service found).unicast)
         ∙ ap (packets_of_kind (service_in (plan_fields plan) version k).kind (service_in (plan_fields plan) version k).unicast counter schedule) (sym same_list);
     behind_is = begun.behind_is;
-    sliced_is = begun.sliced_is ∙ ap (λ (kind : KindFields). shape_of (sliced_of kind)) (sym same_kind);
+    shape_is = begun.shape_is ∙ ap shape_of (sym same_kind);
     sizes_are = begun.sizes_are ∙ ap₂ burst_sizes (sym same_kind) (sym same_list);
     none = begun.none;
     most = begun.most;

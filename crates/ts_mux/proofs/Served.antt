@@ -5,7 +5,7 @@ use Rattle.std.proofs.lemmas.List.{map-set}
 use Rattle.ts_spec.specs.Packet.{PacketFields}
 use Rattle.slice_spec.specs.Windows.{OwnedWindow}
 use Rattle.stream_spec.specs.Parts.{written}
-use Rattle.ts_mux.specs.Services.{turns_in_service, bursts_in, shape_in, behind_in, Bursts, bursts_of, Serving, serving_of, burst_total, turn_of, TakesTurn, opening, opened_at, GivesBurst}
+use Rattle.ts_mux.specs.Services.{turns_in_service, bursts_in, shape_in, FrameShape, behind_in, Bursts, bursts_of, Serving, serving_of, burst_total, turn_of, TakesTurn, opening, opened_at, GivesBurst}
 use Rattle.ts_mux.specs.declared.service_packets.ServicePackets.{ServicePackets}
 
 -- what the others are seen as stays
@@ -31,8 +31,8 @@ known_way [] k some = absurd (omega (arith, some))
 known_way (b ∷ bursts) zero some = omega arith
 known_way (b ∷ bursts) (suc k) some = omega (arith, known_way bursts k some)
 
-same_serving : (t t2 : List (List PacketFields)) (b b2 : List Bursts) (s s2 : List (Option (ℕ × ℕ))) (h h2 : List ℕ) (windows : List OwnedWindow) (first : ℕ) → t ≡ t2 → b ≡ b2 → s ≡ s2 → h ≡ h2
-    → ◌≡◌ {A = Serving} (record { turns = t; bursts = b; sliced = s; behind = h; windows = windows; first = first }) (record { turns = t2; bursts = b2; sliced = s2; behind = h2; windows = windows; first = first })
+same_serving : (t t2 : List (List PacketFields)) (b b2 : List Bursts) (s s2 : List (Option FrameShape)) (h h2 : List ℕ) (windows : List OwnedWindow) (first : ℕ) → t ≡ t2 → b ≡ b2 → s ≡ s2 → h ≡ h2
+    → ◌≡◌ {A = Serving} (record { turns = t; bursts = b; shapes = s; behind = h; windows = windows; first = first }) (record { turns = t2; bursts = b2; shapes = s2; behind = h2; windows = windows; first = first })
 same_serving t t2 b b2 s s2 h h2 windows first e e2 e3 e4 = rw (e, e2, e3, e4) refl
 
 module _ (items : List ServicePackets) (windows : List OwnedWindow) (first k : ℕ) (old new : ServicePackets) (less : k < length items) (is : old ≡ get_or items k old) where

@@ -169,7 +169,7 @@ module _ (part : PartFields) (accepted : is_plan part.plan ≡ true)
       turns = subst (λ (t : Turns). AreAt services t serving) (sym (turns_stay (of_table off) (kept_early early))) at.turns;
       bursts = λ k. at.bursts k ∙ sym (early_stays part accepted fits slot early k);
       count = at.count;
-      sliced = at.sliced;
+      shapes = at.shapes;
       windows = at.windows;
     };
   }
@@ -214,7 +214,7 @@ module _ (part : PartFields) (accepted : is_plan part.plan ≡ true)
           turns = subst (λ (t : Turns). AreAt services t new) (sym (turns_go_on rests.kept ∙ ap (λ (o : Option ℕ). served turns o) next)) it.1;
           bursts = λ k. ap (λ (s : Serving). bursts_of s.bursts k) took.after ∙ ap (λ (bs : List Bursts). bursts_of bs k) opened_is ∙ rests.after k;
           count = ap (λ (s : Serving). length s.bursts) took.after ∙ length-opened (owner_of old.windows off) ∙ at.count;
-          sliced = ap (λ (s : Serving). s.sliced) took.after ∙ at.sliced;
+          shapes = ap (λ (s : Serving). s.shapes) took.after ∙ at.shapes;
           windows = ap (λ (s : Serving). s.windows) took.after ∙ at.windows;
         };
       }
@@ -243,7 +243,7 @@ module _ (part : PartFields) (accepted : is_plan part.plan ≡ true)
           turns = subst (λ (t : Turns). AreAt services t mid) (sym (turns_go_on rests.kept ∙ ap (λ (o : Option ℕ). served turns o) next)) at_mid;
           bursts = λ k. ap (λ (bs : List Bursts). bursts_of bs k) opened_is ∙ rests.after k;
           count = length-opened (owner_of old.windows off) ∙ at.count;
-          sliced = at.sliced;
+          shapes = at.shapes;
           windows = at.windows;
         };
       }
@@ -268,7 +268,7 @@ module _ (part : PartFields) (accepted : is_plan part.plan ≡ true)
               ∙ ap (λ (bs : List Bursts). bursts_of (set bs k (record { packets = gave.rest; under_way = gave.under_way; sizes = (bursts_of bs k).sizes })) i) opened_is
               ∙ gives.after_is i;
           count = ap (λ (s : Serving). length s.bursts) gave.after ∙ length-set mid.bursts k _ ∙ length-opened (owner_of old.windows off) ∙ at.count;
-          sliced = ap (λ (s : Serving). s.sliced) gave.after ∙ at.sliced;
+          shapes = ap (λ (s : Serving). s.shapes) gave.after ∙ at.shapes;
           windows = ap (λ (s : Serving). s.windows) gave.after ∙ at.windows;
         };
       }

@@ -1,14 +1,12 @@
 -- The units of a service in one part.
-use Rattle.std.specs.Prelude.{◌≡◌, ℕ, ◌≤◌, ◌^◌, true, false, List, length, Some, None}
+use Rattle.std.specs.Prelude.{◌≡◌, ℕ, ◌≤◌, true, List, length, Some, None}
 use Rattle.section_spec.specs.Mpe.{IsRows}
 use Rattle.plan_spec.specs.Plan.{KindFields, ule, mpe, fec, gse, SlicedFields, sliced_of}
 use Rattle.plan_spec.specs.Signalling.{burst_duration}
-use Rattle.ts_mux.specs.OnPids.{is_on_pid}
 use Rattle.stream_law.specs.Words.{is_single}
-use Rattle.stream_spec.specs.Units.{FrameSchedule, units_of_kind}
-use Rattle.fec_units.specs.Held.{Holds}
+use Rattle.fec_units.specs.Ends.{AreFrameEnds}
 use Rattle.fec_units.specs.Bursts.{AreBurstEnds}
-use Rattle.fec_units.specs.declared.units.FecUnits.{FecUnits}
+use Rattle.fec_units.specs.declared.frame_units.FrameUnits.{FrameUnits}
 use Rattle.ts_mux.specs.Units.{AreEndsOf}
 use Rattle.ts_mux.specs.declared.service_units.ServiceUnits.{ServiceUnits}
 use Rattle.ts_mux.specs.declared.service_units.ServiceUnits.TheVariants.{Ends, Frames, Bursts}
@@ -18,14 +16,14 @@ pub record AreSingle (kind : KindFields) (unicast : List ℕ) (datagrams : List 
   pub single : is_single kind ≡ true
   pub ends_are : AreEndsOf kind unicast datagrams ends
 
--- the datagrams stand in frames without time slicing, of which the first has this number, and their units were made: these are the same
--- whenever they go out
-pub record AreOfFrames (kind : KindFields) (unicast : List ℕ) (number : ℕ) (datagrams : List (List ℕ)) (made : FecUnits) : Type 0 where
-  pub on_pid : is_on_pid kind ≡ true
-  pub framed : is_single kind ≡ false
-  pub unsliced : sliced_of kind ≡ None
-  pub held : (schedule : FrameSchedule) → schedule.first ≡ number → Holds made (units_of_kind kind unicast schedule datagrams)
-  pub few : length made.bytes.items ≤ 2 ^ 47
+-- the datagrams stand in frames without time slicing, of which the first has this number, and whose units end here
+pub record AreOfFrames (kind : KindFields) (number : ℕ) (datagrams : List (List ℕ)) (units : FrameUnits) (first : ℕ) : Type 0 where
+  pub pid : ℕ
+  pub rows : ℕ
+  pub parity : ℕ
+  pub kind_is : kind ≡ fec pid rows parity None
+  pub first_is : first ≡ number
+  pub ends_are : AreFrameEnds rows parity datagrams units.ends.items
 
 -- the datagrams stand in the bursts of a sliced service, which end here
 pub record AreOfBursts (kind : KindFields) (datagrams : List (List ℕ)) (ends : List ℕ) : Type 0 where
@@ -35,7 +33,7 @@ pub record AreOfBursts (kind : KindFields) (datagrams : List (List ℕ)) (ends :
 
 abbrev pub AreUnitsFor : KindFields → List ℕ → ℕ → List (List ℕ) → ServiceUnits → Type 0
 AreUnitsFor kind unicast number datagrams (Ends ends) = AreSingle kind unicast datagrams ends.items
-AreUnitsFor kind unicast number datagrams (Frames made) = AreOfFrames kind unicast number datagrams made
+AreUnitsFor kind unicast number datagrams (Frames units first) = AreOfFrames kind number datagrams units first
 AreUnitsFor kind unicast number datagrams (Bursts ends) = AreOfBursts kind datagrams ends.items
 
 -- frames of this kind have rows and columns as there are
@@ -52,5 +50,5 @@ HasShortBursts packet_rate kind = (fields : SlicedFields) → sliced_of kind ≡
 -- how many frames they are of
 abbrev pub frames_in : ServiceUnits → ℕ
 frames_in (Ends ends) = 0
-frames_in (Frames made) = made.frames
+frames_in (Frames units first) = units.frames
 frames_in (Bursts ends) = length ends.items

@@ -1,11 +1,11 @@
 -- The services on their way: in rotation, or in bursts.
-use Rattle.std.specs.Prelude.{◌≡◌, ℕ, zero, suc, ◌+◌, ◌-◌, ◌%◌, ◌<◌, ◌≤◌, ◌^◌, Bool, true, List, [], ◌∷◌, length, drop, get_or, map, set, find, slice_get, slice_index, slice_index_or, nat_lt, if◌then◌else◌, Option, Some, None, is_some}
+use Rattle.std.specs.Prelude.{◌≡◌, ℕ, zero, suc, ◌+◌, ◌-◌, ◌%◌, ◌<◌, ◌≤◌, ◌^◌, Bool, true, false, List, [], ◌∷◌, length, drop, get_or, map, set, find, slice_get, slice_index, slice_index_or, nat_lt, if◌then◌else◌, Option, Some, None, is_some}
 use Rattle.ts_spec.specs.Packet.{PacketFields}
 use Rattle.slice_spec.specs.Windows.{OwnedWindow, owner_of}
 use Rattle.stream_spec.specs.Slots.{Turns, asked}
 use Rattle.stream_spec.specs.Windows.{windows_of}
 use Rattle.slice_spec.specs.Bursts.{IsSliceable}
-use Rattle.plan_spec.specs.Plan.{KindFields, ServiceFields, PlanFields, kinds, SlicedFields, sliced_of}
+use Rattle.plan_spec.specs.Plan.{KindFields, ule, mpe, fec, gse, ServiceFields, PlanFields, kinds, SlicedFields, sliced_of}
 use Rattle.plan_spec.specs.Changes.{plan_in, pid_in, service_in, with_pid}
 use Rattle.plan.specs.Parts.{form_of}
 use Rattle.burst_packets.specs.declared.timing.Timing.{Timing}
@@ -59,23 +59,37 @@ bursts_in (Mpe coming) = no_bursts
 bursts_in (Fec coming) = no_bursts
 bursts_in (Sliced coming) = record { packets = coming.packets; under_way = coming.under_way; sizes = coming.sizes }
 
--- where it is sliced, the rows and the sent columns of its frames
-abbrev pub shape_in : ServicePackets → Option (ℕ × ℕ)
+-- the frames of a service: their rows and sent columns, and whether each is a burst
+pub record FrameShape : Type 0 where
+  pub rows : ℕ
+  pub columns : ℕ
+  pub sliced : Bool
+
+-- those of a service that has frames
+abbrev pub shape_in : ServicePackets → Option FrameShape
 shape_in (Ule coming) = None
 shape_in (Mpe coming) = None
-shape_in (Fec coming) = None
-shape_in (Sliced coming) = Some (coming.rows, coming.columns)
+shape_in (Fec coming) = Some (record { rows = coming.rows; columns = coming.columns; sliced = false })
+shape_in (Sliced coming) = Some (record { rows = coming.rows; columns = coming.columns; sliced = true })
 
-abbrev pub shape_of : Option SlicedFields → Option (ℕ × ℕ)
-shape_of None = None
-shape_of (Some fields) = Some (fields.rows, fields.parity)
+abbrev pub shape_of : KindFields → Option FrameShape
+shape_of (ule pid address packing) = None
+shape_of (mpe pid) = None
+shape_of (fec pid rows parity None) = Some (record { rows = rows; columns = parity; sliced = false })
+shape_of (fec pid rows parity (Some window)) = Some (record { rows = rows; columns = parity; sliced = true })
+shape_of (gse isi address) = None
 
--- of each service what it has left in rotation, its bursts, the rows and columns of its frames where it is sliced, and the counter after its
--- packets; the windows; and which service is asked first for its turn
+-- there are bursts
+abbrev pub is_sliced : Option FrameShape → Bool
+is_sliced None = false
+is_sliced (Some shape) = shape.sliced
+
+-- of each service what it has left in rotation, its bursts, its frames where it has them, and the counter after its packets; the windows; and
+-- which service is asked first for its turn
 pub record Serving : Type 0 where
   pub turns : List (List PacketFields)
   pub bursts : List Bursts
-  pub sliced : List (Option (ℕ × ℕ))
+  pub shapes : List (Option FrameShape)
   pub behind : List ℕ
   pub windows : List OwnedWindow
   pub first : ℕ
@@ -85,7 +99,7 @@ abbrev pub serving_of : List ServicePackets → List OwnedWindow → ℕ → Ser
 serving_of services windows first = record {
   turns = map turns_in_service services;
   bursts = map bursts_in services;
-  sliced = map shape_in services;
+  shapes = map shape_in services;
   behind = map behind_in services;
   windows = windows;
   first = first;
@@ -179,9 +193,9 @@ in_rotation (kind ∷ kinds) (packets ∷ services) = (if is_some (sliced_of kin
 abbrev pub rotation : PartFields → List (List PacketFields)
 rotation part = in_rotation (kinds part.plan) (service_packets part)
 
--- the rows and columns of the frames of each service that is sliced
-abbrev pub shapes_of : PlanFields → List (Option (ℕ × ℕ))
-shapes_of plan = map (λ (kind : KindFields). shape_of (sliced_of kind)) (kinds plan)
+-- the frames of each service that has them
+abbrev pub shapes_of : PlanFields → List (Option FrameShape)
+shapes_of plan = map shape_of (kinds plan)
 
 -- a service that has a PID, with datagrams that it takes
 pub record Takes (service : ServiceFields) (datagrams : List (List ℕ)) : Type 0 where
@@ -246,7 +260,7 @@ pub record BeginsService (kind : KindFields) (unicast : List ℕ) (pid counter :
       → (is_some (sliced_of kind) ≡ true → GoesBy times schedule)
       → packets_in service ≡ packets_of_kind (with_pid kind pid) unicast counter schedule datagrams
   pub behind_is : behind_in service ≡ (counter + length (packets_in service)) % 16
-  pub sliced_is : shape_in service ≡ shape_of (sliced_of kind)
+  pub shape_is : shape_in service ≡ shape_of kind
   pub sizes_are : (bursts_in service).sizes ≡ burst_sizes kind datagrams
   pub none : (bursts_in service).under_way ≡ 0
   pub most : length (packets_in service) ≤ 2 ^ 48
@@ -255,7 +269,7 @@ pub record BeginsService (kind : KindFields) (unicast : List ℕ) (pid counter :
 pub record BeginsIn (plan : PlanFields) (version k : ℕ) (lists : List (List (List (List ℕ)))) (counter before : ℕ) (service : ServicePackets) : Type 0 where
   pub packets_are : packets_in service ≡ packets_of (service_in plan version k) counter (schedule_of plan (listed lists) before k version) (listed lists version k)
   pub behind_is : behind_in service ≡ (counter + length (packets_in service)) % 16
-  pub sliced_is : shape_in service ≡ shape_of (sliced_of (kind_at plan k))
+  pub shape_is : shape_in service ≡ shape_of (kind_at plan k)
   pub sizes_are : (bursts_in service).sizes ≡ burst_sizes (kind_at plan k) (listed lists version k)
   pub none : (bursts_in service).under_way ≡ 0
   pub most : length (packets_in service) ≤ 2 ^ 48
@@ -280,7 +294,7 @@ pub record Begins (part : PartFields) (serving : Serving) : Type 0 where
   pub turns : serving.turns ≡ rotation part
   pub bursts : (k : ℕ) → bursts_of serving.bursts k ≡ all_bursts part k
   pub count : length serving.bursts ≡ length part.plan.services
-  pub sliced : serving.sliced ≡ shapes_of part.plan
+  pub shapes : serving.shapes ≡ shapes_of part.plan
   pub windows : serving.windows ≡ windows_of part.plan
   pub behind : (k : ℕ) → k < length part.plan.services
       → slice_index serving.behind k ≡ (part.packets_before k + length (slice_index_or (service_packets part) k [])) % 16

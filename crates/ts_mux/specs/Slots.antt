@@ -40,7 +40,7 @@ pub record ServicesAt (part : PartFields) (slot : ℕ) (serving : Serving) : Typ
   pub turns : AreAt (rotation part) (turns_in part slot) serving
   pub bursts : (k : ℕ) → bursts_of serving.bursts k ≡ bursts_there part slot k
   pub count : length serving.bursts ≡ length part.plan.services
-  pub sliced : serving.sliced ≡ shapes_of part.plan
+  pub shapes : serving.shapes ≡ shapes_of part.plan
   pub windows : serving.windows ≡ windows_of part.plan
 
 -- a slot of the INT, which has so many packets in each cycle

@@ -1,7 +1,7 @@
 //! The datagrams of a service -> its packets, one after another.
 ghost use Rattle.std.specs.Prelude.{◌≡◌, ℕ, ◌<◌, ◌≤◌, ◌+◌, ◌%◌, ◌^◌, true, length, is_some, None};
 ghost use Rattle.stream_spec.specs.Units.{FrameSchedule, packets_of_kind};
-ghost use Rattle.plan_spec.specs.Plan.{sliced_of};
+ghost use Rattle.plan_spec.specs.Plan.{fec, sliced_of};
 ghost use Rattle.burst_packets.specs.Bursts.{kind_of};
 ghost use Rattle.plan_spec.specs.Changes.{with_pid};
 ghost use Rattle.plan.specs.Parts.{kind_seen};
@@ -12,8 +12,7 @@ ghost use Rattle.ts_mux.specs.Services.{behind_in, turns_in_service, bursts_in, 
 
 use crate::service_units::ServiceUnits;
 use crate::unit_bytes::UnitBytes;
-use burst_packets::{BurstPackets, Shape, Timing};
-use fec_units::FecUnits;
+use burst_packets::{BurstPackets, FramePackets, Shape, Timing};
 use ip_datagram::DatagramList;
 use ipe_io::Recording;
 use plan::{Kind, Service};
@@ -117,82 +116,6 @@ impl<'a, F: UnitForm> DatagramPackets<'a, F> {
     }
 }
 
-/// Sections that lie one after another in a buffer, on their way into the packets of a PID.
-#[derive(Drop)]
-pub(crate) struct BufferPackets<'a> {
-    bytes: &'a [u8],
-    /// Where each section ends.
-    ends: &'a [usize],
-    packer: Packer<SectionForm>,
-}
-
-impl<'a> Model for BufferPackets<'a> {
-    ghost use Rattle.std.specs.Prelude.{length};
-    ghost use Rattle.section_spec.specs.Section.{section_form};
-    ghost use Rattle.unit_stream.specs.Packers.{AreEnds, IsOnWay};
-    ghost use Rattle.ts_mux.specs.Coming.{Coming, coming};
-
-    ghost Value = { Coming };
-
-    ghost view = { λ p. coming section_form p.packer p.bytes.now p.ends.now };
-
-    ghost invariant = { λ p. AreEnds 1 (length p.bytes.now) p.ends.now × IsOnWay p.packer p.ends.now };
-}
-
-impl<'a> BufferPackets<'a> {
-    ghost use Rattle.std.specs.Prelude.{◌≡◌, ℕ, ◌<◌, ◌≤◌, ◌+◌, ◌%◌, ◌^◌, [], ◌∷◌, List, true, length, nat_lt};
-    ghost use Rattle.ts_spec.specs.Packet.{PacketFields};
-    ghost use Rattle.section_spec.specs.Section.{section_form};
-    ghost use Rattle.stream_spec.specs.Parts.{written};
-    ghost use Rattle.unit_stream.specs.Packing.{packetized};
-    ghost use Rattle.fec_units.specs.Held.{Holds};
-
-    /// The packets of these units; the PID is 0 to 8191, the counter of the first packet 0 to 15.
-    fn new(made: &'a FecUnits, pid: u16, counter: u8) -> BufferPackets<'a>
-        requires held { (units : List (List ℕ)) × Holds made.now units }
-        requires few { length made.now.bytes.items ≤ 2 ^ 47 }
-        requires pid { pid ≤ 8191 }
-        requires counter { counter ≤ 15 }
-        ensures written { (units : List (List ℕ)) → Holds made.now units → result.packets ≡ packetized section_form true pid counter units }
-        ensures behind { result.behind ≡ (counter + length result.packets) % 16 }
-        ensures most { length result.packets ≤ 2 ^ 48 }
-    {
-        BufferPackets {
-            bytes: made.bytes.as_slice(),
-            ends: made.ends.as_slice(),
-            // A section may begin in the packet in which the one before ends.
-            packer: Packer::with_counter(pid, true, counter),
-        }
-    }
-
-    /// The counter of the packet that would follow, where none is to come.
-    fn counter(&self) -> u8
-        requires { self.now.packets ≡ [] }
-        ensures read { result ≡ self.now.behind }
-        ensures below { result ≤ 15 }
-    {
-        self.packer.counter()
-    }
-
-    /// Whether there are more to come.
-    fn has_next(&self) -> bool
-        ensures read { result ≡ nat_lt 0 (length self.now.packets) }
-    {
-        self.packer.has_next(self.ends)
-    }
-
-    /// Writes the next one.
-    fn next(&mut self, into: &mut [u8; 188])
-        requires { 0 < length self.old.packets }
-        ensures next { (packet : PacketFields) × (self.old.packets ≡ packet ∷ self.new.packets) × (into.new ≡ written packet) }
-        ensures behind { self.new.behind ≡ self.old.behind }
-    {
-        if !self.packer.next(self.bytes, self.ends, into) {
-            unreachable!();
-        }
-    }
-}
-
 /// The packets of a service.
 #[derive(Drop)]
 pub(crate) enum ServicePackets<'a> {
@@ -201,7 +124,7 @@ pub(crate) enum ServicePackets<'a> {
     /// Of datagram_sections.
     Mpe(DatagramPackets<'a, SectionForm>),
     /// Of the sections of MPE-FEC frames.
-    Fec(BufferPackets<'a>),
+    Fec(FramePackets<'a>),
     /// Of the sections of MPE-FEC frames with time slicing: each frame is a burst.
     Sliced(BurstPackets<'a>),
 }
@@ -237,6 +160,17 @@ impl<'a> ServicePackets<'a> {
         ensures begun { IfOk result (BeginsService (kind_seen service.now.kind) service.now.unicast pid counter datagrams.now units.now times) }
     {
         match units {
+            ServiceUnits::Ends(ends) => {
+                Ok(packets_of_datagrams(service, datagrams, ends, pid, counter))
+            }
+            ServiceUnits::Frames(units, first) => {
+                let shape = frames_of(service);
+                let ends = units.ends.as_slice();
+                let packets = FramePackets::new(
+                    alloc, shape, datagrams, ends, *first, pid, counter,
+                )?;
+                Ok(ServicePackets::Fec(packets))
+            }
             ServiceUnits::Bursts(ends) => {
                 let (shape, timing) = bursts_of(service, times);
                 let packets = BurstPackets::new(
@@ -244,7 +178,6 @@ impl<'a> ServicePackets<'a> {
                 )?;
                 Ok(ServicePackets::Sliced(packets))
             }
-            _ => Ok(in_rotation(service, datagrams, units, pid, counter)),
         }
     }
 
@@ -263,12 +196,23 @@ impl<'a> ServicePackets<'a> {
         requires units { (number : ℕ) × AreUnitsFor (kind_seen service.now.kind) service.now.unicast number datagrams.now units.now }
         requires frames { HasFrames (kind_seen service.now.kind) }
         requires times { HasTimes (kind_seen service.now.kind) times }
-        requires sliced { shape_in self.old ≡ shape_of (sliced_of (kind_seen service.now.kind)) }
+        requires shape { shape_in self.old ≡ shape_of (kind_seen service.now.kind) }
         requires pid { pid ≤ 8191 }
         requires counter { counter ≤ 15 }
         ensures begun { BeginsService (kind_seen service.now.kind) service.now.unicast pid counter datagrams.now units.now times self.new }
     {
         match units {
+            ServiceUnits::Ends(ends) => {
+                *self = packets_of_datagrams(service, datagrams, ends, pid, counter);
+            }
+            ServiceUnits::Frames(units, first) => {
+                let ServicePackets::Fec(packets) = self else {
+                    unreachable!();
+                };
+                let shape = frames_of(service);
+                let ends = units.ends.as_slice();
+                packets.restart(shape, datagrams, ends, *first, pid, counter);
+            }
             ServiceUnits::Bursts(ends) => {
                 let ServicePackets::Sliced(packets) = self else {
                     unreachable!();
@@ -276,7 +220,6 @@ impl<'a> ServicePackets<'a> {
                 let (shape, timing) = bursts_of(service, times);
                 packets.restart(shape, timing, datagrams, ends, pid, counter);
             }
-            _ => *self = in_rotation(service, datagrams, units, pid, counter),
         }
     }
 
@@ -322,7 +265,7 @@ impl<'a> ServicePackets<'a> {
         ensures next { (packet : PacketFields) × (turns_in_service self.old ≡ packet ∷ turns_in_service self.new) × (into.new ≡ written packet) }
         ensures behind { behind_in self.new ≡ behind_in self.old }
         ensures bursts { bursts_in self.new ≡ bursts_in self.old }
-        ensures sliced { shape_in self.new ≡ shape_in self.old }
+        ensures shape { shape_in self.new ≡ shape_in self.old }
     {
         match self {
             ServicePackets::Ule(packets) => packets.next(into),
@@ -338,7 +281,7 @@ impl<'a> ServicePackets<'a> {
         ensures opened { bursts_in self.new ≡ opening (bursts_in self.old) }
         ensures turns { turns_in_service self.new ≡ turns_in_service self.old }
         ensures behind { behind_in self.new ≡ behind_in self.old }
-        ensures sliced { shape_in self.new ≡ shape_in self.old }
+        ensures shape { shape_in self.new ≡ shape_in self.old }
     {
         if let ServicePackets::Sliced(packets) = self {
             packets.open();
@@ -363,7 +306,7 @@ impl<'a> ServicePackets<'a> {
         ensures sizes { (bursts_in self.new).sizes ≡ (bursts_in self.old).sizes }
         ensures turns { turns_in_service self.new ≡ turns_in_service self.old }
         ensures behind { behind_in self.new ≡ behind_in self.old }
-        ensures sliced { shape_in self.new ≡ shape_in self.old }
+        ensures shape { shape_in self.new ≡ shape_in self.old }
     {
         let ServicePackets::Sliced(packets) = self else {
             unreachable!();
@@ -384,6 +327,22 @@ pub(crate) struct Times {
     pub(crate) before: u64,
     /// Whether the service has datagrams in a later part.
     pub(crate) goes_on: bool,
+}
+
+/// The frames of a service without time slicing.
+fn frames_of(service: &Service) -> Shape
+    requires framed { (pid rows parity : ℕ) × (kind_seen service.now.kind ≡ fec pid rows parity None) }
+    ensures read { (pid rows parity : ℕ) → kind_seen service.now.kind ≡ fec pid rows parity None → (result.rows ≡ rows) × (result.columns ≡ parity) }
+    ensures unicast { result.unicast ≡ service.now.unicast }
+{
+    let Kind::Fec { rows, parity, .. } = service.kind else {
+        unreachable!();
+    };
+    Shape {
+        rows,
+        columns: parity,
+        unicast: service.unicast,
+    }
 }
 
 /// The frames of a sliced service, and when their bursts go out.
@@ -419,34 +378,6 @@ fn bursts_of(service: &Service, times: Times) -> (Shape, Timing)
     (shape, timing)
 }
 
-/// The packets of a service without time slicing.
-fn in_rotation<'a>(
-    service: &'a Service,
-    datagrams: &'a DatagramList,
-    units: &'a ServiceUnits,
-    pid: u16,
-    counter: u8,
-) -> ServicePackets<'a>
-    requires datagrams { AreFor (kind_seen service.now.kind) datagrams.now }
-    requires few { length datagrams.now < 2 ^ 32 }
-    requires units { (number : ℕ) × AreUnitsFor (kind_seen service.now.kind) service.now.unicast number datagrams.now units.now }
-    requires unsliced { sliced_of (kind_seen service.now.kind) ≡ None }
-    requires pid { pid ≤ 8191 }
-    requires counter { counter ≤ 15 }
-    ensures written { (schedule : FrameSchedule) → AreUnitsFor (kind_seen service.now.kind) service.now.unicast schedule.first datagrams.now units.now
-        → turns_in_service result ≡ packets_of_kind (with_pid (kind_seen service.now.kind) pid) service.now.unicast counter schedule datagrams.now }
-    ensures behind { behind_in result ≡ (counter + length (turns_in_service result)) % 16 }
-    ensures most { length (turns_in_service result) ≤ 2 ^ 48 }
-    ensures bursts { bursts_in result ≡ no_bursts }
-    ensures sliced { shape_in result ≡ None }
-{
-    match units {
-        ServiceUnits::Ends(ends) => packets_of_datagrams(service, datagrams, ends, pid, counter),
-        ServiceUnits::Frames(made) => ServicePackets::Fec(BufferPackets::new(made, pid, counter)),
-        ServiceUnits::Bursts(_) => unreachable!(),
-    }
-}
-
 /// The packets of a service of these datagrams, each with a unit of its own, which end at `ends`.
 fn packets_of_datagrams<'a>(
     service: &'a Service,
@@ -465,7 +396,7 @@ fn packets_of_datagrams<'a>(
     ensures behind { behind_in result ≡ (counter + length (turns_in_service result)) % 16 }
     ensures most { length (turns_in_service result) ≤ 2 ^ 48 }
     ensures bursts { bursts_in result ≡ no_bursts }
-    ensures sliced { shape_in result ≡ None }
+    ensures shape { shape_in result ≡ None }
 {
     match service.kind {
         Kind::Ule { packing, .. } => {

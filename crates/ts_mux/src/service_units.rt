@@ -1,4 +1,4 @@
-//! The datagrams of a service in one part -> its units, held until they are sent, or where its bursts end.
+//! The datagrams of a service in one part -> where its units or its bursts end.
 ghost use Rattle.std.specs.Prelude.{◌≡◌, ◌<◌, ◌^◌, true, length, IfOk};
 ghost use Rattle.ts_mux.specs.OnPids.{is_on_pid};
 ghost use Rattle.plan.specs.Parts.{kind_seen};
@@ -7,7 +7,7 @@ ghost use Rattle.ts_mux.specs.Units.{AreFor};
 ghost use Rattle.ts_mux.specs.ServiceUnits.{AreUnitsFor, HasFrames, frames_in};
 
 use crate::units::ends_of;
-use fec_units::{FecUnits, burst_ends, make_units};
+use fec_units::{FrameUnits, burst_ends, unit_ends};
 use ip_datagram::DatagramList;
 use plan::{Kind, Service};
 use std::alloc::{AllocError as OutOfMemory, Global};
@@ -17,8 +17,9 @@ use std::alloc::{AllocError as OutOfMemory, Global};
 pub(crate) enum ServiceUnits {
     /// Where the units of its datagrams end among the bytes of all of them: each is made when it is sent.
     Ends(Vec<usize>),
-    /// Those of its frames.
-    Frames(FecUnits),
+    /// Where the units of its frames end among the bytes of all of them, and the number of the first frame: the units of a frame are made
+    /// when its first packet goes out.
+    Frames(FrameUnits, u32),
     /// Where the datagrams of its bursts end among all of them: the units of a burst are made when its window opens.
     Bursts(Vec<u32>),
 }
@@ -49,8 +50,8 @@ pub(crate) fn units_of_service(
                 Ok(ServiceUnits::Bursts(ends))
             }
             None => {
-                let made = make_units(alloc, datagrams, rows, parity, service.unicast, first)?;
-                Ok(ServiceUnits::Frames(made))
+                let units = unit_ends(alloc, datagrams, rows, parity)?;
+                Ok(ServiceUnits::Frames(units, first))
             }
         },
         _ => Ok(ServiceUnits::Ends(ends_of(alloc, service, datagrams)?)),
@@ -68,7 +69,7 @@ impl ServiceUnits {
     {
         match self {
             ServiceUnits::Ends(_) => 0,
-            ServiceUnits::Frames(made) => made.frames,
+            ServiceUnits::Frames(units, _) => units.frames,
             ServiceUnits::Bursts(ends) => ends.len() as u32,
         }
     }

@@ -129,7 +129,7 @@ fn restart<'a>(
     requires service { k < length plan.now.services }
     requires all { HasServices (plan_fields plan.now) lists.now }
     requires lists { AreLists (plan_fields plan.now) (frames_before (plan_fields plan.now) lists.now version) (get_or lists.now version []) units.now.units }
-    requires sliced { shape_in service.old ≡ shape_of (sliced_of (kind_at (plan_fields plan.now) k)) }
+    requires shape { shape_in service.old ≡ shape_of (kind_at (plan_fields plan.now) k) }
     requires counter { counter ≤ 15 }
     ensures begun { BeginsIn (plan_fields plan.now) version k lists.now counter before service.new }
 {
@@ -253,7 +253,7 @@ impl<'a> Services<'a> {
         requires all { HasServices (plan_fields plan.now) lists.now }
         requires lists { AreLists (plan_fields plan.now) (frames_before (plan_fields plan.now) lists.now version) (get_or lists.now version []) units.now.units }
         requires size { length self.old.bursts ≡ length plan.now.services }
-        requires sliced { self.old.sliced ≡ shapes_of (plan_fields plan.now) }
+        requires shapes { self.old.shapes ≡ shapes_of (plan_fields plan.now) }
         requires windows { self.old.windows ≡ windows_in_plan (plan_fields plan.now) }
         requires out { left_in self.old ≡ 0 }
         ensures begun { (part : PartFields)

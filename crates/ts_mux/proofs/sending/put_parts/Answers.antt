@@ -175,8 +175,8 @@ begin-requires-clause-all g c = record {
   services = λ version within. services_size (plan_fields c.args.plan.now) c.args.lists.now c.args.units.now c.requires.units version within;
 }
 
-pub begin-requires-clause-sliced : goal.begin-requires-clause-sliced
-begin-requires-clause-sliced g c =
+pub begin-requires-clause-shapes : goal.begin-requires-clause-shapes
+begin-requires-clause-shapes g c =
     let plan : Plan = c.args.plan.now in
     let datagrams : ℕ → ℕ → List (List ℕ) = listed c.args.lists.now in
     let slots : ℕ → ℕ = slots_of (plan_fields plan) plan.whole datagrams in

@@ -20,8 +20,8 @@ returns-in_ok-ends-in-Some-clause-frames c =
     (kind_is c.args.service.now.kind c.in-Fec.pid c.in-Fec.rows c.in-Fec.parity c.in-Fec.window (Some c.in-Some.window) c.in-Fec.is c.in-Some.is) c.requires.on_pid
     c.in_ok-ends-in-Some.ends.items c.in_ok-ends-in-Some.ensures.ends
 
-pub returns-in_ok-made-in-None-clause-made : goal.returns-in_ok-made-in-None-clause-made
-returns-in_ok-made-in-None-clause-made c =
-    frames_made c.args.service.now.unicast c.args.first c.args.datagrams.now c.args.service.now.kind c.in-Fec.pid c.in-Fec.rows c.in-Fec.parity
+pub returns-in_ok-units-in-None-clause-made : goal.returns-in_ok-units-in-None-clause-made
+returns-in_ok-units-in-None-clause-made c =
+    frames_made c.args.first c.args.datagrams.now c.args.service.now.kind c.in-Fec.pid c.in-Fec.rows c.in-Fec.parity
     (kind_is c.args.service.now.kind c.in-Fec.pid c.in-Fec.rows c.in-Fec.parity c.in-Fec.window None c.in-Fec.is c.in-None.is) c.requires.on_pid
-    c.in_ok-made-in-None.made c.requires.frames c.requires.datagrams c.requires.few c.in_ok-made-in-None.ensures.written
+    c.in_ok-units-in-None.units c.in_ok-units-in-None.ensures.ends

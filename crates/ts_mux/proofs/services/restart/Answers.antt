@@ -1,6 +1,5 @@
 use Rattle.std.proofs.Common.{◌≡◌, ◌∙◌, ℕ, ◌<◌, List, [], ap, sym, arith, length, get_or, None}
 use Rattle.std.proofs.lemmas.List.{length-map}
-use Rattle.plan_spec.specs.Plan.{KindFields, sliced_of}
 use Rattle.plan_spec.specs.Changes.{pid_in}
 use Rattle.plan.specs.Parts.{service_seen}
 use Rattle.plan.specs.PlanView.{plan_fields}
@@ -59,9 +58,9 @@ pub restart-requires-clause-pid : goal.restart-requires-clause-pid
 restart-requires-clause-pid c =
     pid_most c.args.plan.now c.args.version c.args.k c.at.result.now c.at.ensures.read c.args.plan.now.whole (version_within c.args.plan.now c.args.version c.requires.version) c.in-Some.pid (sym c.pid_in.ensures.read ∙ c.in-Some.is)
 
-pub restart-requires-clause-sliced : goal.restart-requires-clause-sliced
-restart-requires-clause-sliced c =
-    c.requires.sliced ∙ ap (λ (kind : KindFields). shape_of (sliced_of kind)) (kind_there c.args.plan.now c.args.k c.at.result.now c.at.ensures.read)
+pub restart-requires-clause-shape : goal.restart-requires-clause-shape
+restart-requires-clause-shape c =
+    c.requires.shape ∙ ap shape_of (kind_there c.args.plan.now c.args.k c.at.result.now c.at.ensures.read)
 
 pub returns : goal.returns
 returns c = record {

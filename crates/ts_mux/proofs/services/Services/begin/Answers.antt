@@ -4,7 +4,7 @@ use Rattle.std.proofs.lemmas.Bool.{cases_lt}
 use Rattle.std.proofs.lemmas.List.{length-map, length-set}
 use Rattle.std.proofs.lemmas.Option.{slice_get_within}
 use Rattle.ts_spec.specs.Packet.{PacketFields}
-use Rattle.plan_spec.specs.Plan.{ServiceFields, PlanFields, kinds, sliced_of}
+use Rattle.plan_spec.specs.Plan.{ServiceFields, PlanFields, kinds}
 use Rattle.plan_spec.specs.Changes.{pid_in}
 use Rattle.stream_spec.specs.Services.{kind_at}
 use Rattle.stream_spec.specs.Stream.{shares_pid}
@@ -13,7 +13,7 @@ use Rattle.plan.specs.Parts.{service_seen}
 use Rattle.plan.specs.PlanView.{plan_fields}
 use Rattle.plan.specs.declared.plan.Plan.{Plan}
 use Rattle.stream_law.proofs.Plans.{few_services}
-use Rattle.ts_mux.specs.Services.{packets_in, behind_in, turns_in_service, bursts_in, shape_in, shape_of, Bursts, no_bursts, bursts_of, left_in, Serving, counter_at, shapes_of, BeginsIn}
+use Rattle.ts_mux.specs.Services.{packets_in, behind_in, turns_in_service, bursts_in, shape_in, shape_of, FrameShape, Bursts, no_bursts, bursts_of, left_in, Serving, counter_at, shapes_of, BeginsIn}
 use Rattle.ts_mux.specs.declared.service_packets.ServicePackets.{ServicePackets}
 use Rattle.ts_mux.proofs.Moved.{there_is}
 use Rattle.ts_mux.proofs.Turned.{total_at}
@@ -44,10 +44,10 @@ none_left items now turns bursts out j it there =
       ap (λ (b : Bursts). length b.packets) (map_item bursts_in items j it no_bursts there),
     ))
 
-sliced_as : (plan : PlanFields) (items : List ServicePackets) (now : Serving) → map shape_in items ≡ now.sliced → now.sliced ≡ shapes_of plan → length items ≡ length plan.services
-    → (j : ℕ) (it : ServicePackets) → slice_get items j ≡ Some it → shape_in it ≡ shape_of (sliced_of (kind_at plan j))
+sliced_as : (plan : PlanFields) (items : List ServicePackets) (now : Serving) → map shape_in items ≡ now.shapes → now.shapes ≡ shapes_of plan → length items ≡ length plan.services
+    → (j : ℕ) (it : ServicePackets) → slice_get items j ≡ Some it → shape_in it ≡ shape_of (kind_at plan j)
 sliced_as plan items now same is size j it there =
-    sym (map_item shape_in items j it None there) ∙ ap (λ (bs : List (Option (ℕ × ℕ))). get_or bs j None) (same ∙ is)
+    sym (map_item shape_in items j it None there) ∙ ap (λ (bs : List (Option FrameShape)). get_or bs j None) (same ∙ is)
     ∙ shapes_at (kinds plan) j (omega (arith, slice_get_within items j it there, size, length-map plan.services (λ (s : ServiceFields). s.kind)))
 
 pub loop-k-init : goal.loop-k-init
@@ -61,7 +61,7 @@ loop-k-init c =
       rest = λ j it le there. (
         none_left items now (ap (λ (s : Serving). s.turns) c.self.view_is) (ap (λ (s : Serving). s.bursts) c.self.view_is) c.requires.out j it there,
         sym (map_item behind_in items j it 0 there) ∙ ap (λ (s : Serving). slice_index s.behind j) c.self.view_is,
-        sliced_as (plan_fields c.args.plan.now) items now (ap (λ (s : Serving). s.sliced) c.self.view_is) c.requires.sliced (omega (arith, size, length-map c.args.plan.now.services service_seen)) j it there,
+        sliced_as (plan_fields c.args.plan.now) items now (ap (λ (s : Serving). s.shapes) c.self.view_is) c.requires.shapes (omega (arith, size, length-map c.args.plan.now.services service_seen)) j it there,
       );
       windows = ap (λ (s : Serving). s.windows) c.self.view_is;
     }
@@ -80,8 +80,8 @@ counter_of-counter-requires-clause-out c =
     let known : c.loop-k.k < length items = omega (arith, c.loop-k-test.true, c.len-k-end.ensures, c.self.inside.services.ok.0, size, c.loop-k.invariant.size) in
     (c.loop-k.invariant.rest c.loop-k.k c.index.result.now (omega arith) (at_item items c.loop-k.k c.index.result.now known c.index.ensures)).0
 
-pub restart-requires-clause-sliced : goal.restart-requires-clause-sliced
-restart-requires-clause-sliced c =
+pub restart-requires-clause-shape : goal.restart-requires-clause-shape
+restart-requires-clause-shape c =
     let items : List ServicePackets = c.loop-k.self-inside.services.items in
     let size = same_size c.args.plan.now c.self.inside.services.items c.args.self.now (ap (λ (s : Serving). s.bursts) c.self.view_is) c.requires.size in
     let known : c.loop-k.k < length items = omega (arith, c.loop-k-test.true, c.len-k-end.ensures, c.self.inside.services.ok.0, size, c.loop-k.invariant.size) in

@@ -11,5 +11,5 @@ returns c =
     = omega (arith, known_way c.args.self.now.bursts c.args.k c.requires.some, ap (λ (s : Serving). length s.bursts) c.self.view_is, length-map c.self.inside.services.items bursts_in) in
     record {
       given = given c.self.inside.services.items (windows_in c.self.inside.windows.items) c.self.inside.first c.args.k c.index_mut.result.now c.give.new.self known c.index_mut.ensures.value
-          c.args.self.now c.self.view_is c.give.ensures.next.0 c.give.new.into c.give.ensures.next.1 c.give.ensures.next.2 c.give.ensures.left c.give.ensures.sizes c.give.ensures.turns c.give.ensures.sliced c.give.ensures.behind;
+          c.args.self.now c.self.view_is c.give.ensures.next.0 c.give.new.into c.give.ensures.next.1 c.give.ensures.next.2 c.give.ensures.left c.give.ensures.sizes c.give.ensures.turns c.give.ensures.shape c.give.ensures.behind;
     }

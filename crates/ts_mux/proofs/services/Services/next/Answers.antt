@@ -42,5 +42,5 @@ returns c =
     let it = has c.self.inside.services.items (windows_in c.self.inside.windows.items) c.self.inside.first c.args.turn c.args.self.now c.self.view_is c.self.invariant c.requires.turn in
     record {
       next = turn_taken c.self.inside.services.items (windows_in c.self.inside.windows.items) c.self.inside.first c.args.turn c.index_mut.result.now c.next.new.self it.0 c.index_mut.ensures.value
-          c.args.self.now c.self.view_is c.requires.turn c.next.ensures.next.0 c.next.new.into c.next.ensures.next.1 c.next.ensures.next.2 c.next.ensures.bursts c.next.ensures.sliced c.next.ensures.behind;
+          c.args.self.now c.self.view_is c.requires.turn c.next.ensures.next.0 c.next.new.into c.next.ensures.next.1 c.next.ensures.next.2 c.next.ensures.bursts c.next.ensures.shape c.next.ensures.behind;
     }

@@ -22,6 +22,6 @@ returns-then-place-eq0 c =
     let same : map bursts_in items ≡ c.args.self.now.bursts = ap (λ (s : Serving). s.bursts) c.self.view_is in
     record {
       opened = opened items (windows_in c.self.inside.windows.items) c.self.inside.first c.args.k c.index_mut.result.now c.open.new.self (known items c.args.k c.args.self.now same c.requires.known) c.index_mut.ensures.value
-          c.args.self.now c.self.view_is c.open.ensures.opened c.open.ensures.turns c.open.ensures.sliced c.open.ensures.behind
+          c.args.self.now c.self.view_is c.open.ensures.opened c.open.ensures.turns c.open.ensures.shape c.open.ensures.behind
           ∙ ap (λ (bs : List Bursts). let s : Serving = record c.args.self.now { bursts = bs } in s) (opened_first c.args.self.now.bursts c.args.k c.args.place c.if-place-eq0.true);
     }
