@@ -1,18 +1,50 @@
 //! Frames and bursts of 256 rows, by hand from EN 301 192 clause 9.
-ghost use Rattle.std.specs.Prelude.{◌<◌, ◌^◌, length, IfOk};
+ghost use Rattle.std.specs.Prelude.{◌<◌, ◌≤◌, ◌^◌, length, IfOk};
+ghost use Rattle.fec_units.specs.Ends.{AreFrameEnds};
 ghost use Rattle.fec_sent_law.specs.Frames.{AreSendable};
 
 use crate::lines::{difference_of, hex_at};
 use crate::sendable::{HOST, UNICAST, list_of};
-use fec_units::{BurstBuffer, FecUnits, burst_ends, make_units};
+use burst_packets::{FramePackets, Shape};
+use fec_units::{BurstBuffer, FrameUnits, burst_ends, unit_ends};
 use ip_datagram::DatagramList;
 use std::alloc::Global;
 use std::fmt::Write;
 use std::test::Fail;
 
 /// How many frames there are, and where each of their units ends.
-fn ends_of(alloc: Global, made: &FecUnits) -> Result<String, Fail> {
-    Ok(format!(in alloc; "{}: {:?}", made.frames, made.ends.as_slice())?)
+fn ends_of(alloc: Global, units: &FrameUnits) -> Result<String, Fail> {
+    Ok(format!(in alloc; "{}: {:?}", units.frames, units.ends.as_slice())?)
+}
+
+/// What the packets of frames with 256 rows carry, without pointers: the bytes of the units, and then those that fill the last packet.
+fn payloads_of(
+    alloc: Global,
+    list: &DatagramList,
+    units: &FrameUnits,
+    columns: u8,
+    first: u32,
+) -> Result<Vec<u8>, Fail>
+    requires columns { (1 ≤ columns) × (columns ≤ 64) }
+    requires sendable { AreSendable list.now }
+    requires few { length list.now < 2 ^ 32 }
+    requires ends { AreFrameEnds 256 columns list.now units.now.ends.items }
+{
+    let shape = Shape {
+        rows: 256,
+        columns,
+        unicast: UNICAST,
+    };
+    let ends = units.ends.as_slice();
+    let mut packets = FramePackets::new(alloc, shape, list, ends, first, 300, 0)?;
+    let mut bytes = Vec::new(alloc);
+    while packets.has_next() {
+        let mut packet = [0; 188];
+        packets.next(&mut packet);
+        let starts = packet[1] & 0x40 != 0;
+        bytes.extend_from_slice(&packet[if starts { 5 } else { 4 }..])?;
+    }
+    Ok(bytes)
 }
 
 /// A unit and a byte of it, the bytes there, and what they are. The parity is an independent program's.
@@ -29,13 +61,14 @@ const SMALL: &str = "0 0|3E B0 21|section_length 33
 fn a_small_datagram_is_a_frame_of_two_sections(rt: HostRuntime) -> Result<(), Fail> {
     let alloc = rt.alloc();
     let list = list_of(alloc, 1, 20, [239, 1, 2, 3])?;
-    let made = make_units(alloc, &list, 256, 1, UNICAST, 5)?;
+    let units = unit_ends(alloc, &list, 256, 1)?;
+    let bytes = payloads_of(alloc, &list, &units, 1, 5)?;
     // 12 bytes before the datagram and the CRC_32; 12 before the column of 256 bytes and the CRC_32
-    assert_eq!(rt; ends_of(alloc, &made)?.as_str(), "1: [36, 308]");
-    let difference = difference_of(alloc, &made.bytes, &made.ends, SMALL)?;
+    assert_eq!(rt; ends_of(alloc, &units)?.as_str(), "1: [36, 308]");
+    let difference = difference_of(alloc, &bytes, &units.ends, SMALL)?;
     assert_eq!(rt; difference.as_str(), "");
     // rows of zeros have parity of zeros
-    assert!(rt; made.bytes.get(68..304) == Some(&[0; 236][..]));
+    assert!(rt; bytes.get(68..304) == Some(&[0; 236][..]));
     Ok(())
 }
 
@@ -56,9 +89,10 @@ const TWO_ENDS: &str =
 fn a_datagram_without_room_begins_the_next_frame(rt: HostRuntime) -> Result<(), Fail> {
     let alloc = rt.alloc();
     let list = list_of(alloc, 12, 4080, HOST)?;
-    let made = make_units(alloc, &list, 256, 2, UNICAST, 4095)?;
-    assert_eq!(rt; ends_of(alloc, &made)?.as_str(), TWO_ENDS);
-    let difference = difference_of(alloc, &made.bytes, &made.ends, TWO_FRAMES)?;
+    let units = unit_ends(alloc, &list, 256, 2)?;
+    let bytes = payloads_of(alloc, &list, &units, 2, 4095)?;
+    assert_eq!(rt; ends_of(alloc, &units)?.as_str(), TWO_ENDS);
+    let difference = difference_of(alloc, &bytes, &units.ends, TWO_FRAMES)?;
     assert_eq!(rt; difference.as_str(), "");
     Ok(())
 }
@@ -67,8 +101,8 @@ fn a_datagram_without_room_begins_the_next_frame(rt: HostRuntime) -> Result<(), 
 #[test]
 fn no_datagram_has_no_unit(rt: HostRuntime) -> Result<(), Fail> {
     let alloc = rt.alloc();
-    let made = make_units(alloc, &DatagramList::new(alloc), 1024, 64, UNICAST, 0)?;
-    assert_eq!(rt; ends_of(alloc, &made)?.as_str(), "0: []");
+    let units = unit_ends(alloc, &DatagramList::new(alloc), 1024, 64)?;
+    assert_eq!(rt; ends_of(alloc, &units)?.as_str(), "0: []");
     Ok(())
 }
 

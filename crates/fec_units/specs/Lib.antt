@@ -2,6 +2,5 @@ pub mod Parts
 pub mod Packets
 pub mod Timed
 pub mod Room
-pub mod Held
 pub mod Ends
 pub mod Bursts

@@ -51,10 +51,3 @@ column_fields rows columns padding parity delta k = record {
   real_time = record { delta = delta; table_boundary = k + 1 == columns; frame_boundary = k + 1 == columns; address = k * rows };
   column = take rows (drop (k * rows) parity);
 }
-
--- the units of the first datagrams of a frame, and of its first columns
-abbrev pub data_units : List ℕ → List (List ℕ) → ℕ → ℕ → List (List ℕ)
-data_units unicast datagrams delta n = map (data_unit unicast datagrams delta) (range_with_len 0 n)
-
-abbrev pub column_units : ℕ → ℕ → ℕ → List ℕ → ℕ → ℕ → List (List ℕ)
-column_units rows columns padding parity delta n = map (λ k. fec_bytes (column_fields rows columns padding parity delta k)) (range_with_len 0 n)

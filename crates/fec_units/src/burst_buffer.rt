@@ -11,7 +11,6 @@ ghost use Rattle.fec_sent_law.specs.Frames.{AreSendable};
 use crate::burst_sections::{put_burst_columns, put_burst_data};
 use crate::columns::{DATA_COLUMNS, encode_frame};
 use crate::frames::{PARITY_COLUMNS, Shape, data_bytes};
-use crate::sections::LONGEST;
 use crate::unit_buffer::UnitBuffer;
 use byte_slices::zeros;
 use fec_frame::padding_of;
@@ -19,6 +18,9 @@ use ip_datagram::DatagramList;
 use mpe_section::fec_size;
 use std::alloc::{AllocError as OutOfMemory, Global};
 use std::marker::Model;
+
+/// Bytes of the longest section (ISO/IEC 13818-1 clause 2.4.4).
+const LONGEST: usize = 4096;
 
 /// Bytes of the shortest datagram: an IPv4 header (RFC 791 section 3.1).
 const SHORTEST: usize = 20;

@@ -1,19 +1,29 @@
 //! The datagrams of a burst and the columns of its RS data table -> its sections, as units: each with the delta_t of the packet in which it
 //! begins.
 ghost use Rattle.std.specs.Prelude.{◌≡◌, ℕ, ◌++◌, ◌+◌, ◌-◌, ◌*◌, ◌^◌, ◌<◌, ◌≤◌, length, slice_index, All};
+ghost use Rattle.wire_spec.specs.Datagram.{IsDatagram};
 ghost use Rattle.wire_spec.specs.Lists.{joined};
 ghost use Rattle.section_spec.specs.Mpe.{IsRows};
 ghost use Rattle.unit_stream.specs.Packers.{units_of};
+ghost use Rattle.stream_spec.specs.Units.{mac_for};
 ghost use Rattle.fec_units.specs.Packets.{after_sections, data_sizes, first_section};
 ghost use Rattle.fec_units.specs.Parts.{part_of};
 ghost use Rattle.fec_units.specs.Timed.{AreHeld, timed_columns, timed_data};
 ghost use Rattle.fec_sent_law.specs.Frames.{AreSendable};
 
 use crate::packets::{NextSection, first};
-use crate::sections::receivers_of;
 use crate::unit_buffer::UnitBuffer;
-use ip_datagram::DatagramList;
+use addr_rules::mac_of;
+use ip_datagram::{DatagramList, destination};
 use mpe_section::{Fec, RealTime, write_fec, write_mpe};
+
+/// The address of the receivers that a datagram is for, where the service's own have this one.
+fn receivers_of(datagram: &[u8], unicast: [u8; 6]) -> [u8; 6]
+    requires datagram { IsDatagram datagram.now }
+    ensures read { result ≡ mac_for unicast datagram.now }
+{
+    mac_of(&destination(datagram), unicast)
+}
 
 /// delta_t of a packet: 0 past the end of the list.
 fn delta_of(deltas: &[u16], packet: usize) -> u16

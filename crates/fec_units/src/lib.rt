@@ -1,7 +1,7 @@
 //! MPE-FEC frames of a service's datagrams (EN 301 192 clause 9), as the units that carry them.
 //!
 //! Sending: datagrams of a service -> [fec_units] -> unit_stream -> ts_packet.
-//! Begin with `make_units`, and with `burst_ends` and `BurstBuffer` where there is time slicing.
+//! Begin with `burst_ends` where there is time slicing, otherwise with `unit_ends` and `frame_end`; and with `BurstBuffer`.
 #![tactic(auto)]
 
 mod burst_buffer;
@@ -11,12 +11,9 @@ mod columns;
 mod frame_units;
 mod frames;
 mod packets;
-mod sections;
 mod unit_buffer;
-mod units;
 
 pub use burst_buffer::BurstBuffer;
 pub use bursts::burst_ends;
 pub use frame_units::{FrameUnits, unit_ends};
-pub use frames::{frame_end, make_units};
-pub use units::FecUnits;
+pub use frames::frame_end;
