@@ -1,6 +1,6 @@
 -- Where units end, by their sizes.
-use Rattle.std.proofs.Common.{◌≡◌, ℕ, zero, suc, ◌+◌, ◌-◌, ◌%◌, ◌≤◌, List, [], ◌∷◌, ◌++◌, take, drop, length, get_or, insert, refl, sym, ap, ap₂, subst, ◌∙◌, arith, append_assoc}
-use Rattle.std.proofs.lemmas.List.{length-append, take_at, take_all, drop_at, drop_all, map-append}
+use Rattle.std.proofs.Common.{◌≡◌, ℕ, zero, suc, ◌+◌, ◌-◌, ◌%◌, ◌≤◌, List, [], ◌∷◌, ◌++◌, take, drop, length, get_or, refl, sym, ap, ap₂, subst, ◌∙◌, arith, append_assoc}
+use Rattle.std.proofs.lemmas.List.{length-append, take_at, drop_at, map-append}
 use Rattle.wire_spec.specs.Lists.{joined}
 use Rattle.unit_stream.specs.Packers.{AreRising, AreEnds, between, units_from, units_of}
 use Rattle.stream_spec.specs.Units.{units_of_frame, units_of_frames}
@@ -8,14 +8,9 @@ use Rattle.fec_units.specs.Ends.{AreUnitEnds, after_sizes, ends_of_sizes}
 use Rattle.fec_units.specs.Packets.{column_sizes, data_sizes}
 use Rattle.fec_units.specs.Parts.{part_of}
 use Rattle.fec_units.proofs.Counted.{AreSome, sizes_of}
-use Rattle.fec_units.proofs.Parts.{part_none}
 use Rattle.fec_units.proofs.Timed.{some_columns, some_data, unit_sizes}
 
 -- One unit more.
-
-pub insert_last : (list : List ℕ) (place x : ℕ) → place ≡ length list → insert list place x ≡ list ++ x ∷ []
-insert_last list place x is =
-    ap₂ (λ (front rest : List ℕ). front ++ x ∷ rest) (take_all place list (omega (arith, is))) (drop_all place list (omega (arith, is)))
 
 pub ends_append : (at : ℕ) (a b : List ℕ) → ends_of_sizes at (a ++ b) ≡ ends_of_sizes at a ++ ends_of_sizes (after_sizes at a) b
 ends_append at [] b = refl
@@ -40,9 +35,6 @@ pub data_more : (from end : ℕ) (list : List (List ℕ)) (d : List ℕ) → par
     → data_sizes (part_of from (end + 1) list) ≡ data_sizes (part_of from end list) ++ (length d + 16) ∷ []
 data_more from end list d more =
     ap data_sizes more ∙ map-append (λ (x : List ℕ). length x + 16) (part_of from end list) (d ∷ [])
-
-pub data_none : (from : ℕ) (list : List (List ℕ)) → data_sizes (part_of from from list) ≡ []
-data_none from list = ap data_sizes (part_none from list)
 
 pub column_more : (rows n : ℕ) → column_sizes rows (n + 1) ≡ column_sizes rows n ++ (rows + 16) ∷ []
 column_more rows zero = refl

@@ -1,6 +1,6 @@
 -- Which datagrams of a list share a frame, from a place on.
 use Rattle.std.proofs.Common.{◌≡◌, ℕ, ◌+◌, ◌<◌, ◌≤◌, Bool, true, false, List, [], ◌∷◌, ◌++◌, length, get_or, drop, ap, sym, ◌∙◌, arith}
-use Rattle.std.proofs.lemmas.List.{drop_more, drop_all}
+use Rattle.std.proofs.lemmas.List.{drop_more}
 use Rattle.fec_frame_spec.specs.Sender.{datagrams_in_frames}
 use Rattle.fec_sent_law.proofs.Fitting.{frames_with, joins, begins}
 use Rattle.fec_units.specs.Parts.{part_of}
@@ -35,11 +35,3 @@ module _ (fits : List (List ℕ) → Bool) (list : List (List ℕ)) (from : ℕ)
         there
         ∙ begins fits (part_of from end list) (drop (end + 1) list) (get_or list end []) (ap fits (sym more) ∙ passes)
         ∙ ap (λ (l : List (List ℕ)). part_of from end list ∷ datagrams_in_frames fits l) (sym (drop_more list end [] within))
-
-  -- after the last datagram
-  pub going_all : (end : ℕ) → length list ≤ end → IsGoing end → datagrams_in_frames fits (drop from list) ≡ part_of from end list ∷ datagrams_in_frames fits (drop end list)
-  going_all end le going =
-      let none : drop end list ≡ [] = drop_all end list le in
-      going
-      ∙ ap (λ (l : List (List ℕ)). frames_with fits (part_of from end list ∷ []) l) none
-      ∙ ap (λ (l : List (List ℕ)). part_of from end list ∷ datagrams_in_frames fits l) (sym none)

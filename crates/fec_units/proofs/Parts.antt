@@ -53,14 +53,6 @@ part_bytes_more from end list le within =
     ∙ ap (λ (l : List ℕ). length l) (joined-append part (d ∷ []))
     ∙ omega (arith, length-append (joined part) (joined (d ∷ [])), length-append d [])
 
--- the bytes of a list, up to a place
-pub bytes_so_far : (list : List (List ℕ)) (n : ℕ) → n < length list → length (joined (take (n + 1) list)) ≡ length (joined (take n list)) + length (get_or list n [])
-bytes_so_far list n within =
-    let d : List ℕ = get_or list n [] in
-    ap (λ (l : List (List ℕ)). length (joined l)) (take_more list n [] within)
-    ∙ ap (λ (l : List ℕ). length l) (joined-append (take n list) (d ∷ []))
-    ∙ omega (arith, length-append (joined (take n list)) (joined (d ∷ [])), length-append d [])
-
 -- some datagrams of a part have no more bytes than all of them
 pub part_grows : (from place end : ℕ) (list : List (List ℕ)) → place ≤ end → length (joined (part_of from place list)) ≤ length (joined (part_of from end list))
 unfolding datagram_start

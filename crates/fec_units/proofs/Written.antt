@@ -1,14 +1,8 @@
 -- A unit more of a frame.
-use Rattle.std.proofs.Common.{◌<◌, ◌≡◌, ℕ, ◌+◌, ◌-◌, ◌*◌, ◌%◌, Bool, false, eqb, List, [], ◌∷◌, ◌++◌, length, map, take, drop, Some, refl, ap, ap₂, sym, ◌∙◌, arith, append_assoc}
-use Rattle.std.specs.List.{range_with_len}
-use Rattle.std.proofs.lemmas.List.{take_at, map-append}
-use Rattle.std.proofs.lemmas.List.FromFn.{map-range_with_len_more}
-use Rattle.wire_spec.specs.Lists.{joined}
-use Rattle.section_spec.specs.Mpe.{FecFields, RealTimeFields, fec_bytes, mpe_bytes, mpe_to_write}
-use Rattle.fec_frame_spec.specs.Frame.{datagram_at, datagram_start, data_table}
-use Rattle.fec_frame_spec.specs.Sections.{data_section, parity_section}
-use Rattle.fec_frame_spec.specs.Sender.{padding_of, parity_table, frame_of, section_of_datagram, section_of_column, section_unit, sections_to_send}
-use Rattle.stream_spec.specs.Units.{mac_for, units_of_frame, units_of_frames}
+use Rattle.std.proofs.Common.{◌≡◌, ℕ, ◌+◌, ◌-◌, ◌*◌, Bool, false, eqb, List, ◌++◌, length, take, drop, ap, ap₂, sym, ◌∙◌, arith}
+use Rattle.std.proofs.lemmas.List.{take_at}
+use Rattle.section_spec.specs.Mpe.{FecFields, RealTimeFields}
+use Rattle.fec_frame_spec.specs.Frame.{datagram_start}
 use Rattle.fec_units.specs.Parts.{column_fields, data_time}
 
 -- a unit that stands at the front of a buffer

@@ -1,8 +1,7 @@
 -- What a frame is made of, in steps: some of a list's datagrams, their bytes in columns, and the fields of a column's section.
-use Rattle.std.specs.Prelude.{◌≡◌, ℕ, zero, suc, ◌+◌, ◌-◌, ◌*◌, ◌<◌, ◌≤◌, List, [], ◌∷◌, length, map, take, drop, slice_index_or, ◌==◌, false, Some}
-use Rattle.std.specs.List.{range_with_len}
+use Rattle.std.specs.Prelude.{◌≡◌, ℕ, zero, suc, ◌+◌, ◌-◌, ◌*◌, ◌<◌, ◌≤◌, List, [], ◌∷◌, length, take, drop, slice_index_or, ◌==◌, false, Some}
 use Rattle.wire_spec.specs.Lists.{joined}
-use Rattle.section_spec.specs.Mpe.{FecFields, RealTimeFields, mpe_bytes, mpe_to_write, fec_bytes}
+use Rattle.section_spec.specs.Mpe.{FecFields, RealTimeFields, mpe_bytes, mpe_to_write}
 use Rattle.fec_frame_spec.specs.Frame.{datagram_at, datagram_start}
 use Rattle.stream_spec.specs.Units.{mac_for}
 use Rattle.fec_units.specs.declared.columns.Place.{Place}

@@ -1,5 +1,5 @@
 //! The datagrams of a service -> the bursts of its time slicing: which datagrams each of them has.
-ghost use Rattle.std.specs.Prelude.{◌≡◌, ◌∷◌, ◌*◌, ◌^◌, ◌<◌, ◌≤◌, List, ℕ, length, drop, IfOk};
+ghost use Rattle.std.specs.Prelude.{◌≡◌, ◌∷◌, ◌*◌, ◌^◌, ◌<◌, ◌≤◌, List, ℕ, length, drop, vec_len, vec_capacity, IfOk};
 ghost use Rattle.wire_spec.specs.Lists.{joined};
 ghost use Rattle.section_spec.specs.Mpe.{IsRows};
 ghost use Rattle.fec_units.specs.Bursts.{AreBurstEnds};
@@ -68,11 +68,28 @@ fn burst_end(list: &DatagramList, rows: u16, columns: u8, slots: u32, from: usiz
     count
 }
 
+/// How many bursts the datagrams take.
+fn bursts_in(list: &DatagramList, rows: u16, columns: u8, slots: u32) -> usize
+    requires datagrams { AreSendable list.now }
+    requires rows { IsRows rows }
+    requires columns { columns ≤ 64 }
+    requires few { length list.now < 2 ^ 32 }
+    ensures counted { result ≡ length (datagrams_by_burst rows columns slots list.now) }
+{
+    let mut bursts = 0;
+    let mut from = 0;
+    while from < list.len() {
+        from = burst_end(list, rows, columns, slots, from);
+        bursts += 1;
+    }
+    bursts
+}
+
 /// Where the datagrams of each burst end in the list.
 ///
 /// A burst takes as many datagrams as its application data table of 191 columns has room for, and as its window of so many slots has room for
 /// the packets of its sections. A frame has 256, 512, 768 or 1,024 rows, and 1 to 64 columns of its RS data table are sent. Each datagram is
-/// an IP datagram of 4,080 bytes at most.
+/// an IP datagram of 4,080 bytes at most. The answer has room for no more ends.
 pub fn burst_ends(
     alloc: Global,
     list: &DatagramList,
@@ -85,12 +102,14 @@ pub fn burst_ends(
     requires datagrams { AreSendable list.now }
     requires few { length list.now < 2 ^ 32 }
     ensures ends { IfOk result (λ ends. AreBurstEnds rows columns slots list.now ends.items) }
+    ensures exact { IfOk result (λ ends. vec_capacity ends ≡ vec_len ends) }
 {
-    let mut ends = Vec::new(alloc);
+    let room = bursts_in(list, rows, columns, slots);
+    let mut ends = Vec::with_capacity(alloc, room)?;
     let mut from = 0;
     while from < list.len() {
         from = burst_end(list, rows, columns, slots, from);
-        ends.push(from as u32)?;
+        ends.push_reserved(from as u32);
     }
     Ok(ends)
 }

@@ -1,5 +1,5 @@
 //! The datagrams of a service -> where the units of its frames end, so that they may be packetized before they are made.
-ghost use Rattle.std.specs.Prelude.{◌≡◌, ◌++◌, ◌∷◌, [], ◌+◌, ◌-◌, ◌*◌, ◌^◌, ◌<◌, ◌≤◌, length, vec_len, vec_capacity, IfOk, OnOk};
+ghost use Rattle.std.specs.Prelude.{◌≡◌, ◌++◌, ◌+◌, ◌-◌, ◌*◌, ◌^◌, ◌<◌, ◌≤◌, length, vec_len, vec_capacity, IfOk};
 ghost use Rattle.section_spec.specs.Mpe.{IsRows};
 ghost use Rattle.fec_units.specs.Ends.{AreFrameEnds, after_sizes, ends_of_sizes};
 ghost use Rattle.fec_units.specs.Packets.{column_sizes, data_sizes};
@@ -21,18 +21,6 @@ pub struct FrameUnits {
     pub frames: u32,
 }
 
-/// Adds a place to a list that has room for it, and keeps its room.
-fn put_end(ends: &mut Vec<usize>, end: usize) -> Result<(), OutOfMemory>
-    requires room { vec_len ends.old < vec_capacity ends.old }
-    ensures put { OnOk result (ends.new.items ≡ ends.old.items ++ end ∷ []) }
-    ensures size { OnOk result (vec_len ends.new ≡ vec_len ends.old + 1) }
-    ensures room { vec_capacity ends.new ≡ vec_capacity ends.old }
-{
-    // No clause of `push` says that the room is kept.
-    ends.insert(ends.len(), end)?;
-    Ok(())
-}
-
 /// Adds the ends of the sections of the datagrams from one place of the list to another, the first of which begins at a byte; answers where
 /// the last ends. There is room for them.
 fn put_data_ends(
@@ -41,50 +29,45 @@ fn put_data_ends(
     from: usize,
     end: usize,
     start: usize,
-) -> Result<usize, OutOfMemory>
+) -> usize
     requires datagrams { AreSendable list.now }
     requires from { from < end }
     requires end { end ≤ length list.now }
     requires few { start + 4096 * (end - from) < 2 ^ 63 }
     requires room { vec_len ends.old + (end - from) ≤ vec_capacity ends.old }
-    ensures put { IfOk result (λ _. ends.new.items ≡ ends.old.items ++ ends_of_sizes start (data_sizes (part_of from end list.now))) }
-    ensures after { IfOk result (λ after. after ≡ after_sizes start (data_sizes (part_of from end list.now))) }
-    ensures most { IfOk result (λ after. after ≤ start + 4096 * (end - from)) }
-    ensures size { IfOk result (λ _. vec_len ends.new ≡ vec_len ends.old + (end - from)) }
-    ensures room { IfOk result (λ _. vec_capacity ends.new ≡ vec_capacity ends.old) }
+    ensures put { ends.new.items ≡ ends.old.items ++ ends_of_sizes start (data_sizes (part_of from end list.now)) }
+    ensures after { result ≡ after_sizes start (data_sizes (part_of from end list.now)) }
+    ensures most { result ≤ start + 4096 * (end - from) }
+    ensures size { vec_len ends.new ≡ vec_len ends.old + (end - from) }
+    ensures room { vec_capacity ends.new ≡ vec_capacity ends.old }
 {
     let mut at = start;
     for place in from..end {
         at += mpe_size(list.at(place).len());
-        put_end(ends, at)?;
+        ends.push_reserved(at);
     }
-    Ok(at)
+    at
 }
 
 /// Adds the ends of the sections of so many columns, the first of which begins at a byte; answers where the last ends. There is room for them.
-fn put_column_ends(
-    ends: &mut Vec<usize>,
-    rows: u16,
-    columns: u8,
-    start: usize,
-) -> Result<usize, OutOfMemory>
+fn put_column_ends(ends: &mut Vec<usize>, rows: u16, columns: u8, start: usize) -> usize
     requires rows { IsRows rows }
     requires columns { columns ≤ 64 }
     requires few { start < 2 ^ 62 }
     requires room { vec_len ends.old + columns ≤ vec_capacity ends.old }
-    ensures put { IfOk result (λ _. ends.new.items ≡ ends.old.items ++ ends_of_sizes start (column_sizes rows columns)) }
-    ensures after { IfOk result (λ after. after ≡ after_sizes start (column_sizes rows columns)) }
-    ensures most { IfOk result (λ after. after ≤ start + 66560) }
-    ensures size { IfOk result (λ _. vec_len ends.new ≡ vec_len ends.old + columns) }
-    ensures room { IfOk result (λ _. vec_capacity ends.new ≡ vec_capacity ends.old) }
+    ensures put { ends.new.items ≡ ends.old.items ++ ends_of_sizes start (column_sizes rows columns) }
+    ensures after { result ≡ after_sizes start (column_sizes rows columns) }
+    ensures most { result ≤ start + 66560 }
+    ensures size { vec_len ends.new ≡ vec_len ends.old + columns }
+    ensures room { vec_capacity ends.new ≡ vec_capacity ends.old }
 {
     let size = fec_size(usize::from(rows));
     let mut at = start;
     for number in 0..columns {
         at += size;
-        put_end(ends, at)?;
+        ends.push_reserved(at);
     }
-    Ok(at)
+    at
 }
 
 /// Where the units of the frames of a service's datagrams end, in the order in which they are sent.
@@ -112,8 +95,8 @@ pub fn unit_ends(
     let mut at = 0;
     while from < list.len() {
         let end = frame_end(list, rows, from);
-        at = put_data_ends(&mut ends, list, from, end, at)?;
-        at = put_column_ends(&mut ends, rows, columns, at)?;
+        at = put_data_ends(&mut ends, list, from, end, at);
+        at = put_column_ends(&mut ends, rows, columns, at);
         from = end;
     }
     Ok(FrameUnits { ends, frames })

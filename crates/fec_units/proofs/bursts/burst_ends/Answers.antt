@@ -14,9 +14,9 @@ loop-from-preserved c =
     let list : List (List ℕ) = c.args.list.now in
     let ends : List ℕ = c.loop-from.ends.items in
     let end : ℕ = c.burst_end-from.result in
-    let items : c.push.new.self.items ≡ ends ++ end ∷ [] = c.in_ok-push.ensures.items in
+    let items : c.push_reserved.new.self.items ≡ ends ++ end ∷ [] = c.push_reserved.ensures.items in
     let inv = c.loop-from.invariant in
-    let parts : parts_from 0 c.push.new.self.items list ≡ parts_from 0 ends list ++ part_of c.loop-from.from end list ∷ [] =
+    let parts : parts_from 0 c.push_reserved.new.self.items list ≡ parts_from 0 ends list ++ part_of c.loop-from.from end list ∷ [] =
     ap (λ (es : List ℕ). parts_from 0 es list) items ∙ parts_more 0 ends end list ∙ ap (λ (n : ℕ). parts_from 0 ends list ++ part_of n end list ∷ []) inv.last in
     let later : List (List (List ℕ)) = datagrams_by_burst c.args.rows c.args.columns c.args.slots (drop end list) in
     record {
@@ -30,4 +30,11 @@ loop-from-preserved c =
           ∙ inv.bursts;
       fit = subst (All (λ (burst : List (List ℕ)). length (joined burst) ≤ 191 * c.args.rows)) (sym parts)
           (All-push (λ (burst : List (List ℕ)). length (joined burst) ≤ 191 * c.args.rows) (parts_from 0 ends list) (part_of c.loop-from.from end list) inv.fit c.burst_end-from.ensures.fits);
+      room = omega (
+        arith,
+        inv.room,
+        c.push_reserved.ensures.len,
+        c.push_reserved.ensures.capacity,
+        ap (λ (bs : List (List (List ℕ))). length bs) c.burst_end-from.ensures.burst,
+      );
     }

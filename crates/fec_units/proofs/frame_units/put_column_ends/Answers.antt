@@ -14,11 +14,11 @@ loop-number-preserved c =
     let size : c.fec_size-size.result ≡ rows + 16 = c.fec_size-size.ensures.sum ∙ ap (λ (k : ℕ). k + 16) c.from.ensures in
     let end_is : end ≡ at + (rows + 16) = ap (λ (k : ℕ). at + k) size in
     record {
-      put = put_more c.args.ends.now.items c.loop-number.ends.items c.put_end.new.ends.items c.args.start at end (column_sizes rows n) (column_sizes rows (n + 1)) (rows + 16)
-          (column_more rows n) inv.after end_is inv.put c.in_ok-put_end.ensures.put;
-      after = after_more c.args.ends.now.items c.loop-number.ends.items c.put_end.new.ends.items c.args.start at end (column_sizes rows n) (column_sizes rows (n + 1)) (rows + 16)
+      put = put_more c.args.ends.now.items c.loop-number.ends.items c.push_reserved.new.self.items c.args.start at end (column_sizes rows n) (column_sizes rows (n + 1)) (rows + 16)
+          (column_more rows n) inv.after end_is inv.put c.push_reserved.ensures.items;
+      after = after_more c.args.ends.now.items c.loop-number.ends.items c.push_reserved.new.self.items c.args.start at end (column_sizes rows n) (column_sizes rows (n + 1)) (rows + 16)
           (column_more rows n) inv.after end_is;
       most = omega (arith, size, inv.most, (rows_within rows c.requires.rows).1);
-      size = omega (arith, inv.size, c.in_ok-put_end.ensures.size);
-      room = c.in_ok-put_end.ensures.room ∙ inv.room;
+      size = omega (arith, inv.size, c.push_reserved.ensures.len);
+      room = c.push_reserved.ensures.capacity ∙ inv.room;
     }

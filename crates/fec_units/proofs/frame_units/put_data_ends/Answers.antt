@@ -21,11 +21,11 @@ loop-place-preserved c =
     let more : data_sizes (part_of from (place + 1) list) ≡ _ = data_more from place list d (part_more from place list order is.0) in
     let end_is : end ≡ at + (length d + 16) = omega (arith, c.mpe_size-at.ensures.sum, ap (λ (l : List ℕ). length l) is.1) in
     record {
-      put = put_more c.args.ends.now.items c.loop-place.ends.items c.put_end.new.ends.items c.args.start at end (data_sizes (part_of from place list)) (data_sizes (part_of from (place + 1) list))
-          (length d + 16) more inv.after end_is inv.put c.in_ok-put_end.ensures.put;
-      after = after_more c.args.ends.now.items c.loop-place.ends.items c.put_end.new.ends.items c.args.start at end (data_sizes (part_of from place list)) (data_sizes (part_of from (place + 1) list))
+      put = put_more c.args.ends.now.items c.loop-place.ends.items c.push_reserved.new.self.items c.args.start at end (data_sizes (part_of from place list)) (data_sizes (part_of from (place + 1) list))
+          (length d + 16) more inv.after end_is inv.put c.push_reserved.ensures.items;
+      after = after_more c.args.ends.now.items c.loop-place.ends.items c.push_reserved.new.self.items c.args.start at end (data_sizes (part_of from place list)) (data_sizes (part_of from (place + 1) list))
           (length d + 16) more inv.after end_is;
       most = omega (arith, c.mpe_size-at.ensures.sum, it.size, inv.most, order);
-      size = omega (arith, inv.size, c.in_ok-put_end.ensures.size, order);
-      room = c.in_ok-put_end.ensures.room ∙ inv.room;
+      size = omega (arith, inv.size, c.push_reserved.ensures.len, order);
+      room = c.push_reserved.ensures.capacity ∙ inv.room;
     }

@@ -21,18 +21,18 @@ loop-from-preserved c =
     let frame : left ≡ _ = c.frame_end-end.ensures.frame in
     record {
       within = c.frame_end-end.ensures.within;
-      put = frame_ends rows columns c.loop-from.ends.items c.put_data_ends.new.ends.items c.put_column_ends.new.ends.items
+      put = frame_ends rows columns c.loop-from.ends.items c.put_data_ends-at.new.ends.items c.put_column_ends-at.new.ends.items
           (ends_of_sizes 0 (sizes_of_frames rows columns (datagrams_by_frame rows list)))
-          c.loop-from.at c.in_ok-at.at c.in_ok-at-2.at (part_of c.loop-from.from end list) left later frame inv.put
-          c.in_ok-at.ensures.put c.in_ok-at.ensures.after c.in_ok-at-2.ensures.put c.in_ok-at-2.ensures.after;
-      most = omega (arith, inv.most, c.in_ok-at.ensures.most, c.in_ok-at-2.ensures.most, c.frame_end-end.ensures.some);
+          c.loop-from.at c.put_data_ends-at.result c.put_column_ends-at.result (part_of c.loop-from.from end list) left later frame inv.put
+          c.put_data_ends-at.ensures.put c.put_data_ends-at.ensures.after c.put_column_ends-at.ensures.put c.put_column_ends-at.ensures.after;
+      most = omega (arith, inv.most, c.put_data_ends-at.ensures.most, c.put_column_ends-at.ensures.most, c.frame_end-end.ensures.some);
       room = omega (
         arith,
         inv.room,
-        c.in_ok-at.ensures.size,
-        c.in_ok-at.ensures.room,
-        c.in_ok-at-2.ensures.size,
-        c.in_ok-at-2.ensures.room,
+        c.put_data_ends-at.ensures.size,
+        c.put_data_ends-at.ensures.room,
+        c.put_column_ends-at.ensures.size,
+        c.put_column_ends-at.ensures.room,
         c.frame_end-end.ensures.some,
         c.frame_end-end.ensures.within,
         ap (λ (l : List (List (List ℕ))). columns * length l) frame,
