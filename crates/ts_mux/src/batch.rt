@@ -37,7 +37,7 @@ impl Batch {
     ghost use Rattle.plan.specs.PlanView.{plan_fields};
     ghost use Rattle.stream_spec.specs.Parts.{PartFields};
     ghost use Rattle.ts_mux.specs.Services.{turn_of};
-    ghost use Rattle.ts_mux.specs.Slots.{is_early, StandBefore, StandInPart, AddsRecord, Hands};
+    ghost use Rattle.ts_mux.specs.Slots.{StandBefore, StandInPart, AddsRecord, Hands};
 
     /// Takes memory for the records; there are none yet.
     pub(crate) fn new(alloc: Global) -> Result<Batch, OutOfMemory>

@@ -95,7 +95,6 @@ impl<'a> IntPackets<'a> {
     ghost use Rattle.int_spec.specs.Table.{table_bytes};
     ghost use Rattle.plan_spec.specs.Plan.{IntFields};
     ghost use Rattle.plan_spec.specs.Signalling.{table_of, table_packets};
-    ghost use Rattle.plan.specs.Parts.{int_seen};
     ghost use Rattle.plan.specs.PlanView.{plan_fields};
     ghost use Rattle.stream_spec.specs.Parts.{PartFields};
     ghost use Rattle.ts_mux.specs.Slots.{is_early, IsPartOf};

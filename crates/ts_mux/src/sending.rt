@@ -1,5 +1,5 @@
 //! What was offered to the services of a plan of transport packets -> the records of their stream.
-ghost use Rattle.std.specs.Prelude.{◌≡◌, ℕ, ◌≤◌, ◌<◌, ◌^◌, ◌+◌, ◌*◌, List, [], get_or, All, OnOk, true, length, sum_by, IfOk, IsErrOf};
+ghost use Rattle.std.specs.Prelude.{◌≡◌, ℕ, ◌≤◌, ◌<◌, ◌^◌, ◌+◌, List, [], get_or, All, true, length, sum_by, IfOk, IsErrOf};
 ghost use Rattle.wire_spec.specs.Causes.{Rose};
 ghost use Rattle.wire_spec.specs.Content.{Stays};
 ghost use Rattle.plan_spec.specs.Offered.{Records, offered_in};
@@ -8,7 +8,6 @@ ghost use Rattle.datagram_routing.specs.Offering.{IsOffered, IsUnderPlan};
 ghost use Rattle.wire_spec.specs.Causes.{HasCause};
 ghost use Rattle.stream_spec.specs.Parts.{PartFields};
 ghost use Rattle.ts_mux.specs.Services.{packet_total, AreTaken, HasLists, Begins};
-ghost use Rattle.ts_mux.specs.PartUnits.{MadeUnits};
 ghost use Rattle.ts_mux.specs.Sending.{WritesPackets, WritesRecords, AreUnits, AreDatagrams, datagram_count};
 ghost use Rattle.stream_spec.specs.Stream.{are_on_pids};
 ghost use Rattle.ts_mux.specs.declared.sending.MuxFault.TheVariants.{Sink as SinkFault, OutOfMemory as NoMemory};

@@ -48,7 +48,7 @@ impl<'a, F: UnitForm> Model for DatagramPackets<'a, F> {
 }
 
 impl<'a, F: UnitForm> DatagramPackets<'a, F> {
-    ghost use Rattle.std.specs.Prelude.{◌≡◌, ℕ, ◌<◌, ◌≤◌, ◌+◌, ◌%◌, ◌^◌, [], ◌∷◌, List, true, length, map, nat_lt, All};
+    ghost use Rattle.std.specs.Prelude.{◌≡◌, ℕ, ◌<◌, ◌≤◌, ◌+◌, ◌%◌, ◌^◌, [], ◌∷◌, true, length, map, nat_lt, All};
     ghost use Rattle.ts_spec.specs.Packet.{PacketFields};
     ghost use Rattle.stream_spec.specs.Parts.{written};
     ghost use Rattle.stream_law.specs.Words.{is_single};

@@ -1,5 +1,5 @@
 //! A datagram of a service whose datagrams have units of their own -> its unit.
-ghost use Rattle.std.specs.Prelude.{◌≡◌, ◌+◌, ◌*◌, ◌<◌, ◌≤◌, ◌^◌, true, length, map, IfOk};
+ghost use Rattle.std.specs.Prelude.{◌≡◌, ◌+◌, ◌*◌, ◌<◌, ◌≤◌, ◌^◌, true, length, map, vec_len, vec_capacity, IfOk};
 ghost use Rattle.stream_law.specs.Words.{is_single};
 ghost use Rattle.plan.specs.Parts.{kind_seen};
 ghost use Rattle.ts_mux.specs.Units.{unit_bytes, unit_with, ends_from, IsFor, AreFor};
@@ -50,7 +50,7 @@ fn unit_size(service: &Service, datagram: &[u8]) -> usize
     }
 }
 
-/// Where the units end, one after another, of datagrams that the service takes.
+/// Where the units end, one after another, of datagrams that the service takes. The answer has room for no more ends.
 pub(crate) fn ends_of(
     alloc: Global,
     service: &Service,
@@ -61,12 +61,13 @@ pub(crate) fn ends_of(
     requires few { length datagrams.now < 2 ^ 32 }
     ensures written { IfOk result (λ ends. ends.items ≡ ends_from 0 (map (unit_of (kind_seen service.now.kind) service.now.unicast) datagrams.now)) }
     ensures most { IfOk result (λ _. length (unit_bytes (kind_seen service.now.kind) service.now.unicast datagrams.now) ≤ 32773 * length datagrams.now) }
+    ensures exact { IfOk result (λ ends. vec_capacity ends ≡ vec_len ends) }
 {
     let mut ends = Vec::with_capacity(alloc, datagrams.len())?;
     let mut end = 0;
     for place in 0..datagrams.len() {
         end += unit_size(service, datagrams.at(place));
-        ends.push(end)?;
+        ends.push_reserved(end);
     }
     Ok(ends)
 }

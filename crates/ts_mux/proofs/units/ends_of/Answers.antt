@@ -10,7 +10,9 @@ loop-place-preserved c =
     let next = end_next unit c.args.datagrams.now c.loop-place.place c.at.result.now c.loop-place.end c.unit_size-end.result c.loop-place.ends.items c.at.ensures.read
     c.loop-place.invariant.ends c.loop-place.invariant.end c.unit_size-end.ensures.size in
     record {
-      ends = c.in_ok-push.ensures.items ∙ next.0;
+      ends = c.push_reserved.ensures.items ∙ next.0;
       end = next.1;
       most = omega (arith, c.loop-place.invariant.most, c.unit_size-end.ensures.most);
+      size = omega (arith, c.loop-place.invariant.size, c.push_reserved.ensures.len);
+      room = c.push_reserved.ensures.capacity ∙ c.loop-place.invariant.room;
     }
