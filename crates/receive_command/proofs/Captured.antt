@@ -87,10 +87,16 @@ module _ (plan : PlanFields) (first : ℕ) (input now : InputTold) (rack heads m
       → AddsCaptures false (capture_and service text pairs) plan.services rack.files mid.files
   grown_part pairs service text grew = pairs_and_grown plan.services service text pairs rack.files heads.files mid.files first size added grew
 
+  stop_rose : WritesPieces (Err read.Taker) plan first input now heads mid receiver → Rose heads.faults mid.faults
+  stop_rose wrote = elim wrote.ends.1 [
+    | inl last ↦ last.2.stopped.rose
+    | inr end ↦ end.3.stopped.rose
+  ]
+
   pub captured_part : (e : ReadFault) → WritesPieces (Err e) plan first input now heads mid receiver → Captures (Err (fault_of_reading e)) plan input now rack mid receiver Unread
   captured_part read.Source wrote = record {
     ends = (
-      record { pieces = wrote.pieces; behind = wrote.behind; read = wrote.read; fewer = wrote.ends.0; files = grown_by (told_pairs plan wrote.pieces) wrote.ends.4 },
+      record { pieces = wrote.pieces; behind = wrote.behind; read = wrote.read; fewer = wrote.ends.0; files = grown_by (told_pairs plan wrote.pieces) wrote.ends.3.files },
       record {
         going = wrote.ends.1;
         count = piece_size plan * length wrote.pieces + length wrote.behind;
@@ -99,7 +105,7 @@ module _ (plan : PlanFields) (first : ℕ) (input now : InputTold) (rack heads m
       },
     );
     input_faults = rises _ _ _ wrote.ends.2;
-    rack_faults = stays _ _ _ _ (λ is. absurd (cc)) (wrote.ends.3 ∙ kept);
+    rack_faults = stays _ _ _ _ (λ is. absurd (cc)) (wrote.ends.3.kept ∙ kept);
   }
   captured_part read.TooLong wrote = record {
     ends = (
@@ -107,15 +113,15 @@ module _ (plan : PlanFields) (first : ℕ) (input now : InputTold) (rack heads m
         pieces = wrote.pieces;
         read = subst (λ (b : List ℕ). HasRead (piece_size plan) input.left now.left wrote.pieces b) wrote.ends.0 wrote.read;
         limit = wrote.ends.1;
-        files = grown_by (told_pairs plan wrote.pieces) wrote.ends.4;
+        files = grown_by (told_pairs plan wrote.pieces) wrote.ends.3.files;
       },
       none_behind (piece_size plan) input.taken now.taken wrote.pieces wrote.behind wrote.ends.0 wrote.taken ∙ ap (λ (n : ℕ). raised input.taken (piece_size plan * n)) wrote.ends.1,
     );
     input_faults = stays _ _ _ _ (λ is. absurd (cc)) wrote.ends.2;
-    rack_faults = stays _ _ _ _ (λ is. absurd (cc)) (wrote.ends.3 ∙ kept);
+    rack_faults = stays _ _ _ _ (λ is. absurd (cc)) (wrote.ends.3.kept ∙ kept);
   }
   captured_part read.Taker wrote = record {
-    ends = elim wrote.ends.2 [
+    ends = elim wrote.ends.1 [
       | inl last ↦
           let stop = last.2 in
           let many : length (stop.pieces ++ stop.piece ∷ []) ≤ 2 ^ 32 = subst (λ (all : List (List ℕ)). length all ≤ 2 ^ 32) stop.all_are last.1 in (
@@ -130,9 +136,9 @@ module _ (plan : PlanFields) (first : ℕ) (input now : InputTold) (rack heads m
               datagram = stop.datagram;
               rest = stop.rest;
               pairs = stop.pairs;
-              count = stop.count;
-              less = stop.less;
-              files = grown_part (told_pairs plan stop.pieces ++ stop.front) stop.service (take stop.count (capture_record stop.datagram)) stop.files;
+              count = stop.stopped.count;
+              less = stop.stopped.less;
+              files = grown_part (told_pairs plan stop.pieces ++ stop.front) stop.service (take stop.stopped.count (capture_record stop.datagram)) stop.stopped.files;
             }),
             record {
               count = piece_size plan * length wrote.pieces;
@@ -141,7 +147,7 @@ module _ (plan : PlanFields) (first : ℕ) (input now : InputTold) (rack heads m
             },
           )
       | inr end ↦
-          let stop = end.2 in (
+          let stop = end.3 in (
             at_end (record {
               pieces = wrote.pieces;
               behind = wrote.behind;
@@ -153,15 +159,15 @@ module _ (plan : PlanFields) (first : ℕ) (input now : InputTold) (rack heads m
               datagram = stop.datagram;
               rest = stop.rest;
               pairs = stop.pairs;
-              count = stop.count;
-              less = stop.less;
-              files = grown_part (told_pairs plan wrote.pieces ++ stop.front) stop.service (take stop.count (capture_record stop.datagram)) stop.files;
+              count = stop.stopped.count;
+              less = stop.stopped.less;
+              files = grown_part (told_pairs plan wrote.pieces ++ stop.front) stop.service (take stop.stopped.count (capture_record stop.datagram)) stop.stopped.files;
             }),
             takes_most wrote end.0,
           )
     ];
     input_faults = stays _ _ _ _ (λ is. absurd (cc)) wrote.ends.0;
-    rack_faults = rises _ _ _ (wrote.ends.1 ∙ ap (λ (n : ℕ). raised n 1) kept);
+    rack_faults = rises _ _ _ (stop_rose wrote ∙ ap (λ (n : ℕ). raised n 1) kept);
   }
 
   -- and the flush
@@ -172,7 +178,7 @@ module _ (plan : PlanFields) (first : ℕ) (input now : InputTold) (rack heads m
         let told : List (ℕ × List ℕ) = told_pairs plan wrote.pieces in
         let last : List (ℕ × List ℕ) = pairs_of_end plan wrote.pieces in
         captures_of_pairs plan.services (told ++ last) (delivered_capture plan wrote.pieces) rack.files mid.files (capture_of_delivered plan right wrote.pieces)
-        (grown_by (told ++ last) wrote.ends.7)
+        (grown_by (told ++ last) wrote.ends.5.files)
 
     pub captured_whole : heads.count ≡ rack.count + length plan.services → now_rack.count ≡ mid.count → Flush mid.files now_rack.files first services
         → now_rack.faults ≡ mid.faults → Captures (Ok tail) plan input now rack now_rack receiver Unread
@@ -189,9 +195,9 @@ module _ (plan : PlanFields) (first : ℕ) (input now : InputTold) (rack heads m
                 (subst (λ (n : ℕ). Flush mid.files now_rack.files first n) many flushed);
           };
           tail_is = wrote.ends.0;
-          received = wrote.ends.8;
+          received = wrote.ends.6;
         },
-        kept_all ∙ (wrote.ends.6 ∙ all),
+        kept_all ∙ (wrote.ends.5.count ∙ all),
         record {
           ended = wrote.ends.3;
           count = piece_size plan * length wrote.pieces + length wrote.behind;
@@ -200,7 +206,7 @@ module _ (plan : PlanFields) (first : ℕ) (input now : InputTold) (rack heads m
         },
       );
       input_faults = stays _ _ _ _ (λ is. absurd (cc)) wrote.ends.4;
-      rack_faults = stays _ _ _ _ (λ is. absurd (cc)) (same ∙ (wrote.ends.5 ∙ kept));
+      rack_faults = stays _ _ _ _ (λ is. absurd (cc)) (same ∙ (wrote.ends.5.kept ∙ kept));
     }
 
     pub captured_in_flush : (count : ℕ) × (count < services) × Flush mid.files now_rack.files first count → Rose mid.faults now_rack.faults
@@ -221,5 +227,5 @@ module _ (plan : PlanFields) (first : ℕ) (input now : InputTold) (rack heads m
             takes_most wrote wrote.ends.1,
           );
           input_faults = stays _ _ _ _ (λ is. absurd (cc)) wrote.ends.4;
-          rack_faults = rises _ _ _ (rose ∙ ap (λ (n : ℕ). raised n 1) (wrote.ends.5 ∙ kept));
+          rack_faults = rises _ _ _ (rose ∙ ap (λ (n : ℕ). raised n 1) (wrote.ends.5.kept ∙ kept));
         }

@@ -1,4 +1,4 @@
--- One reading of a recording of either carrier into files: what a receiver took and an outlet was given, in the words of the pieces and of the rack.
+-- One reception of a recording of either carrier: what a receiver took and an outlet was given, in the words of the pieces, and for files in those of the rack.
 use Rattle.std.proofs.Common.{◌≡◌, ◌⊎◌, inl, inr, ℕ, ◌+◌, ◌*◌, ◌<◌, true, false, List, [], ◌∷◌, ◌++◌, length, refl, ap, ap₂, sym, ◌∙◌, subst, arith, Option, None, Some, All, Result, Ok, Err, OnOk, OnErr}
 use Rattle.std.specs.Bool.{⊤}
 use Rattle.std.specs.Option.{unwrap_or}
@@ -26,13 +26,13 @@ use Rattle.recording_reader.proofs.Next.{records_none}
 use Rattle.channel_law.proofs.Late.{length-records}
 use Rattle.gse_law.proofs.Records.{frames_of_records}
 use Rattle.receive_command.specs.declared.outlet.Progress.{Progress}
-use Rattle.receive_command.specs.declared.outlet.Progress.TheVariants.{Whole, Stopped}
-use Rattle.receive_command.specs.Outlets.{RackSeen, StandsFor, Refuses, failures}
+use Rattle.receive_command.specs.declared.outlet.Progress.TheVariants.{Whole}
+use Rattle.receive_command.specs.Outlets.{RackSeen, StandsFor, Refuses, failures, WritesAll, WritesPartOf}
 use Rattle.receive_command.specs.Reading.{HasRead}
-use Rattle.receive_command.specs.Writing.{IsGivenOn, IsGiven, IsFormOn, IsFormOf, StopsInLast, StopsBehind, WriteEnds, WritesPieces}
+use Rattle.receive_command.specs.Writing.{IsGivenOn, IsGiven, IsFormOn, IsFormOf, TakesPairs, RefusesAfter, StopsInLast, StopsBehind, PiecesEnd, ReceivesPieces, WritesPieces}
 use Rattle.receive_command.proofs.Counted.{plan_of_frames}
 use Rattle.receive_command.proofs.Pieces.{records_next}
-use Rattle.receive_command.proofs.Outlets.{seen, BeginsWith, WritesAll, writes_all, PartOf, part_of}
+use Rattle.receive_command.proofs.Outlets.{seen, BeginsWith, writes_all, part_of}
 
 -- Lists by their last element.
 
@@ -193,29 +193,14 @@ module _ (plan : PlanFields) (form : RecordingForm) (size : ℕ) (fits : IsFormO
   pub taken_of : now.taken ≡ raised input.taken (piece_size plan * length reads.pieces + length reads.behind)
   taken_of = subst (λ (n : ℕ). now.taken ≡ raised input.taken (n * length reads.pieces + length reads.behind)) (size_on plan.frame_bytes plan form size fits) reads.taken
 
-module _ (plan : PlanFields) (first : ℕ) (input now : InputTold) (rack had now_rack : RackTold) (began : RackSeen) (now_first : ℕ) (progress : Progress)
-    (borrow now_borrow : ℕ) (form : RecordingForm) (size : ℕ) (start mid : ByCarrier) (place : began.first ≡ first) (same : BeginsWith began rack)
-    (is : borrow ≡ now_borrow → now_rack ≡ had) (fresh : IsGiven false plan [] start) (fits : IsFormOf plan form size) where
-  abbrev Old : List (ℕ × List ℕ) → Type 0
-  Old = StandsFor began (seen first rack) Whole borrow
+module _ (plan : PlanFields) (form : RecordingForm) (size : ℕ) (start : ByCarrier) (input now : InputTold) (Old New : List (ℕ × List ℕ) → Type 0) (Refused : ℕ → List ℕ → Type 0)
+    (faults now_faults : ℕ) (fresh : IsGiven false plan [] start) (fits : IsFormOf plan form size) where
+  abbrev pub Receives : Result ℕ ReadFault → ByCarrier → Type 0
+  Receives result receiver = ReceivesPieces result plan input now receiver (TakesPairs Old New faults now_faults) (RefusesAfter Old New Refused)
 
-  abbrev New : List (ℕ × List ℕ) → Type 0
-  New = StandsFor began (seen now_first had) progress now_borrow
-
-  abbrev Refused : ℕ → List ℕ → Type 0
-  Refused = Refuses began (seen now_first had) progress
-
-  taken_all : (pieces : List (List ℕ)) → Took start mid Old New 0 (failures progress) (records_of form pieces) → WritesAll first rack now_rack (told_pairs plan pieces)
-  taken_all pieces took =
-      let all = taken_on plan.frame_bytes plan start mid Old New 0 (failures progress) form size pieces fresh fits took in
-      writes_all began first now_first rack had now_rack progress borrow now_borrow (told_pairs plan pieces) all.kept place same all.delivers is
-
-  part_written : (front : List (ℕ × List ℕ)) (service : ℕ) (datagram : List ℕ) → Delivers Old New front → Refused service datagram → PartOf first rack now_rack front service datagram
-  part_written front service datagram delivers refuses = part_of began first now_first rack had now_rack progress borrow now_borrow front service datagram place same delivers refuses is
-
-  wrote : {result : Result ℕ ReadFault} {All Part : List Record → Type 0} (after : Result ℕ ReadFault) (receiver : ByCarrier) (reads : Reads result form size input now All Part)
-      → WriteEnds after plan first input now rack now_rack receiver reads.pieces reads.behind → WritesPieces after plan first input now rack now_rack receiver
-  wrote after receiver reads ends = record {
+  received : {result : Result ℕ ReadFault} {All Part : List Record → Type 0} (after : Result ℕ ReadFault) (receiver : ByCarrier) (reads : Reads result form size input now All Part)
+      → PiecesEnd after plan input now receiver (TakesPairs Old New faults now_faults) (RefusesAfter Old New Refused) reads.pieces reads.behind → Receives after receiver
+  received after receiver reads ends = record {
     pieces = reads.pieces;
     behind = reads.behind;
     read = read_on plan form size fits _ input now _ _ reads;
@@ -223,21 +208,21 @@ module _ (plan : PlanFields) (first : ℕ) (input now : InputTold) (rack had now
     ends = ends;
   }
 
+  took_pairs : (mid : ByCarrier) (pieces : List (List ℕ)) → Took start mid Old New faults now_faults (records_of form pieces) → TakesPairs Old New faults now_faults (told_pairs plan pieces)
+  took_pairs mid pieces took =
+      let all = taken_on plan.frame_bytes plan start mid Old New faults now_faults form size pieces fresh fits took in
+      record { delivers = all.delivers; kept = all.kept }
+
   -- the reading stopped
-  pub wrote_front : (e : ReadFault)
-      → Reads (Err e) form size input now (λ records. Took start mid Old New 0 (failures progress) records)
-      (λ records. StoppedOn start mid Old New Refused 0 (failures progress) records)
-      → WritesPieces (Err e) plan first input now rack now_rack mid
-  wrote_front fault.Source reads =
-      let all = taken_all reads.pieces reads.ends.3 in
-      wrote (Err fault.Source) mid reads (reads.ends.0, reads.ends.1, reads.ends.2, all.kept, all.files)
-  wrote_front fault.TooLong reads =
-      let all = taken_all reads.pieces reads.ends.3 in
-      wrote (Err fault.TooLong) mid reads (reads.ends.0, reads.ends.1, reads.ends.2, all.kept, all.files)
-  wrote_front fault.Taker reads =
-      let stop = stopped_on plan.frame_bytes plan start mid Old New Refused 0 (failures progress) form size reads.pieces fresh fits reads.ends.3 in
-      let part = part_written (told_pairs plan stop.pieces ++ stop.front) stop.service stop.datagram stop.delivers stop.refuses in
-      let stops : StopsInLast plan first rack.files now_rack.files reads.pieces = record {
+  pub received_front : (mid : ByCarrier) (e : ReadFault)
+      → Reads (Err e) form size input now (λ records. Took start mid Old New faults now_faults records)
+      (λ records. StoppedOn start mid Old New Refused faults now_faults records)
+      → Receives (Err e) mid
+  received_front mid fault.Source reads = received (Err fault.Source) mid reads (reads.ends.0, reads.ends.1, reads.ends.2, took_pairs mid reads.pieces reads.ends.3)
+  received_front mid fault.TooLong reads = received (Err fault.TooLong) mid reads (reads.ends.0, reads.ends.1, reads.ends.2, took_pairs mid reads.pieces reads.ends.3)
+  received_front mid fault.Taker reads =
+      let stop = stopped_on plan.frame_bytes plan start mid Old New Refused faults now_faults form size reads.pieces fresh fits reads.ends.3 in
+      let stops : StopsInLast plan (RefusesAfter Old New Refused) reads.pieces = record {
         pieces = stop.pieces;
         piece = stop.piece;
         all_are = stop.all_are;
@@ -246,42 +231,106 @@ module _ (plan : PlanFields) (first : ℕ) (input now : InputTold) (rack had now
         datagram = stop.datagram;
         rest = stop.rest;
         pairs = stop.pairs;
-        count = part.count;
-        less = part.less;
-        files = part.files;
-      } in wrote (Err fault.Taker) mid reads (reads.ends.2, part.rose, inl (reads.ends.0, reads.ends.1, stops))
+        stopped = record { delivers = stop.delivers; refuses = stop.refuses };
+      } in received (Err fault.Taker) mid reads (reads.ends.2, inl (reads.ends.0, reads.ends.1, stops))
 
   -- The reading came to the end, which gave what it gives, or stopped in it. The outlet between stands for what the pieces tell, and by that
   -- what the end does is known.
-  module _ (Mid : List (ℕ × List ℕ) → Type 0) (mid_faults tail : ℕ) (ended : ByCarrier) (Stops : List Record → Type 0)
-      (reads : Reads (Ok tail) form size input now (λ records. Took start mid Old Mid 0 mid_faults records) Stops) where
+  module _ (mid ended : ByCarrier) (Mid : List (ℕ × List ℕ) → Type 0) (mid_faults tail : ℕ) (Stops : List Record → Type 0)
+      (reads : Reads (Ok tail) form size input now (λ records. Took start mid Old Mid faults mid_faults records) Stops) where
     abbrev Ends : {E : Type 0} → Result ⊤ E → Type 0
     Ends result = IsGiven false plan reads.pieces mid → EndedOn result plan.frame_bytes plan ended Mid New Refused reads.pieces
 
-    took_all : TakenOn plan.frame_bytes plan mid Old Mid 0 mid_faults reads.pieces
-    took_all = taken_on plan.frame_bytes plan start mid Old Mid 0 mid_faults form size reads.pieces fresh fits reads.ends.5
+    took_all : TakenOn plan.frame_bytes plan mid Old Mid faults mid_faults reads.pieces
+    took_all = taken_on plan.frame_bytes plan start mid Old Mid faults mid_faults form size reads.pieces fresh fits reads.ends.5
 
-    pub wrote_whole : {E : Type 0} (x : ⊤) → failures progress ≡ mid_faults → Ends {E = E} (Ok x) → WritesPieces (Ok tail) plan first input now rack now_rack ended
-    wrote_whole x none ends =
+    pub received_whole : {E : Type 0} (x : ⊤) → now_faults ≡ mid_faults → Ends {E = E} (Ok x) → Receives (Ok tail) ended
+    received_whole x none ends =
         let told : List (ℕ × List ℕ) = told_pairs plan reads.pieces in
-        let last : List (ℕ × List ℕ) = pairs_of_end plan reads.pieces in
         let end = ends took_all.given in
-        let all = writes_all began first now_first rack had now_rack progress borrow now_borrow (told ++ last) (none ∙ took_all.kept) place same
-        (delivers_then Old Mid New told last took_all.delivers end.all) is in
-        wrote (Ok tail) ended reads (reads.ends.0, reads.ends.1, reads.ends.2, reads.ends.3, reads.ends.4, all.kept, all.count, all.files, end.given)
+        let all : TakesPairs Old New faults now_faults (told ++ pairs_of_end plan reads.pieces) = record {
+          delivers = delivers_then Old Mid New told (pairs_of_end plan reads.pieces) took_all.delivers end.all;
+          kept = none ∙ took_all.kept;
+        } in received (Ok tail) ended reads (reads.ends.0, reads.ends.1, reads.ends.2, reads.ends.3, reads.ends.4, all, end.given)
 
-    pub wrote_behind : {E : Type 0} (e : E) → Ends (Err e) → WritesPieces (Err fault.Taker) plan first input now rack now_rack ended
-    wrote_behind e ends =
+    pub received_behind : {E : Type 0} (e : E) → Ends (Err e) → Receives (Err fault.Taker) ended
+    received_behind e ends =
         let told : List (ℕ × List ℕ) = told_pairs plan reads.pieces in
         let stop = (ends took_all.given).part in
-        let part = part_written (told ++ stop.front) stop.service stop.datagram (delivers_then Old Mid New told stop.front took_all.delivers stop.delivers) stop.refuses in
-        let stops : StopsBehind plan first rack.files now_rack.files reads.pieces = record {
+        let stops : StopsBehind plan (RefusesAfter Old New Refused) reads.pieces = record {
           front = stop.front;
           service = stop.service;
           datagram = stop.datagram;
           rest = stop.behind;
           pairs = stop.pairs_are;
-          count = part.count;
-          less = part.less;
-          files = part.files;
-        } in wrote (Err fault.Taker) ended reads (reads.ends.4, part.rose, inr (reads.ends.1, reads.ends.2, stops))
+          stopped = record { delivers = delivers_then Old Mid New told stop.front took_all.delivers stop.delivers; refuses = stop.refuses };
+        } in received (Err fault.Taker) ended reads (reads.ends.4, inr (reads.ends.1, reads.ends.2, reads.ends.3, stops))
+
+-- A reception in other words of what its outlet took.
+module _ (plan : PlanFields) (input now : InputTold) (receiver : ByCarrier) (All Takes : List (ℕ × List ℕ) → Type 0) (Part Stops : List (ℕ × List ℕ) → ℕ → List ℕ → Type 0)
+    (all : (pairs : List (ℕ × List ℕ)) → All pairs → Takes pairs)
+    (part : (pairs : List (ℕ × List ℕ)) (service : ℕ) (datagram : List ℕ) → Part pairs service datagram → Stops pairs service datagram) where
+  in_last_as : (pieces : List (List ℕ)) → StopsInLast plan Part pieces → StopsInLast plan Stops pieces
+  in_last_as pieces stop = record {
+    pieces = stop.pieces;
+    piece = stop.piece;
+    all_are = stop.all_are;
+    front = stop.front;
+    service = stop.service;
+    datagram = stop.datagram;
+    rest = stop.rest;
+    pairs = stop.pairs;
+    stopped = part _ stop.service stop.datagram stop.stopped;
+  }
+
+  behind_as : (pieces : List (List ℕ)) → StopsBehind plan Part pieces → StopsBehind plan Stops pieces
+  behind_as pieces stop = record {
+    front = stop.front;
+    service = stop.service;
+    datagram = stop.datagram;
+    rest = stop.rest;
+    pairs = stop.pairs;
+    stopped = part _ stop.service stop.datagram stop.stopped;
+  }
+
+  end_as : (result : Result ℕ ReadFault) (pieces : List (List ℕ)) (behind : List ℕ) → PiecesEnd result plan input now receiver All Part pieces behind
+      → PiecesEnd result plan input now receiver Takes Stops pieces behind
+  end_as (Ok tail) pieces behind ends = (ends.0, ends.1, ends.2, ends.3, ends.4, all _ ends.5, ends.6)
+  end_as (Err fault.Source) pieces behind ends = (ends.0, ends.1, ends.2, all _ ends.3)
+  end_as (Err fault.TooLong) pieces behind ends = (ends.0, ends.1, ends.2, all _ ends.3)
+  end_as (Err fault.Taker) pieces behind ends = (
+    ends.0,
+    elim ends.1 [
+      | inl last ↦ inl (last.0, last.1, in_last_as pieces last.2)
+      | inr end ↦ inr (end.0, end.1, end.2, behind_as pieces end.3)
+    ],
+  )
+
+  pub received_as : (result : Result ℕ ReadFault) → ReceivesPieces result plan input now receiver All Part → ReceivesPieces result plan input now receiver Takes Stops
+  received_as result has = record {
+    pieces = has.pieces;
+    behind = has.behind;
+    read = has.read;
+    taken = has.taken;
+    ends = end_as result has.pieces has.behind has.ends;
+  }
+
+-- A rack at the end of it, by what an outlet over the rack was told.
+module _ (plan : PlanFields) (first : ℕ) (input now : InputTold) (receiver : ByCarrier) (rack had now_rack : RackTold) (began : RackSeen) (now_first : ℕ) (progress : Progress)
+    (borrow now_borrow : ℕ) (place : began.first ≡ first) (same : BeginsWith began rack) (is : borrow ≡ now_borrow → now_rack ≡ had) where
+  abbrev Before : List (ℕ × List ℕ) → Type 0
+  Before = StandsFor began (seen first rack) Whole borrow
+
+  abbrev After : List (ℕ × List ℕ) → Type 0
+  After = StandsFor began (seen now_first had) progress now_borrow
+
+  abbrev Fails : ℕ → List ℕ → Type 0
+  Fails = Refuses began (seen now_first had) progress
+
+  pub wrote : (result : Result ℕ ReadFault) → ReceivesPieces result plan input now receiver (TakesPairs Before After 0 (failures progress)) (RefusesAfter Before After Fails)
+      → WritesPieces result plan first input now rack now_rack receiver
+  wrote result has =
+      received_as plan input now receiver (TakesPairs Before After 0 (failures progress)) (WritesAll first rack now_rack) (RefusesAfter Before After Fails) (WritesPartOf first rack now_rack)
+      (λ pairs took. writes_all began first now_first rack had now_rack progress borrow now_borrow pairs took.kept place same took.delivers is)
+      (λ pairs service datagram stop.
+      part_of began first now_first rack had now_rack progress borrow now_borrow pairs service datagram place same stop.delivers stop.refuses is) result has

@@ -15,6 +15,7 @@ use ipe_io::{Failed, Rack, Source};
 use plan::Plan;
 use recording_reader::RecordingPieces;
 use std::alloc::{Allocator, Global};
+use std::marker::Brand;
 
 /// Adds the files of all services, writes what the recording delivers, its end included, and flushes them.
 ///
@@ -37,7 +38,7 @@ pub(crate) fn write_captures<I: Source, R: Rack, A: Allocator>(
 {
     let first = add_files(alloc, &plan.services, rack)?;
     let services = plan.services.len() as u32;
-    let tail = write_pieces(plan, receiver, pieces, input, rack, first)?;
+    let tail = write_pieces::<I, R, A, Brand>(plan, receiver, pieces, input, rack, first)?;
     match flush_files(rack, first, services) {
         Ok(()) => Ok(tail),
         Err(Failed) => Err(ReceiveFault::Rack),

@@ -41,7 +41,7 @@ write_pieces-requires-clause-few g c = omega (arith, (services_count (plan_field
 
 pub flush_files-requires-clause-there : goal.flush_files-requires-clause-there
 flush_files-requires-clause-there g c =
-    omega (arith, c.in_ok-tail.ensures.writes.ends.6, c.in_ok-first.ensures.written.0, c.in_ok-first.ensures.place.0, c.len-services.ensures.read)
+    omega (arith, c.in_ok-tail.ensures.writes.ends.5.count, c.in_ok-first.ensures.written.0, c.in_ok-first.ensures.place.0, c.len-services.ensures.read)
 
 pub returns-in-Ok : goal.returns-in-Ok
 returns-in-Ok g c = record {
