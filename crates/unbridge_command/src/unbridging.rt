@@ -17,6 +17,7 @@ use pcap_file::write_ethernet_head;
 use receive_command::{ReceiveFault, add_file};
 use recording_reader::{FramePieces, PacketPieces, Pieces};
 use std::alloc::{Allocator, Global};
+use std::marker::Brand;
 
 /// The name of the file, before ".pcap".
 const NAME: &str = "bridge";
@@ -92,7 +93,7 @@ fn unbridge<I: Source, R: Rack, P: Pieces, A: Allocator>(
         → Unbridges result carrier (I.told input.old) (I.told input.new) (R.told rack.old) (R.told rack.new) (input.new ≡ input.old) }
 {
     let at = add_bridge_file(alloc, rack)?;
-    match write_frames(bridge, pieces, input, rack, at) {
+    match write_frames::<I, R, P, A, Brand>(bridge, pieces, input, rack, at) {
         Ok(_) => {}
         Err(fault) => return Err(ReceiveFault::from(fault)),
     }

@@ -10,32 +10,11 @@ use ipe_io::{Rack, Source};
 use receive_command::{Began, Progress, RackOutlet};
 use recording_reader::{Pieces, ReadFault, read_to_end};
 use std::alloc::Allocator;
-use std::marker::{Brand, PhantomData};
+use std::marker::PhantomData;
 
-/// Writes the Ethernet frames that a bridge gives of all pieces to the file at a place. No memory is taken.
-pub(crate) fn write_frames<I: Source, R: Rack, P: Pieces, A: Allocator>(
-    bridge: &mut Bridge<A>,
-    pieces: &mut P,
-    input: &mut I,
-    rack: &mut R,
-    at: u32,
-) -> Result<u32, ReadFault>
-    requires unread { P.HasRead pieces.old [] }
-    requires uncounted { P.count pieces.old ≡ 0 }
-    requires takes { TakesSize bridge.old (P.content pieces.old) }
-    requires selected { is_some bridge.old.id ≡ true }
-    requires fresh { bridge.old.taken ≡ 0 }
-    requires there { at + 1 ≤ (R.told rack.old).count }
-    requires place { at + 1 ≤ 2 ^ 32 }
-    ensures writes { (carrier : BridgeCarrier) → HasTaken carrier bridge.old []
-        → Reads result (P.form pieces.old) (P.size pieces.old) (I.told input.old) (I.told input.new)
-        (λ records. HasWritten carrier at (R.told rack.old) (R.told rack.new) records) (λ records. HasStopped carrier at (R.told rack.old) (R.told rack.new) records) }
-{
-    write_from::<I, R, P, A, Brand>(bridge, pieces, input, rack, at)
-}
-
-/// The same as `write_frames`, where the outlet begins with what `B` has.
-fn write_from<I: Source, R: Rack, P: Pieces, A: Allocator, B: Began>(
+/// Writes the Ethernet frames that a bridge gives of all pieces to the file at a place. No memory is taken. The outlet begins with what
+/// `B` has.
+pub(crate) fn write_frames<I: Source, R: Rack, P: Pieces, A: Allocator, B: Began>(
     bridge: &mut Bridge<A>,
     pieces: &mut P,
     input: &mut I,

@@ -1,7 +1,7 @@
 use Rattle.std.proofs.Common.{ap}
 use Rattle.receive_command.specs.Outlets.{RackSeen}
 use Rattle.unbridge_command.proofs.Written.{reads_as, wrote_all, wrote_part}
-use Rattle.unbridge_command.proofs.writing.write_from.Goals as goal
+use Rattle.unbridge_command.proofs.writing.write_frames.Goals as goal
 
 pub returns : goal.returns
 returns g c = record {
