@@ -14,12 +14,14 @@ use Rattle.stream_law.specs.Captures.{datagram_in, given_by}
 use Rattle.datagram_routing.specs.Offering.{IsOffered, HasRoom, IsUnderPlan}
 use Rattle.capture_intake.specs.Wanted.{TellsWanted, ShowsFault as ShowsWanted, place_in_wanted, every_link, is_refused, is_wanted}
 use Rattle.capture_intake.specs.Taken.{HasTaken, IsToldBy, ReadsBytes}
+use Rattle.capture_intake.specs.Ends.{OnCapture}
+use Rattle.capture_intake.specs.declared.ends.CaptureEnd.{CaptureEnd}
+use Rattle.capture_intake.specs.declared.ends.CaptureEnd.TheVariants as ends
 use Rattle.capture_intake.specs.declared.faults.PlacedFault.{PlacedFault}
 use Rattle.capture_intake.specs.declared.faults.CaptureReadFault.TheVariants as read
 use Rattle.send_command.specs.Gathering.{given_in, OffersRecords, IsGathered}
-use Rattle.send_command.specs.Sending.{OnCapture, Reads, ShowsFault}
-use Rattle.send_command.specs.declared.ends.SendEnd.{SendEnd}
-use Rattle.send_command.specs.declared.ends.SendEnd.TheVariants as ends
+use Rattle.send_command.specs.Sending.{Reads, ShowsFault}
+use Rattle.send_command.specs.declared.ends.Tally.{Tally}
 use Rattle.send_command.specs.declared.taker.PlanTaker.{PlanTaker}
 use Rattle.send_command.proofs.Given.{all_datagrams}
 
@@ -112,7 +114,7 @@ under_plan start now found left has = record {
 }
 
 -- What was read, by the end: what was taken was written, or the input failed.
-pub reads_written : (end : SendEnd) (found : Option PlacedFault) (a b : InputTold) → ReadsBytes every_link (Ok found) a b
+pub reads_written : (end : CaptureEnd Tally) (found : Option PlacedFault) (a b : InputTold) → ReadsBytes every_link (Ok found) a b
     → OnCapture end (λ fault place. found ≡ Some (record { fault = fault; place = place })) → (end ≡ ends.SourceFault → ⊥) → Reads end a b
 reads_written end found a b all at_fault no_source = record {
   bytes = all.bytes;
@@ -127,7 +129,7 @@ reads_written end found a b all at_fault no_source = record {
     shown o fault place e shows =
         shown_of_every all.bytes fault place (subst (λ (o : Option PlacedFault). IfSome o (λ found. ShowsWanted every_link all.bytes found.fault found.place)) e shows)
 
-    by_end : (end : SendEnd) → OnCapture end (λ fault place. found ≡ Some (record { fault = fault; place = place })) → OnCapture end (λ fault place. ShowsFault all.bytes fault place)
+    by_end : (end : CaptureEnd Tally) → OnCapture end (λ fault place. found ≡ Some (record { fault = fault; place = place })) → OnCapture end (λ fault place. ShowsFault all.bytes fault place)
     by_end (ends.Done tally) h = tt
     by_end (ends.Capture fault place) h = shown found fault place h all.shows
     by_end ends.SinkFault h = tt

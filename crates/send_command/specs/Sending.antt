@@ -1,5 +1,5 @@
 -- What a send makes of a capture, and what stands after each of its ends.
-use Rattle.std.specs.Prelude.{◌≡◌, ℕ, Bool, true, false, List, take, Option, Some, None, ⊤}
+use Rattle.std.specs.Prelude.{◌≡◌, ℕ, List, take, Option, Some, None, ⊤}
 use Rattle.std.specs.Io.KnownBytes.{Appends}
 use Rattle.wire_spec.specs.Lists.{joined}
 use Rattle.ipe_io.specs.Told.{InputTold}
@@ -10,10 +10,11 @@ use Rattle.plan_spec.specs.Plan.{PlanFields}
 use Rattle.plan_spec.specs.Offered.{offered_in}
 use Rattle.carrier_spec.specs.Stream.{IsSentStream}
 use Rattle.stream_law.specs.Captures.{given_by}
+use Rattle.capture_intake.specs.Ends.{OnCapture}
+use Rattle.capture_intake.specs.declared.ends.CaptureEnd.{CaptureEnd}
+use Rattle.capture_intake.specs.declared.ends.CaptureEnd.TheVariants as ends
 use Rattle.send_command.specs.Tally.{IsTally}
 use Rattle.send_command.specs.declared.ends.Tally.{Tally}
-use Rattle.send_command.specs.declared.ends.SendEnd.{SendEnd}
-use Rattle.send_command.specs.declared.ends.SendEnd.TheVariants as ends
 
 -- the bytes tell these records of a capture and this fault, or none, and that is the stream of what services take of the records, each in
 -- the version of its record
@@ -47,44 +48,12 @@ pub record SendsFront (plan : PlanFields) (bytes : List ℕ) (old new : Option (
   pub written : Appends old new (take count (joined stream))
 
 -- what stands in the output after each end; after the last two nothing was written
-abbrev pub Sends : PlanFields → List ℕ → SendEnd → Option (List ℕ) → Option (List ℕ) → Type 0
+abbrev pub Sends : PlanFields → List ℕ → CaptureEnd Tally → Option (List ℕ) → Option (List ℕ) → Type 0
 Sends plan bytes (ends.Done tally) old new = SendsAll plan bytes tally old new
 Sends plan bytes (ends.Capture fault place) old new = SendsToFault plan bytes fault place old new
 Sends plan bytes ends.SinkFault old new = SendsFront plan bytes old new
 Sends plan bytes ends.SourceFault old new = ⊤
 Sends plan bytes ends.OutOfMemory old new = ⊤
-
--- all was sent
-abbrev pub is_done : SendEnd → Bool
-is_done (ends.Done tally) = true
-is_done (ends.Capture fault place) = false
-is_done ends.SinkFault = false
-is_done ends.SourceFault = false
-is_done ends.OutOfMemory = false
-
--- a whole stream was written
-abbrev pub is_whole : SendEnd → Bool
-is_whole (ends.Done tally) = true
-is_whole (ends.Capture fault place) = true
-is_whole ends.SinkFault = false
-is_whole ends.SourceFault = false
-is_whole ends.OutOfMemory = false
-
--- writing was begun
-abbrev pub is_begun : SendEnd → Bool
-is_begun (ends.Done tally) = true
-is_begun (ends.Capture fault place) = true
-is_begun ends.SinkFault = true
-is_begun ends.SourceFault = false
-is_begun ends.OutOfMemory = false
-
--- what holds of the capture's fault, where the end has one
-abbrev pub OnCapture : SendEnd → (CaptureFault → ℕ → Type 0) → Type 0
-OnCapture (ends.Done tally) P = ⊤
-OnCapture (ends.Capture fault place) P = P fault place
-OnCapture ends.SinkFault P = ⊤
-OnCapture ends.SourceFault P = ⊤
-OnCapture ends.OutOfMemory P = ⊤
 
 -- the bytes tell this fault of a capture, and it is that of the record with this number
 pub record ShowsFault (bytes : List ℕ) (fault : CaptureFault) (place : ℕ) : Type 0 where
@@ -94,7 +63,7 @@ pub record ShowsFault (bytes : List ℕ) (fault : CaptureFault) (place : ℕ) : 
 
 -- what a send read of its input, and what that shows: at a fault of the capture that fault, and at a fault of the input none, or
 -- none but that the bytes are cut. After the record that was read last no more was read than a reader holds
-pub record Reads (end : SendEnd) (old new : InputTold) : Type 0 where
+pub record Reads (end : CaptureEnd Tally) (old new : InputTold) : Type 0 where
   pub bytes : List ℕ
   pub takes : Takes old new bytes
   pub ahead : IsReadAhead bytes

@@ -5,14 +5,15 @@ ghost use Rattle.wire_spec.specs.Content.{Stays};
 ghost use Rattle.ipe_io.specs.Counts.{IsFlushed};
 ghost use Rattle.pcap_file.specs.Reader.{is_cut};
 ghost use Rattle.plan.specs.PlanView.{plan_fields};
+ghost use Rattle.capture_intake.specs.Ends.{OnCapture, is_done, is_whole, is_begun};
 ghost use Rattle.datagram_routing.specs.Offering.{IsUnderPlan};
 ghost use Rattle.send_command.specs.Gathering.{IsGathered};
-ghost use Rattle.send_command.specs.Sending.{Sends, Reads, OnCapture, is_done, is_whole, is_begun};
+ghost use Rattle.send_command.specs.Sending.{Sends, Reads};
 
-use crate::ends::SendEnd;
+use crate::ends::Tally;
 use crate::offered::send_offered;
 use crate::taker::PlanTaker;
-use capture_intake::{CaptureReadFault, PlacedFault, read_capture};
+use capture_intake::{CaptureEnd, CaptureReadFault, PlacedFault, read_capture};
 use datagram_routing::Offered;
 use ipe_io::{Sink, Source};
 use mux_core::MuxFault;
@@ -28,35 +29,35 @@ pub fn send<I: Source, O: Sink>(
     plan: &Plan,
     input: &mut I,
     output: &mut O,
-) -> SendEnd
+) -> CaptureEnd<Tally>
 
     // What stands, where the input tells its bytes.
     ensures sent { (bytes : List ℕ) → (I.told input.old).left ≡ Some bytes → Sends (plan_fields plan.now) bytes result (O.told output.old).held (O.told output.new).held }
     ensures flushed { is_whole result ≡ true → IsFlushed (O.told output.new).held (O.told output.new).flushed }
-    ensures unflushed { result ≡ SendEnd.SinkFault → Stays (O.told output.old).flushed (O.told output.new).flushed }
+    ensures unflushed { result ≡ CaptureEnd.SinkFault → Stays (O.told output.old).flushed (O.told output.new).flushed }
     ensures unchanged { is_begun result ≡ true ⊎ (output.new ≡ output.old) }
 
     // What was read of the input.
     ensures reads { Reads result (I.told input.old) (I.told input.new) }
     ensures read { is_done result ≡ true → (I.told input.new).ended ≡ true }
     ensures cut { OnCapture result (λ fault place. is_cut fault ≡ true → (I.told input.new).ended ≡ true) }
-    ensures goes_on { result ≡ SendEnd.SourceFault → (I.told input.old).ended ≡ false → (I.told input.new).ended ≡ false }
+    ensures goes_on { result ≡ CaptureEnd.SourceFault → (I.told input.old).ended ≡ false → (I.told input.new).ended ≡ false }
 
     // It ends at a fault of the input or the output only where that was counted, and no other count changes.
-    ensures source { result ≡ SendEnd.SourceFault → Rose (I.told input.old).faults (I.told input.new).faults }
-    ensures sink { result ≡ SendEnd.SinkFault → Rose (O.told output.old).faults (O.told output.new).faults }
-    ensures input_kept { result ≢ SendEnd.SourceFault → (I.told input.new).faults ≡ (I.told input.old).faults }
-    ensures output_kept { result ≢ SendEnd.SinkFault → (O.told output.new).faults ≡ (O.told output.old).faults }
+    ensures source { result ≡ CaptureEnd.SourceFault → Rose (I.told input.old).faults (I.told input.new).faults }
+    ensures sink { result ≡ CaptureEnd.SinkFault → Rose (O.told output.old).faults (O.told output.new).faults }
+    ensures input_kept { result ≢ CaptureEnd.SourceFault → (I.told input.new).faults ≡ (I.told input.old).faults }
+    ensures output_kept { result ≢ CaptureEnd.SinkFault → (O.told output.new).faults ≡ (O.told output.old).faults }
 {
     let offered = match Offered::new(alloc, plan) {
         Ok(offered) => offered,
-        Err(_) => return SendEnd::OutOfMemory,
+        Err(_) => return CaptureEnd::OutOfMemory,
     };
     let mut taker = PlanTaker { plan, offered };
     match read_capture(alloc, input, &mut taker) {
         Ok(found) => write_stream(alloc, plan, &taker.offered, found, output),
-        Err(CaptureReadFault::Source) => SendEnd::SourceFault,
-        Err(CaptureReadFault::OutOfMemory) => SendEnd::OutOfMemory,
+        Err(CaptureReadFault::Source) => CaptureEnd::SourceFault,
+        Err(CaptureReadFault::OutOfMemory) => CaptureEnd::OutOfMemory,
     }
 }
 
@@ -67,25 +68,25 @@ fn write_stream<O: Sink>(
     offered: &Offered,
     found: Option<PlacedFault>,
     output: &mut O,
-) -> SendEnd
+) -> CaptureEnd<Tally>
     requires offered { IsUnderPlan (plan_fields plan.now) offered.now }
     ensures sent { (bytes : List ℕ) → IsGathered (plan_fields plan.now) bytes offered.now found → Sends (plan_fields plan.now) bytes result (O.told output.old).held (O.told output.new).held }
     ensures flushed { is_whole result ≡ true → IsFlushed (O.told output.new).held (O.told output.new).flushed }
     ensures unchanged { is_begun result ≡ true ⊎ (output.new ≡ output.old) }
-    ensures unflushed { result ≡ SendEnd.SinkFault → Stays (O.told output.old).flushed (O.told output.new).flushed }
+    ensures unflushed { result ≡ CaptureEnd.SinkFault → Stays (O.told output.old).flushed (O.told output.new).flushed }
     ensures done { is_done result ≡ true → found ≡ None }
     ensures fault { OnCapture result (λ fault place. found ≡ Some (record { fault = fault; place = place })) }
-    ensures source { result ≢ SendEnd.SourceFault }
-    ensures sink { result ≡ SendEnd.SinkFault → Rose (O.told output.old).faults (O.told output.new).faults }
-    ensures output_kept { result ≢ SendEnd.SinkFault → (O.told output.new).faults ≡ (O.told output.old).faults }
+    ensures source { result ≢ CaptureEnd.SourceFault }
+    ensures sink { result ≡ CaptureEnd.SinkFault → Rose (O.told output.old).faults (O.told output.new).faults }
+    ensures output_kept { result ≢ CaptureEnd.SinkFault → (O.told output.new).faults ≡ (O.told output.old).faults }
 {
     let tally = match send_offered(alloc, plan, offered, output) {
         Ok(tally) => tally,
-        Err(MuxFault::Sink) => return SendEnd::SinkFault,
-        Err(MuxFault::OutOfMemory) => return SendEnd::OutOfMemory,
+        Err(MuxFault::Sink) => return CaptureEnd::SinkFault,
+        Err(MuxFault::OutOfMemory) => return CaptureEnd::OutOfMemory,
     };
     match found {
-        Some(PlacedFault { fault, place }) => SendEnd::Capture { fault, place },
-        None => SendEnd::Done(tally),
+        Some(PlacedFault { fault, place }) => CaptureEnd::Capture { fault, place },
+        None => CaptureEnd::Done(tally),
     }
 }

@@ -12,7 +12,7 @@ mod offered;
 mod taker;
 
 pub use command::send;
-pub use ends::{SendEnd, Tally};
+pub use ends::Tally;
 pub use laws::a_capture_is_sent_in_one_way;
 pub use lines::{tell_fault, tell_tally};
 pub use mux_core::MuxFault;

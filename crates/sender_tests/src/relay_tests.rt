@@ -1,8 +1,9 @@
 //! Relays of small recordings: from SNDUs to datagram_sections, from MPE-FEC frames, of two services into one.
 use crate::relay_cases::{CASES, SECTIONS, SNDUS};
+use capture_intake::CaptureEnd;
 use ipe_io::{MemSink, MemSource};
 use relay_command::{RelayEnd, relay};
-use send_command::{SendEnd, send};
+use send_command::send;
 use service_plan::{Plan, read_plan};
 use std::alloc::Global;
 use std::test::Fail;
@@ -42,7 +43,7 @@ fn stream_of(alloc: Global, outer: &str, count: usize) -> Result<MemSink, Fail> 
     let mut input = MemSource::new(alloc, &capture, 100, &[])?;
     let mut output = MemSink::new(alloc, 10_000, &[])?;
     match send(alloc, &plan, &mut input, &mut output) {
-        SendEnd::Done(_) => Ok(output),
+        CaptureEnd::Done(_) => Ok(output),
         _ => Err(Fail::new("a capture")),
     }
 }

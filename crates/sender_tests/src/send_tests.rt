@@ -1,7 +1,8 @@
 //! Small captures, and the streams that are sent of them; packets by hand from RFC 4326 and ISO/IEC 13818-1.
+use capture_intake::CaptureEnd;
 use ipe_io::{MemSink, MemSource};
 use pcap_file::CaptureFault;
-use send_command::{SendEnd, Tally, send, tell_fault, tell_tally};
+use send_command::{Tally, send, tell_fault, tell_tally};
 use service_plan::{Plan, read_plan};
 use std::alloc::Global;
 use std::test::Fail;
@@ -14,7 +15,7 @@ fn sent(
     bytes: &[u8],
     source_fails: &[u32],
     sink_fails: &[u32],
-) -> Result<(SendEnd, MemSink), Fail> {
+) -> Result<(CaptureEnd<Tally>, MemSink), Fail> {
     let Ok(plan) = read_plan(alloc, FILES.as_bytes()) else {
         return Err(Fail::new("settings"));
     };
@@ -33,7 +34,7 @@ struct Case<'a> {
     bytes: usize,
     input_fails: &'a [u32],
     output_fails: &'a [u32],
-    end: SendEnd,
+    end: CaptureEnd<Tally>,
     /// How many bytes of the packet are written, and flushed.
     written: usize,
     flushed: usize,
@@ -46,7 +47,7 @@ const SENT: Case = Case {
     bytes: 182,
     input_fails: &[],
     output_fails: &[],
-    end: SendEnd::Done(Tally {
+    end: CaptureEnd::Done(Tally {
         offered: 2,
         not_ip: 1,
         unrouted: 1,
@@ -60,7 +61,7 @@ const ONE: Case = Case {
     name: "one datagram",
     datagrams: 1,
     bytes: 138,
-    end: SendEnd::Done(Tally {
+    end: CaptureEnd::Done(Tally {
         offered: 1,
         not_ip: 1,
         unrouted: 1,
@@ -71,7 +72,7 @@ const ONE: Case = Case {
 
 const INPUT: Case = Case {
     name: "the input fails",
-    end: SendEnd::SourceFault,
+    end: CaptureEnd::SourceFault,
     written: 0,
     flushed: 0,
     ..ONE
@@ -79,7 +80,7 @@ const INPUT: Case = Case {
 
 const OUTPUT: Case = Case {
     name: "the output fails",
-    end: SendEnd::SinkFault,
+    end: CaptureEnd::SinkFault,
     flushed: 0,
     ..ONE
 };
@@ -91,7 +92,7 @@ static CASES: [Case; 11] = [
     Case {
         name: "no byte",
         bytes: 0,
-        end: SendEnd::Capture {
+        end: CaptureEnd::Capture {
             fault: CaptureFault::Empty,
             place: 0,
         },
@@ -102,7 +103,7 @@ static CASES: [Case; 11] = [
     Case {
         name: "a cut head of the capture",
         bytes: 23,
-        end: SendEnd::Capture {
+        end: CaptureEnd::Capture {
             fault: CaptureFault::CutHead,
             place: 0,
         },
@@ -113,7 +114,7 @@ static CASES: [Case; 11] = [
     Case {
         name: "a cut head of the first record",
         bytes: 39,
-        end: SendEnd::Capture {
+        end: CaptureEnd::Capture {
             fault: CaptureFault::CutHead,
             place: 1,
         },
@@ -124,7 +125,7 @@ static CASES: [Case; 11] = [
     Case {
         name: "a cut head of the third record",
         bytes: 127,
-        end: SendEnd::Capture {
+        end: CaptureEnd::Capture {
             fault: CaptureFault::CutHead,
             place: 3,
         },
@@ -133,7 +134,7 @@ static CASES: [Case; 11] = [
     Case {
         name: "a cut third record",
         bytes: 137,
-        end: SendEnd::Capture {
+        end: CaptureEnd::Capture {
             fault: CaptureFault::CutRecord,
             place: 3,
         },

@@ -6,13 +6,15 @@ use Rattle.plan_spec.specs.Plan.{PlanFields}
 use Rattle.plan_spec.specs.Offered.{offered_in}
 use Rattle.carrier_spec.specs.Stream.{IsSentStream}
 use Rattle.stream_law.specs.Captures.{given_by}
-use Rattle.send_command.specs.Sending.{Sends, is_done, is_whole}
-use Rattle.send_command.specs.declared.ends.SendEnd.{SendEnd}
-use Rattle.send_command.specs.declared.ends.SendEnd.TheVariants as ends
+use Rattle.capture_intake.specs.Ends.{is_done, is_whole}
+use Rattle.capture_intake.specs.declared.ends.CaptureEnd.{CaptureEnd}
+use Rattle.capture_intake.specs.declared.ends.CaptureEnd.TheVariants as ends
+use Rattle.send_command.specs.Sending.{Sends}
+use Rattle.send_command.specs.declared.ends.Tally.{Tally}
 use Rattle.send_command.proofs.laws.a_capture_is_sent_in_one_way.Goals as goal
 
 ends_done : ((bytes : List ℕ) (records others : List (List ℕ)) (fault other : Option CaptureFault) → Tells bytes records fault → Tells bytes others other → fault ≡ other)
-    → (plan : PlanFields) (bytes : List ℕ) (captured : List (List ℕ)) (end : SendEnd) (old new : Option (List ℕ))
+    → (plan : PlanFields) (bytes : List ℕ) (captured : List (List ℕ)) (end : CaptureEnd Tally) (old new : Option (List ℕ))
     → Sends plan bytes end old new → Tells bytes captured None → is_whole end ≡ true → is_done end ≡ true
 ends_done one plan bytes captured (ends.Done tally) old new sends told whole = refl
 ends_done one plan bytes captured (ends.Capture fault place) old new sends told whole =
