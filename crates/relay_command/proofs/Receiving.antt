@@ -1,214 +1,196 @@
--- What a receiver took into what gathers, in the words of the pieces.
-use Rattle.std.proofs.Common.{◌≡◌, ℕ, ◌+◌, ◌*◌, ◌≤◌, false, List, [], ◌∷◌, ◌++◌, length, refl, ap, sym, ◌∙◌, subst, arith, Ok, Err, append_assoc}
-use Rattle.std.specs.Bool.{⊤}
-use Rattle.std.proofs.lemmas.List.{append-nil}
+-- What was received into what gathers, in its words.
+use Rattle.std.proofs.Common.{◌≡◌, ◌≢◌, inl, inr, ℕ, ◌+◌, ◌*◌, ◌<◌, ◌≤◌, true, List, [], ◌∷◌, ◌++◌, length, refl, ap, sym, ◌∙◌, subst, arith, Result, Ok, Err, append_assoc}
 use Rattle.std.proofs.Math.Nat.{mul-le-mul_left}
-use Rattle.ts_spec.specs.Recording.{Record, RecordingForm}
+use Rattle.std.specs.Io.KnownBytes.{IsAtEnd}
 use Rattle.wire_spec.specs.Causes.{raised}
 use Rattle.ipe_io.specs.Told.{InputTold}
 use Rattle.plan_spec.specs.Plan.{PlanFields}
 use Rattle.carrier_spec.specs.Stream.{piece_size}
-use Rattle.outlet_spec.specs.Pairs.{Delivers}
-use Rattle.demux_core.specs.Carried.{Took, Stopped as StoppedOn}
 use Rattle.demux_core.specs.declared.receiver.ByCarrier.{ByCarrier}
 use Rattle.recording_reader.specs.declared.fault.ReadFault.{ReadFault}
 use Rattle.recording_reader.specs.declared.fault.ReadFault.TheVariants as fault
-use Rattle.recording_reader.specs.Reading.{Reads}
 use Rattle.recording_spec.specs.Pieces.{told_pairs, pairs_of_end}
 use Rattle.recording_spec.specs.Relayed.{relayed}
 use Rattle.receive_command.specs.Reading.{HasRead, most_records}
 use Rattle.receive_command.specs.Receives.{TakesMost}
-use Rattle.receive_command.specs.Writing.{IsGiven, IsFormOf}
+use Rattle.receive_command.specs.Writing.{TakesPairs, RefusesAfter, StopsInLast, StopsBehind, ReceivesPieces}
 use Rattle.receive_command.proofs.Pieces.{last_pairs, below_product}
-use Rattle.receive_command.proofs.Written.{TakenOn, taken_on, stopped_on, EndedOn, read_on, taken_of}
 use Rattle.relay_core.specs.Gathering.{GatherState, IsGathered, IsCauseOf}
 use Rattle.relay_core.specs.declared.gather.GatherFault.TheVariants as gather_fault
-use Rattle.relay_command.specs.Gathered.{IsReadToEnd, HasTooMany, at_most, within, after, LacksForDatagram, in_piece, at_end, GathersPieces}
+use Rattle.relay_command.specs.Gathered.{IsReadToEnd, FailsToRead, HasTooMany, at_most, within, after, LacksForDatagram, in_piece, at_end, GathersAll}
 use Rattle.relay_command.proofs.Limits.{pairs_pass, one_more_fits, front_fits, full, no_memory, some_cause}
-
--- what gathers, as it was
-pub gathers_nothing : (outer : PlanFields) (old new : GatherState) → new ≡ old → Delivers (IsGathered outer old) (IsGathered outer new) []
-gathers_nothing outer old new same = λ before told.
-    subst (λ (g : GatherState). IsGathered outer g (before ++ [])) (sym same) (subst (IsGathered outer old) (sym (append-nil before)) told)
 
 -- the bytes of at most the most pieces
 most_bytes_of : (size pieces : ℕ) → pieces ≤ most_records → size * pieces + 0 ≤ size * most_records
 most_bytes_of size pieces few = omega (arith, mul-le-mul_left size few)
 
-module _ (plan outer : PlanFields) (form : RecordingForm) (size : ℕ) (start mid : ByCarrier) (input now : InputTold) (old new : GatherState) (faults now_faults : ℕ)
-    (fresh : IsGiven false plan [] start) (fits : IsFormOf plan form size) (empty : IsGathered outer old []) where
-  abbrev Taken : List Record → Type 0
-  Taken records = Took start mid (IsGathered outer old) (IsGathered outer new) faults now_faults records
+module _ (plan outer : PlanFields) (input now : InputTold) (receiver : ByCarrier) (old new : GatherState) (faults now_faults : ℕ) (empty : IsGathered outer old []) where
+  abbrev Took : List (ℕ × List ℕ) → Type 0
+  Took = TakesPairs (IsGathered outer old) (IsGathered outer new) faults now_faults
 
-  abbrev Refused : ℕ → List ℕ → Type 0
-  Refused service datagram = IsCauseOf new datagram new.cause
+  abbrev Stopped : List (ℕ × List ℕ) → ℕ → List ℕ → Type 0
+  Stopped = RefusesAfter (IsGathered outer old) (IsGathered outer new) (λ service datagram. IsCauseOf new datagram new.cause)
 
-  abbrev StoppedAt : List Record → Type 0
-  StoppedAt records = StoppedOn start mid (IsGathered outer old) (IsGathered outer new) Refused faults now_faults records
+  abbrev Received : Result ℕ ReadFault → Type 0
+  Received result = ReceivesPieces result plan input now receiver Took Stopped
 
-  -- the reading stopped
-  pub gathered_front : (e : ReadFault) → Reads (Err e) form size input now Taken StoppedAt → GathersPieces (Err e) plan outer input now new
-  gathered_front fault.Source reads =
-      let took = taken_on plan.frame_bytes plan start mid (IsGathered outer old) (IsGathered outer new) faults now_faults form size reads.pieces fresh fits reads.ends.3 in
-      let read : HasRead (piece_size plan) input.left now.left reads.pieces reads.behind = read_on plan form size fits _ input now _ _ reads in
-      record {
-        ends = record {
-          pieces = reads.pieces;
-          behind = reads.behind;
-          read = read;
-          fewer = reads.ends.0;
-          fits = (took.delivers [] empty).fits;
-          takes = record {
-            going = reads.ends.1;
-            count = piece_size plan * length reads.pieces + length reads.behind;
-            fewer = below_product (piece_size plan) (length reads.pieces) (length reads.behind) reads.ends.0 read.short;
-            taken = taken_of plan form size fits _ input now _ _ reads;
-          };
-          rose = reads.ends.2;
-        };
-        kept = λ other. absurd (other refl);
-      }
-  gathered_front fault.TooLong reads =
-      let took = taken_on plan.frame_bytes plan start mid (IsGathered outer old) (IsGathered outer new) faults now_faults form size reads.pieces fresh fits reads.ends.3 in
-      record {
-        ends = at_most (record {
-          pieces = reads.pieces;
-          read = subst (λ (behind : List ℕ). HasRead (piece_size plan) input.left now.left reads.pieces behind) reads.ends.0 (read_on plan form size fits _ input now _ _ reads);
-          most = reads.ends.1;
-          fits = (took.delivers [] empty).fits;
-          taken = taken_of plan form size fits _ input now _ _ reads
-              ∙ ap (λ (n : ℕ). raised input.taken n)
-              (let none : length reads.behind ≡ 0 = ap (λ (behind : List ℕ). length behind) reads.ends.0 in
-              ap (λ (n : ℕ). piece_size plan * length reads.pieces + n) none ∙ ap (λ (n : ℕ). piece_size plan * n + 0) reads.ends.1 ∙ omega arith);
-        });
-        kept = λ other. reads.ends.2;
-      }
-  gathered_front fault.Taker reads =
-      let stop = stopped_on plan.frame_bytes plan start mid (IsGathered outer old) (IsGathered outer new) Refused faults now_faults form size reads.pieces fresh fits reads.ends.3 in
-      let gathered : IsGathered outer new (told_pairs plan stop.pieces ++ stop.front) = stop.delivers [] empty in
-      let whole : HasRead (piece_size plan) input.left now.left reads.pieces [] =
-      subst (λ (behind : List ℕ). HasRead (piece_size plan) input.left now.left reads.pieces behind) reads.ends.0 (read_on plan form size fits _ input now _ _ reads) in
-      let none : length reads.behind ≡ 0 = ap (λ (behind : List ℕ). length behind) reads.ends.0 in
-      let all : told_pairs plan (stop.pieces ++ stop.piece ∷ []) ≡ told_pairs plan stop.pieces ++ stop.front ++ (stop.service, stop.datagram) ∷ stop.rest =
-      last_pairs plan stop.pieces stop.piece ∙ ap (λ (ps : List (ℕ × List ℕ)). told_pairs plan stop.pieces ++ ps) stop.pairs
-      ∙ sym (append_assoc (told_pairs plan stop.pieces) stop.front ((stop.service, stop.datagram) ∷ stop.rest)) in
-      let read : HasRead (piece_size plan) input.left now.left (stop.pieces ++ stop.piece ∷ []) [] =
-      subst (λ (pieces : List (List ℕ)). HasRead (piece_size plan) input.left now.left pieces []) stop.all_are whole in
-      let most : length (stop.pieces ++ stop.piece ∷ []) ≤ most_records = subst (λ (pieces : List (List ℕ)). length pieces ≤ most_records) stop.all_are reads.ends.1 in
-      let takes : TakesMost plan input now = record {
-        count = piece_size plan * length reads.pieces + 0;
-        most = most_bytes_of (piece_size plan) (length reads.pieces) reads.ends.1;
-        taken = taken_of plan form size fits _ input now _ _ reads ∙ ap (λ (n : ℕ). raised input.taken (piece_size plan * length reads.pieces + n)) none;
-      } in
-      record {
-        ends = (
-          some_cause new stop.datagram new.cause stop.refuses,
-          λ is. within (record {
-            before = stop.pieces;
-            piece = stop.piece;
-            read = read;
-            most = most;
-            fits = front_fits outer new (told_pairs plan stop.pieces) stop.front gathered;
-            many = pairs_pass outer new (told_pairs plan stop.pieces ++ stop.front) gathered (told_pairs plan (stop.pieces ++ stop.piece ∷ [])) stop.rest stop.service stop.datagram
-                all (full new stop.datagram new.cause is stop.refuses);
-            takes = takes;
-          }),
-          λ is. in_piece (record {
-            before = stop.pieces;
-            piece = stop.piece;
-            given = stop.front;
-            service = stop.service;
-            datagram = stop.datagram;
-            behind = stop.rest;
-            read = read;
-            most = most;
-            gives = all;
-            fits = one_more_fits outer new (told_pairs plan stop.pieces ++ stop.front) gathered stop.service stop.datagram (no_memory new stop.datagram new.cause is stop.refuses);
-            takes = takes;
-          }),
-        );
-        kept = λ other. reads.ends.2;
-      }
-
--- the reading came to the end, which gave what it gives, or stopped in it. What gathers stood, between, for what the pieces tell
-module _ (plan outer : PlanFields) (form : RecordingForm) (size : ℕ) (start mid ended : ByCarrier) (input now : InputTold) (old had new : GatherState) (faults mid_faults tail : ℕ)
-    (fresh : IsGiven false plan [] start) (fits : IsFormOf plan form size) (empty : IsGathered outer old []) (Stops : List Record → Type 0)
-    (reads : Reads (Ok tail) form size input now (λ records. Took start mid (IsGathered outer old) (IsGathered outer had) faults mid_faults records) Stops) where
-  took_all : TakenOn plan.frame_bytes plan mid (IsGathered outer old) (IsGathered outer had) faults mid_faults reads.pieces
-  took_all = taken_on plan.frame_bytes plan start mid (IsGathered outer old) (IsGathered outer had) faults mid_faults form size reads.pieces fresh fits reads.ends.5
-
-  pub given_all : IsGiven false plan reads.pieces mid
-  given_all = took_all.given
-
-  read_all : IsReadToEnd plan input now reads.pieces
-  read_all =
-      let read : HasRead (piece_size plan) input.left now.left reads.pieces reads.behind = read_on plan form size fits _ input now _ _ reads in
-      record {
-        behind = reads.behind;
-        read = read;
-        fewer = reads.ends.1;
-        at_end = reads.ends.2;
-        takes = record {
-          ended = reads.ends.3;
-          count = piece_size plan * length reads.pieces + length reads.behind;
-          fewer = below_product (piece_size plan) (length reads.pieces) (length reads.behind) reads.ends.1 read.short;
-          taken = taken_of plan form size fits _ input now _ _ reads;
-        };
-      }
-
-  pub gathered_whole : {E : Type 0} (x : ⊤) → EndedOn {E = E} (Ok x) plan.frame_bytes plan ended (IsGathered outer had) (IsGathered outer new) (λ service datagram. IsCauseOf new datagram new.cause) reads.pieces
-      → GathersPieces (Ok x) plan outer input now new
-  gathered_whole x end = record {
-    ends = record {
-      datagrams = relayed plan reads.pieces;
-      gathers = record { pieces = reads.pieces; read = read_all; datagrams_are = refl };
-      gathered = end.all (told_pairs plan reads.pieces) (took_all.delivers [] empty);
+  -- the input was read to its end
+  read_all : {result : Result ℕ ReadFault} (has : Received result) → length has.pieces < most_records → IsAtEnd now.left → now.ended ≡ true → IsReadToEnd plan input now has.pieces
+  read_all has fewer there ended = record {
+    behind = has.behind;
+    read = has.read;
+    fewer = fewer;
+    at_end = there;
+    takes = record {
+      ended = ended;
+      count = piece_size plan * length has.pieces + length has.behind;
+      fewer = below_product (piece_size plan) (length has.pieces) (length has.behind) fewer has.read.short;
+      taken = has.taken;
     };
-    kept = λ other. reads.ends.4;
   }
 
-  pub gathered_behind : {E : Type 0} (e : E) → EndedOn {E = E} (Err e) plan.frame_bytes plan ended (IsGathered outer had) (IsGathered outer new) (λ service datagram. IsCauseOf new datagram new.cause) reads.pieces
-      → GathersPieces (Err fault.Taker) plan outer input now new
-  gathered_behind e end =
-      let told : List (ℕ × List ℕ) = told_pairs plan reads.pieces in
-      let stop = end.part in
-      let gathered : IsGathered outer new (told ++ stop.front) = stop.delivers told (took_all.delivers [] empty) in
-      let all : told ++ pairs_of_end plan reads.pieces ≡ told ++ stop.front ++ (stop.service, stop.datagram) ∷ stop.behind =
-      ap (λ (ps : List (ℕ × List ℕ)). told ++ ps) stop.pairs_are ∙ sym (append_assoc told stop.front ((stop.service, stop.datagram) ∷ stop.behind)) in
-      record {
-        ends = (
-          some_cause new stop.datagram new.cause stop.refuses,
-          λ is. after (record {
-            pieces = reads.pieces;
-            read = read_all;
-            fits = front_fits outer new told stop.front gathered;
-            many = pairs_pass outer new (told ++ stop.front) gathered (told ++ pairs_of_end plan reads.pieces) stop.behind stop.service stop.datagram
-                all (full new stop.datagram new.cause is stop.refuses);
-          }),
-          λ is. at_end (record {
-            pieces = reads.pieces;
-            given = stop.front;
-            service = stop.service;
-            datagram = stop.datagram;
-            behind = stop.behind;
-            read = read_all;
-            gives = all;
-            fits = one_more_fits outer new (told ++ stop.front) gathered stop.service stop.datagram (no_memory new stop.datagram new.cause is stop.refuses);
-          }),
-        );
-        kept = λ other. reads.ends.4;
-      }
+  pub gathers_all : (tail : ℕ) → Received (Ok tail) → GathersAll plan outer input now new
+  gathers_all tail has = record {
+    datagrams = relayed plan has.pieces;
+    gathers = record { pieces = has.pieces; read = read_all has has.ends.1 has.ends.2 has.ends.3; datagrams_are = refl };
+    gathered = has.ends.5.delivers [] empty;
+  }
 
--- a refused datagram, where there were too many
-pub too_many : (e : ReadFault) (plan outer : PlanFields) (input now : InputTold) (gather : GatherState) → e ≡ fault.Taker → GathersPieces (Err e) plan outer input now gather
-    → gather.cause ≡ gather_fault.Full → HasTooMany plan input now
-too_many fault.Taker plan outer input now gather is gathers all = gathers.ends.1 all
-too_many fault.Source plan outer input now gather is gathers all = absurd (cc)
-too_many fault.TooLong plan outer input now gather is gathers all = absurd (cc)
+  -- every fault but that of the input leaves its count
+  pub input_kept : (result : Result ℕ ReadFault) → Received result → result ≢ Err fault.Source → now.faults ≡ input.faults
+  input_kept (Ok tail) has other = has.ends.4
+  input_kept (Err fault.Source) has other = absurd (other refl)
+  input_kept (Err fault.TooLong) has other = has.ends.2
+  input_kept (Err fault.Taker) has other = has.ends.0
 
--- and where memory lacked
-pub lacks : (e : ReadFault) (plan outer : PlanFields) (input now : InputTold) (gather : GatherState) → e ≡ fault.Taker → GathersPieces (Err e) plan outer input now gather
-    → gather.cause ≡ gather_fault.OutOfMemory → LacksForDatagram plan input now
-lacks fault.Taker plan outer input now gather is gathers none = gathers.ends.2 none
-lacks fault.Source plan outer input now gather is gathers none = absurd (cc)
-lacks fault.TooLong plan outer input now gather is gathers none = absurd (cc)
+  pub fails_to_read : Received (Err fault.Source) → FailsToRead plan input now
+  fails_to_read has = record {
+    pieces = has.pieces;
+    behind = has.behind;
+    read = has.read;
+    fewer = has.ends.0;
+    fits = (has.ends.3.delivers [] empty).fits;
+    takes = record {
+      going = has.ends.1;
+      count = piece_size plan * length has.pieces + length has.behind;
+      fewer = below_product (piece_size plan) (length has.pieces) (length has.behind) has.ends.0 has.read.short;
+      taken = has.taken;
+    };
+    rose = has.ends.2;
+  }
+
+  pub has_most : Received (Err fault.TooLong) → HasTooMany plan input now
+  has_most has = at_most (record {
+    pieces = has.pieces;
+    read = subst (λ (behind : List ℕ). HasRead (piece_size plan) input.left now.left has.pieces behind) has.ends.0 has.read;
+    most = has.ends.1;
+    fits = (has.ends.3.delivers [] empty).fits;
+    taken = has.taken
+        ∙ ap (λ (n : ℕ). raised input.taken n)
+        (let none : length has.behind ≡ 0 = ap (λ (behind : List ℕ). length behind) has.ends.0 in
+        ap (λ (n : ℕ). piece_size plan * length has.pieces + n) none ∙ ap (λ (n : ℕ). piece_size plan * n + 0) has.ends.1 ∙ omega arith);
+  })
+
+  -- A datagram of the last piece was refused.
+  module _ (pieces : List (List ℕ)) (stop : StopsInLast plan Stopped pieces) where
+    all_in_last : told_pairs plan (stop.pieces ++ stop.piece ∷ []) ≡ told_pairs plan stop.pieces ++ stop.front ++ (stop.service, stop.datagram) ∷ stop.rest
+    all_in_last =
+        last_pairs plan stop.pieces stop.piece ∙ ap (λ (ps : List (ℕ × List ℕ)). told_pairs plan stop.pieces ++ ps) stop.pairs
+        ∙ sym (append_assoc (told_pairs plan stop.pieces) stop.front ((stop.service, stop.datagram) ∷ stop.rest))
+
+    in_last : IsGathered outer new (told_pairs plan stop.pieces ++ stop.front)
+    in_last = stop.stopped.delivers [] empty
+
+    read_last : HasRead (piece_size plan) input.left now.left pieces [] → HasRead (piece_size plan) input.left now.left (stop.pieces ++ stop.piece ∷ []) []
+    read_last read = subst (λ (pieces : List (List ℕ)). HasRead (piece_size plan) input.left now.left pieces []) stop.all_are read
+
+    most_last : length pieces ≤ most_records → length (stop.pieces ++ stop.piece ∷ []) ≤ most_records
+    most_last most = subst (λ (pieces : List (List ℕ)). length pieces ≤ most_records) stop.all_are most
+
+    module _ (read : HasRead (piece_size plan) input.left now.left pieces []) (most : length pieces ≤ most_records) (takes : TakesMost plan input now) where
+      pub passes_in_last : new.cause ≡ gather_fault.Full → HasTooMany plan input now
+      passes_in_last is = within (record {
+        before = stop.pieces;
+        piece = stop.piece;
+        read = read_last read;
+        most = most_last most;
+        fits = front_fits outer new (told_pairs plan stop.pieces) stop.front in_last;
+        many = pairs_pass outer new (told_pairs plan stop.pieces ++ stop.front) in_last (told_pairs plan (stop.pieces ++ stop.piece ∷ [])) stop.rest stop.service stop.datagram
+            all_in_last (full new stop.datagram new.cause is stop.stopped.refuses);
+        takes = takes;
+      })
+
+      pub lacks_in_last : new.cause ≡ gather_fault.OutOfMemory → LacksForDatagram plan input now
+      lacks_in_last is = in_piece (record {
+        before = stop.pieces;
+        piece = stop.piece;
+        given = stop.front;
+        service = stop.service;
+        datagram = stop.datagram;
+        behind = stop.rest;
+        read = read_last read;
+        most = most_last most;
+        gives = all_in_last;
+        fits = one_more_fits outer new (told_pairs plan stop.pieces ++ stop.front) in_last stop.service stop.datagram (no_memory new stop.datagram new.cause is stop.stopped.refuses);
+        takes = takes;
+      })
+
+  -- One that the end gives was.
+  module _ (pieces : List (List ℕ)) (stop : StopsBehind plan Stopped pieces) (read : IsReadToEnd plan input now pieces) where
+    all_behind : told_pairs plan pieces ++ pairs_of_end plan pieces ≡ told_pairs plan pieces ++ stop.front ++ (stop.service, stop.datagram) ∷ stop.rest
+    all_behind =
+        ap (λ (ps : List (ℕ × List ℕ)). told_pairs plan pieces ++ ps) stop.pairs ∙ sym (append_assoc (told_pairs plan pieces) stop.front ((stop.service, stop.datagram) ∷ stop.rest))
+
+    before_it : IsGathered outer new (told_pairs plan pieces ++ stop.front)
+    before_it = stop.stopped.delivers [] empty
+
+    pub passes_behind : new.cause ≡ gather_fault.Full → HasTooMany plan input now
+    passes_behind is = after (record {
+      pieces = pieces;
+      read = read;
+      fits = front_fits outer new (told_pairs plan pieces) stop.front before_it;
+      many = pairs_pass outer new (told_pairs plan pieces ++ stop.front) before_it (told_pairs plan pieces ++ pairs_of_end plan pieces) stop.rest stop.service stop.datagram
+          all_behind (full new stop.datagram new.cause is stop.stopped.refuses);
+    })
+
+    pub lacks_behind : new.cause ≡ gather_fault.OutOfMemory → LacksForDatagram plan input now
+    lacks_behind is = at_end (record {
+      pieces = pieces;
+      given = stop.front;
+      service = stop.service;
+      datagram = stop.datagram;
+      behind = stop.rest;
+      read = read;
+      gives = all_behind;
+      fits = one_more_fits outer new (told_pairs plan pieces ++ stop.front) before_it stop.service stop.datagram (no_memory new stop.datagram new.cause is stop.stopped.refuses);
+    })
+
+  -- What was refused has a cause: there were too many, or memory lacked.
+  module _ (has : Received (Err fault.Taker)) where
+    pub has_cause : new.cause ≢ gather_fault.None
+    has_cause = elim has.ends.1 [
+      | inl last ↦ some_cause new last.2.datagram new.cause last.2.stopped.refuses
+      | inr end ↦ some_cause new end.3.datagram new.cause end.3.stopped.refuses
+    ]
+
+    whole : has.behind ≡ [] → HasRead (piece_size plan) input.left now.left has.pieces []
+    whole none = subst (λ (behind : List ℕ). HasRead (piece_size plan) input.left now.left has.pieces behind) none has.read
+
+    takes_most : has.behind ≡ [] → length has.pieces ≤ most_records → TakesMost plan input now
+    takes_most none most = record {
+      count = piece_size plan * length has.pieces + 0;
+      most = most_bytes_of (piece_size plan) (length has.pieces) most;
+      taken = has.taken ∙ ap (λ (behind : List ℕ). raised input.taken (piece_size plan * length has.pieces + length behind)) none;
+    }
+
+    pub too_many : new.cause ≡ gather_fault.Full → HasTooMany plan input now
+    too_many is = elim has.ends.1 [
+      | inl last ↦ passes_in_last has.pieces last.2 (whole last.0) last.1 (takes_most last.0 last.1) is
+      | inr end ↦ passes_behind has.pieces end.3 (read_all has end.0 end.1 end.2) is
+    ]
+
+    pub lacks : new.cause ≡ gather_fault.OutOfMemory → LacksForDatagram plan input now
+    lacks is = elim has.ends.1 [
+      | inl last ↦ lacks_in_last has.pieces last.2 (whole last.0) last.1 (takes_most last.0 last.1) is
+      | inr end ↦ lacks_behind has.pieces end.3 (read_all has end.0 end.1 end.2) is
+    ]

@@ -1,5 +1,5 @@
 -- What was gathered of a recording, or why it was not.
-use Rattle.std.specs.Prelude.{◌≡◌, ◌≢◌, ◌⊎◌, ℕ, ◌*◌, ◌<◌, ◌≤◌, List, [], ◌∷◌, ◌++◌, length, Result, Ok, Err, ⊤}
+use Rattle.std.specs.Prelude.{◌≡◌, ◌⊎◌, ℕ, ◌*◌, ◌<◌, ◌≤◌, List, [], ◌∷◌, ◌++◌, length}
 use Rattle.std.specs.Io.KnownBytes.{IsAtEnd}
 use Rattle.wire_spec.specs.Causes.{raised, Rose}
 use Rattle.pcap_file.specs.Reading.{most_records as most_datagrams, most_bytes}
@@ -7,14 +7,11 @@ use Rattle.pcap_file.specs.Told.{bytes_in}
 use Rattle.ipe_io.specs.Told.{InputTold}
 use Rattle.plan_spec.specs.Plan.{PlanFields}
 use Rattle.carrier_spec.specs.Stream.{piece_size}
-use Rattle.recording_reader.specs.declared.fault.ReadFault.{ReadFault}
-use Rattle.recording_reader.specs.declared.fault.ReadFault.TheVariants as read
 use Rattle.recording_spec.specs.Pieces.{told_pairs, delivered_pairs}
 use Rattle.recording_spec.specs.Relayed.{datagrams_in, relayed}
 use Rattle.receive_command.specs.Reading.{HasRead, most_records}
 use Rattle.receive_command.specs.Receives.{TakesAll, TakesFront, TakesMost}
 use Rattle.relay_core.specs.Gathering.{GatherState, FitsCapture, HasGathered}
-use Rattle.relay_core.specs.declared.gather.GatherFault.TheVariants as gather_fault
 
 -- more datagrams than a capture has, or more bytes
 abbrev pub PassesCapture : List (List ℕ) → Type 0
@@ -114,15 +111,3 @@ pub record GathersAll (plan outer : PlanFields) (input now : InputTold) (gather 
   pub datagrams : List (List ℕ)
   pub gathers : Gathers plan input now datagrams
   pub gathered : HasGathered outer gather datagrams
-
--- by the answer of a reading into what gathers. Where a datagram was refused, there were too many, or memory ran out
-abbrev pub GatherEnds : Result ⊤ ReadFault → (plan outer : PlanFields) → InputTold → InputTold → GatherState → Type 0
-GatherEnds (Ok done) plan outer input now gather = GathersAll plan outer input now gather
-GatherEnds (Err read.Source) plan outer input now gather = FailsToRead plan input now
-GatherEnds (Err read.TooLong) plan outer input now gather = HasTooMany plan input now
-GatherEnds (Err read.Taker) plan outer input now gather =
-    (gather.cause ≢ gather_fault.None) × (gather.cause ≡ gather_fault.Full → HasTooMany plan input now) × (gather.cause ≡ gather_fault.OutOfMemory → LacksForDatagram plan input now)
-
-pub record GathersPieces (result : Result ⊤ ReadFault) (plan outer : PlanFields) (input now : InputTold) (gather : GatherState) : Type 0 where
-  pub ends : GatherEnds result plan outer input now gather
-  pub kept : result ≢ Err read.Source → now.faults ≡ input.faults

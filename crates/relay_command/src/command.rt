@@ -9,6 +9,7 @@ use ipe_io::{Sink, Source};
 use plan::Plan;
 use send_command::{MuxFault, send_offered};
 use std::alloc::Global;
+use std::marker::Brand;
 
 /// Receives the recording that is read from `input` under the inner plan, writes the stream of all that it delivers under the outer plan, and
 /// flushes it.
@@ -25,7 +26,7 @@ pub fn relay<I: Source, O: Sink>(
     ensures relays { Relays result (plan_fields inner.now) (plan_fields outer.now) (I.told input.old) (I.told input.new) (O.told output.old) (O.told output.new)
         (output.new ≡ output.old) }
 {
-    let offered = match gather_recording(alloc, inner, outer, input) {
+    let offered = match gather_recording::<I, Brand>(alloc, inner, outer, input) {
         Ok(offered) => offered,
         Err(GatherEnd::Source) => return RelayEnd::SourceFault,
         Err(GatherEnd::TooLong) => return RelayEnd::TooLong,

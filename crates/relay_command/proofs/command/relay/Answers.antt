@@ -1,9 +1,5 @@
-use Rattle.std.proofs.Common.{◌≡◌, List, ℕ, refl, ap, sym, ◌∙◌, subst, Err}
-use Rattle.std.specs.Prelude.{All}
-use Rattle.wire_spec.specs.Datagram.{IsDatagram}
-use Rattle.plan_spec.specs.Plan.{PlanFields}
+use Rattle.std.proofs.Common.{◌≡◌, refl, ap, Err}
 use Rattle.plan.specs.PlanView.{plan_fields}
-use Rattle.datagram_routing.specs.Offering.{IsOffered}
 use Rattle.recording_spec.specs.Relayed.{as_records}
 use Rattle.relay_command.specs.Relaying.{gathered}
 use Rattle.relay_command.proofs.Answered.{ends_in_source, ends_too_long, lacks_memory, ends_done, ends_in_sink}
@@ -36,7 +32,7 @@ returns-in-Err-OutOfMemory g c = record {
 pub returns-in-Ok-send_offered : goal.returns-in-Ok-send_offered
 returns-in-Ok-send_offered g c = record {
   relays =
-      let into = c.in-Ok.ensures.gathers in
+      let into = c.in-Ok.ensures.gathers.0 in
       ends_done (plan_fields c.args.inner.now) (plan_fields c.args.outer.now) (g.I.Source.told c.args.input.now) (g.I.Source.told c.gather_recording.new.input)
       (g.O.Sink.told c.args.output.now) (c.send_offered.new.output ≡ c.args.output.now) (g.O.Sink.told c.send_offered.new.output)
       (c.in-Ok.ensures.kept (λ other. absurd (cc))) into.datagrams c.in-Ok-send_offered.tally into.receives
@@ -46,7 +42,7 @@ returns-in-Ok-send_offered g c = record {
 pub returns-in-Err-Sink : goal.returns-in-Err-Sink
 returns-in-Err-Sink g c = record {
   relays =
-      let into = c.in-Ok.ensures.gathers in
+      let into = c.in-Ok.ensures.gathers.0 in
       let failed = ap (λ e. Err e) c.in-Err-Sink.field-0-is in
       ends_in_sink (plan_fields c.args.inner.now) (plan_fields c.args.outer.now) (g.I.Source.told c.args.input.now) (g.I.Source.told c.gather_recording.new.input)
       (g.O.Sink.told c.args.output.now) (c.send_offered.new.output ≡ c.args.output.now) (g.O.Sink.told c.send_offered.new.output)
@@ -57,7 +53,7 @@ returns-in-Err-Sink g c = record {
 pub returns : goal.returns
 returns g c = record {
   relays =
-      let into = c.in-Ok.ensures.gathers in
+      let into = c.in-Ok.ensures.gathers.0 in
       let is = c.in-Err-OutOfMemory-send_offered.field-0-is in
       lacks_memory (plan_fields c.args.inner.now) (plan_fields c.args.outer.now) (g.I.Source.told c.args.input.now) (g.I.Source.told c.gather_recording.new.input)
       (g.O.Sink.told c.args.output.now) (c.send_offered.new.output ≡ c.args.output.now) (g.O.Sink.told c.send_offered.new.output)
