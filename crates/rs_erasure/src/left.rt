@@ -20,7 +20,7 @@ use gf256::Gf;
 /// The syndromes take as long as so many steps on columns.
 const STEPS: usize = 2100;
 
-/// So many steps the elimination of a place takes; of 48, the mean.
+/// So many steps the elimination of a place takes: the mean over 48 places.
 const STEPS_OF_PLACE: usize = 40;
 
 /// So many bytes are looked at together.
