@@ -13,6 +13,8 @@ pub struct Run {
     pub rows: usize,
     pub from: usize,
     pub to: usize,
+    ghost order: { from ≤ to },
+    ghost within: { to ≤ rows },
 }
 
 /// So many columns of a buffer: `first`, `first + apart` and so on.
@@ -25,8 +27,6 @@ pub struct Columns {
 
 /// Makes a column 0.
 pub fn clear_column(run: Run, buffer: &mut [u8], column: usize)
-    requires order { run.from ≤ run.to }
-    requires within { run.to ≤ run.rows }
     requires room { (column + 1) * run.rows ≤ length buffer.old }
     ensures { IsColumnChanged run.rows run.from run.to column (λ r. 0) buffer.old buffer.new }
 {
@@ -44,8 +44,6 @@ pub fn find_values(
     work: &mut [u8],
     into: usize,
 )
-    requires order { run.from ≤ run.to }
-    requires within { run.to ≤ run.rows }
     requires there_within { there.to ≤ there.rows }
     requires same { there.to ≡ there.from + (run.to - run.from) }
     requires several { 1 < columns.count }
@@ -74,8 +72,6 @@ pub fn add_to_other(
     target: &mut [u8],
     into: usize,
 )
-    requires order { run.from ≤ run.to }
-    requires within { run.to ≤ run.rows }
     requires source_room { (column + 1) * run.rows ≤ length source.now }
     requires room { (into + 1) * run.rows ≤ length target.old }
     ensures { IsColumnChanged run.rows run.from run.to into (λ r. field_sum (cell run.rows target.old into r) (field_product factor.0 (cell run.rows source.now column r))) target.old target.new }
@@ -91,8 +87,6 @@ pub fn add_to_other(
 
 /// Adds `factor` times a column to a later one.
 pub fn add_to_later(factor: Gf, run: Run, work: &mut [u8], column: usize, into: usize)
-    requires order { run.from ≤ run.to }
-    requires within { run.to ≤ run.rows }
     requires later { column < into }
     requires room { (into + 1) * run.rows ≤ length work.old }
     ensures { IsColumnChanged run.rows run.from run.to into (λ r. field_sum (cell run.rows work.old into r) (field_product factor.0 (cell run.rows work.old column r))) work.old work.new }
@@ -108,8 +102,6 @@ pub fn add_to_later(factor: Gf, run: Run, work: &mut [u8], column: usize, into: 
 
 /// Adds `factor` times a column to an earlier one.
 pub fn add_to_earlier(factor: Gf, run: Run, work: &mut [u8], column: usize, into: usize)
-    requires order { run.from ≤ run.to }
-    requires within { run.to ≤ run.rows }
     requires earlier { into < column }
     requires room { (column + 1) * run.rows ≤ length work.old }
     ensures { IsColumnChanged run.rows run.from run.to into (λ r. field_sum (cell run.rows work.old into r) (field_product factor.0 (cell run.rows work.old column r))) work.old work.new }

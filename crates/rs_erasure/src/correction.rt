@@ -39,8 +39,6 @@ fn spread(
     run: Run,
     work: &mut [u8],
 )
-    requires order { run.from ≤ run.to }
-    requires within { run.to ≤ run.rows }
     requires room { length work.old ≡ 64 * run.rows }
     requires few { length roots.now ≤ 64 }
     requires above { lowest ≤ column }
@@ -66,8 +64,6 @@ fn correct_column(
     work: &mut [u8],
     table: &mut [u8],
 )
-    requires order { run.from ≤ run.to }
-    requires within { run.to ≤ run.rows }
     requires table_room { length table.old ≡ 255 * run.rows }
     requires room { length work.old ≡ 64 * run.rows }
     requires places { All (λ p. p < 255) unknown.now }
@@ -97,8 +93,6 @@ pub fn correct(
     work: &mut [u8],
     table: &mut [u8],
 )
-    requires order { run.from ≤ run.to }
-    requires within { run.to ≤ run.rows }
     requires table_room { length table.old ≡ 255 * run.rows }
     requires room { length work.old ≡ 64 * run.rows }
     requires places { All (λ p. p < 255) unknown.now }

@@ -29,8 +29,6 @@ pub fn powers_of(places: &[u8]) -> ArrayVec<u8, 64>
 
 /// One root more: adds to each column from `first` on the root times the column before it.
 fn eliminate_root(root: Gf, first: usize, run: Run, work: &mut [u8])
-    requires order { run.from ≤ run.to }
-    requires within { run.to ≤ run.rows }
     requires room { length work.old ≡ 64 * run.rows }
     requires positive { 0 < first }
     requires low { first ≤ 64 }
@@ -48,8 +46,6 @@ fn eliminate_root(root: Gf, first: usize, run: Run, work: &mut [u8])
 /// All roots but the last `done`, which were eliminated before, from the last one on: column j then combines the syndromes by the polynomial
 /// of the last j roots. Nothing is said of the first `done` columns.
 pub fn eliminate(roots: &[u8], done: usize, run: Run, work: &mut [u8])
-    requires order { run.from ≤ run.to }
-    requires within { run.to ≤ run.rows }
     requires room { length work.old ≡ 64 * run.rows }
     requires few { length roots.now ≤ 64 }
     requires some { done ≤ length roots.now }

@@ -41,8 +41,6 @@ fn any_bits(bytes: &[u8], from: usize, to: usize) -> u8
 
 /// Answers whether a column has a byte that is not 0, in the rows of a run.
 fn has_bytes(run: Run, table: &[u8], column: usize) -> bool
-    requires order { run.from ≤ run.to }
-    requires within { run.to ≤ run.rows }
     requires table_room { length table.now ≡ 255 * run.rows }
     requires low { column < 255 }
     ensures { result ≡ false → (r : ℕ) → run.from ≤ r → r < run.to → cell run.rows table.now column r ≡ 0 }
@@ -61,8 +59,6 @@ fn has_bytes(run: Run, table: &[u8], column: usize) -> bool
 
 /// The mark of a column, or 0 where the column has no byte that is not 0 in the rows of a run.
 fn mark_of(mark: u8, run: Run, table: &[u8], column: usize) -> u8
-    requires order { run.from ≤ run.to }
-    requires within { run.to ≤ run.rows }
     requires table_room { length table.now ≡ 255 * run.rows }
     requires low { column < 255 }
     ensures { result ≡ 0 → (mark ≡ 0) ⊎ ((r : ℕ) → run.from ≤ r → r < run.to → cell run.rows table.now column r ≡ 0) }
@@ -76,8 +72,6 @@ fn mark_of(mark: u8, run: Run, table: &[u8], column: usize) -> u8
 
 /// Marks the columns that have a byte that is not 0 in the rows of a run and are none of the places: 1, and all others 0.
 fn columns_with_bytes(run: Run, table: &[u8], places: &[u8]) -> [u8; 255]
-    requires order { run.from ≤ run.to }
-    requires within { run.to ≤ run.rows }
     requires table_room { length table.now ≡ 255 * run.rows }
     requires low { All (λ p. p < 255) places.now }
     ensures { AreEmpty run.rows run.from run.to places.now table.now result }
@@ -109,8 +103,6 @@ fn count_of(marks: &[u8; 255]) -> usize
 
 /// Makes the columns from `first` on 0.
 fn clear_columns(first: usize, run: Run, work: &mut [u8])
-    requires order { run.from ≤ run.to }
-    requires within { run.to ≤ run.rows }
     requires room { length work.old ≡ 64 * run.rows }
     requires low { first ≤ 64 }
     ensures here { (r : ℕ) → run.from ≤ r → r < run.to → (j : ℕ) → first ≤ j → j < 64 → cell run.rows work.new j r ≡ 0 }
@@ -123,8 +115,6 @@ fn clear_columns(first: usize, run: Run, work: &mut [u8])
 /// Adds what the bytes of a column leave: times the differences of its power and the roots, and then times the power, once more in
 /// each further column of `work`.
 fn add_column(place: u8, roots: &[u8], run: Run, table: &[u8], work: &mut [u8])
-    requires order { run.from ≤ run.to }
-    requires within { run.to ≤ run.rows }
     requires table_room { length table.now ≡ 255 * run.rows }
     requires room { length work.old ≡ 64 * run.rows }
     requires few { length roots.now ≤ 64 }
@@ -141,8 +131,6 @@ fn add_column(place: u8, roots: &[u8], run: Run, table: &[u8], work: &mut [u8])
 
 /// The same for a column that is marked. What another one leaves is 0.
 fn add_marked(mark: u8, place: u8, roots: &[u8], run: Run, table: &[u8], work: &mut [u8])
-    requires order { run.from ≤ run.to }
-    requires within { run.to ≤ run.rows }
     requires table_room { length table.now ≡ 255 * run.rows }
     requires room { length work.old ≡ 64 * run.rows }
     requires few { length roots.now ≤ 64 }
@@ -157,8 +145,6 @@ fn add_marked(mark: u8, place: u8, roots: &[u8], run: Run, table: &[u8], work: &
 
 /// What is left, as a sum over the marked columns.
 fn find_by_columns(marks: &[u8; 255], places: &[u8], run: Run, table: &[u8], work: &mut [u8])
-    requires order { run.from ≤ run.to }
-    requires within { run.to ≤ run.rows }
     requires table_room { length table.now ≡ 255 * run.rows }
     requires room { length work.old ≡ 64 * run.rows }
     requires low { All (λ p. p < 255) places.now }
@@ -182,8 +168,6 @@ fn find_by_columns(marks: &[u8; 255], places: &[u8], run: Run, table: &[u8], wor
 
 /// What is left, from the syndromes of the rows.
 fn find_by_syndromes(places: &[u8], run: Run, table: &[u8], work: &mut [u8])
-    requires order { run.from ≤ run.to }
-    requires within { run.to ≤ run.rows }
     requires table_room { length table.now ≡ 255 * run.rows }
     requires room { length work.old ≡ 64 * run.rows }
     requires low { All (λ p. p < 255) places.now }
@@ -197,8 +181,6 @@ fn find_by_syndromes(places: &[u8], run: Run, table: &[u8], work: &mut [u8])
 
 /// What is left of the rows where the places are eliminated, in the way that takes fewer steps.
 pub fn find_left(places: &[u8], run: Run, table: &[u8], work: &mut [u8])
-    requires order { run.from ≤ run.to }
-    requires within { run.to ≤ run.rows }
     requires table_room { length table.now ≡ 255 * run.rows }
     requires room { length work.old ≡ 64 * run.rows }
     requires low { All (λ p. p < 255) places.now }

@@ -53,8 +53,6 @@ fn mark_row(rows: usize, row: usize, first: usize, work: &mut [u8]) -> u8
 
 /// Marks the rows of a run.
 pub fn mark(first: usize, run: Run, work: &mut [u8], bad: &mut [u8])
-    requires order { run.from ≤ run.to }
-    requires within { run.to ≤ run.rows }
     requires room { length work.old ≡ 64 * run.rows }
     requires marks { length bad.old ≡ run.rows }
     requires low { first ≤ 64 }

@@ -24,7 +24,7 @@ const THIRDS: usize = 85 * BLOCK;
 
 /// The rows of a block, as they stand among the thirds and the class values.
 fn block_of(run: Run) -> Run
-    requires order { run.from ≤ run.to }
+    requires few { run.to ≤ run.from + 256 }
     ensures rows { result.rows ≡ 256 }
     ensures from { result.from ≡ 0 }
     ensures to { result.to ≡ run.to - run.from }
@@ -38,8 +38,6 @@ fn block_of(run: Run) -> Run
 
 /// The value of the columns e, e + 85 and e + 170, in column e of the thirds.
 fn find_third(root: Gf, e: usize, run: Run, table: &[u8], thirds: &mut [u8])
-    requires order { run.from ≤ run.to }
-    requires within { run.to ≤ run.rows }
     requires few { run.to ≤ run.from + 256 }
     requires table_room { length table.now ≡ 255 * run.rows }
     requires room { length thirds.old ≡ 21760 }
@@ -57,8 +55,6 @@ fn find_third(root: Gf, e: usize, run: Run, table: &[u8], thirds: &mut [u8])
 
 /// The 85 thirds at the power 85 × h of 2.
 fn find_thirds(h: u8, run: Run, table: &[u8], thirds: &mut [u8])
-    requires order { run.from ≤ run.to }
-    requires within { run.to ≤ run.rows }
     requires few { run.to ≤ run.from + 256 }
     requires table_room { length table.now ≡ 255 * run.rows }
     requires room { length thirds.old ≡ 21760 }
@@ -73,7 +69,6 @@ fn find_thirds(h: u8, run: Run, table: &[u8], thirds: &mut [u8])
 
 /// The value of the thirds b, b + 17 and so on, in a column of the class values.
 fn find_class(root: Gf, b: usize, run: Run, thirds: &[u8], classes: &mut [u8], into: usize)
-    requires order { run.from ≤ run.to }
     requires few { run.to ≤ run.from + 256 }
     requires thirds_room { length thirds.now ≡ 21760 }
     requires room { length classes.old ≡ 65280 }
@@ -92,7 +87,6 @@ fn find_class(root: Gf, b: usize, run: Run, thirds: &[u8], classes: &mut [u8], i
 
 /// The 17 class values at the power 17 × k of 2, from the thirds at its power 5.
 fn find_classes(k: u8, run: Run, thirds: &[u8], classes: &mut [u8])
-    requires order { run.from ≤ run.to }
     requires few { run.to ≤ run.from + 256 }
     requires thirds_room { length thirds.now ≡ 21760 }
     requires room { length classes.old ≡ 65280 }
@@ -109,8 +103,6 @@ fn find_classes(k: u8, run: Run, thirds: &[u8], classes: &mut [u8])
 
 /// The class values at the powers 17 × k of 2 with k = h, h + 3 and so on, which have the same power 85 × h.
 fn find_some_classes(h: u8, run: Run, table: &[u8], classes: &mut [u8])
-    requires order { run.from ≤ run.to }
-    requires within { run.to ≤ run.rows }
     requires few { run.to ≤ run.from + 256 }
     requires table_room { length table.now ≡ 255 * run.rows }
     requires room { length classes.old ≡ 65280 }
@@ -127,8 +119,6 @@ fn find_some_classes(h: u8, run: Run, table: &[u8], classes: &mut [u8])
 
 /// All class values.
 fn find_all_classes(run: Run, table: &[u8], classes: &mut [u8])
-    requires order { run.from ≤ run.to }
-    requires within { run.to ≤ run.rows }
     requires few { run.to ≤ run.from + 256 }
     requires table_room { length table.now ≡ 255 * run.rows }
     requires room { length classes.old ≡ 65280 }
@@ -141,8 +131,6 @@ fn find_all_classes(run: Run, table: &[u8], classes: &mut [u8])
 
 /// The syndromes at the power m of 2, from 17 columns of the class values from `first` on, in column m of `work`.
 fn find_value(m: u8, run: Run, classes: &[u8], first: usize, work: &mut [u8])
-    requires order { run.from ≤ run.to }
-    requires within { run.to ≤ run.rows }
     requires few { run.to ≤ run.from + 256 }
     requires classes_room { length classes.now ≡ 65280 }
     requires room { length work.old ≡ 64 * run.rows }
@@ -163,8 +151,6 @@ fn find_value(m: u8, run: Run, classes: &[u8], first: usize, work: &mut [u8])
 
 /// The syndromes of the rows of a block.
 fn find_block(run: Run, table: &[u8], work: &mut [u8])
-    requires order { run.from ≤ run.to }
-    requires within { run.to ≤ run.rows }
     requires few { run.to ≤ run.from + 256 }
     requires table_room { length table.now ≡ 255 * run.rows }
     requires room { length work.old ≡ 64 * run.rows }
@@ -180,8 +166,6 @@ fn find_block(run: Run, table: &[u8], work: &mut [u8])
 
 /// The syndromes of the rows at the powers 0 to 63 of 2, in the 64 columns of `work`.
 pub fn find_syndromes(run: Run, table: &[u8], work: &mut [u8])
-    requires order { run.from ≤ run.to }
-    requires within { run.to ≤ run.rows }
     requires table_room { length table.now ≡ 255 * run.rows }
     requires room { length work.old ≡ 64 * run.rows }
     ensures { (r : ℕ) → run.from ≤ r → r < run.to → HasSyndromes run.rows table.now work.new r }

@@ -14,7 +14,7 @@ returns c =
     let front : length before ≡ c.args.into * r.rows = c.split_at_mut-before.ensures.front_len in
     let low : c.args.column * r.rows + r.rows ≤ c.args.into * r.rows = column_below c.args.column c.args.into r.rows r.rows c.requires.later (omega arith) in
     later_changed r.rows r.from r.to c.args.into _ (λ i. bit_xor (cell r.rows work c.args.into i) (field_product c.args.factor.0 (cell r.rows work c.args.column i))) work before after c.mul_add.new.target
-    c.requires.order c.requires.within c.requires.room whole front (omega arith) (omega arith)
+    c.args.run.order c.args.run.within c.requires.room whole front (omega arith) (omega arith)
     (λ i lt. c.mul_add.ensures i (omega arith)
     ∙ ap₂ (λ s t. bit_xor s (field_product c.args.factor.0 t))
     (between_back r.rows r.from r.to c.args.into work before after i whole front lt)

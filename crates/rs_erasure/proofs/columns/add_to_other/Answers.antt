@@ -10,5 +10,5 @@ returns c =
     let target : List ℕ = c.args.target.now in
     let source : List ℕ = c.args.source.now in
     part_changed r.rows r.from r.to c.args.into _ _ (λ i. bit_xor (cell r.rows target c.args.into i) (field_product c.args.factor.0 (cell r.rows source c.args.column i))) target c.mul_add.new.target
-    c.requires.order c.requires.within c.requires.room refl (omega arith) (omega arith)
+    c.args.run.order c.args.run.within c.requires.room refl (omega arith) (omega arith)
     (λ i lt. c.mul_add.ensures i (omega arith) ∙ ap₂ (λ s t. bit_xor s (field_product c.args.factor.0 t)) (between_cell r.rows r.from r.to c.args.into target i lt) (between_cell r.rows r.from r.to c.args.column source i lt))

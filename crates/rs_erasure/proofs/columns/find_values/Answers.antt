@@ -33,7 +33,7 @@ returns c =
     let s = c.args.columns in
     let source : List ℕ = c.args.source.now in
     part_changed r.rows r.from r.to c.args.into _ _ (λ i. horner_value c.args.root.0 (λ q. cell t.rows source (s.first + q * s.apart) (t.from + (i - r.from))) s.count) c.args.work.now c.horner_columns.new.target
-    c.requires.order c.requires.within c.requires.room refl (omega arith) (omega arith)
+    c.args.run.order c.args.run.within c.requires.room refl (omega arith) (omega arith)
     (λ i lt.
     let e : t.from + i ≡ t.from + (r.from + i - r.from) = omega arith in
     c.horner_columns.ensures i (omega arith) ∙ values_at c.args.root.0 s.first s.apart s.count t.rows t.from source i (t.from + (r.from + i - r.from)) e)

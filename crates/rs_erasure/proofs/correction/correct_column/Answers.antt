@@ -18,7 +18,7 @@ returns-clause-corrected c = λ r ge lt h.
     place_corrected c.args.unknown.now c.args.lowest c.args.at c.inverse-scale.result.0 (table_row 255 c.args.run.rows c.args.table.now r) (table_row 255 c.args.run.rows c.add_to_other.new.target r)
     (λ j. cell c.args.run.rows c.args.work.now j r) (λ j. cell c.args.run.rows c.spread.new.work j r) c.requires.low
     (column_step c.args.run.rows c.args.run.from c.args.run.to c.args.unknown.now c.args.roots.now c.args.table.now c.add_to_other.new.target c.args.work.now c.spread.new.work
-    c.args.lowest c.args.at c.inverse-scale.result.0 c.from.result r c.add_to_other.ensures c.from.ensures c.requires.places (omega (arith, c.requires.low)) ge lt c.requires.within c.requires.powers
+    c.args.lowest c.args.at c.inverse-scale.result.0 c.from.result r c.add_to_other.ensures c.from.ensures c.requires.places (omega (arith, c.requires.low)) ge lt c.args.run.within c.requires.powers
     (ap (λ t. field_product t c.inverse-scale.result.0) (sym c.differences_of.ensures) ∙ c.inverse-scale.ensures)
     (λ i. omega (arith, c.type_inv.work i)) (c.spread.ensures.before r ge lt) (c.spread.ensures.kept r ge lt))
     h
@@ -28,7 +28,7 @@ returns-clause-zero c = λ r ge lt h.
     place_kept c.args.unknown.now c.args.lowest c.args.at c.inverse-scale.result.0 (table_row 255 c.args.run.rows c.args.table.now r) (table_row 255 c.args.run.rows c.add_to_other.new.target r)
     (λ j. cell c.args.run.rows c.args.work.now j r) (λ j. cell c.args.run.rows c.spread.new.work j r) c.requires.low
     (column_step c.args.run.rows c.args.run.from c.args.run.to c.args.unknown.now c.args.roots.now c.args.table.now c.add_to_other.new.target c.args.work.now c.spread.new.work
-    c.args.lowest c.args.at c.inverse-scale.result.0 c.from.result r c.add_to_other.ensures c.from.ensures c.requires.places (omega (arith, c.requires.low)) ge lt c.requires.within c.requires.powers
+    c.args.lowest c.args.at c.inverse-scale.result.0 c.from.result r c.add_to_other.ensures c.from.ensures c.requires.places (omega (arith, c.requires.low)) ge lt c.args.run.within c.requires.powers
     (ap (λ t. field_product t c.inverse-scale.result.0) (sym c.differences_of.ensures) ∙ c.inverse-scale.ensures)
     (λ i. omega (arith, c.type_inv.work i)) (c.spread.ensures.before r ge lt) (c.spread.ensures.kept r ge lt))
     h

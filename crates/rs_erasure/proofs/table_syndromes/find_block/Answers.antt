@@ -27,7 +27,7 @@ loop-m-preserved c =
     ∙ ap (λ k. horner_value (field_power 2 (17 * (m % 15))) (λ q. cell r.rows table (b + q * 17) k) 15) e) in
     record {
       found = λ i ge lt k low. elim (cases_lt k m) [
-        | inl before ↦ c.find_value.ensures.elsewhere k i (omega (arith, lt, c.requires.within)) (λ e g l. omega (arith, e, before)) ∙ c.loop-m.invariant.found i ge lt k before
+        | inl before ↦ c.find_value.ensures.elsewhere k i (omega (arith, lt, c.args.run.within)) (λ e g l. omega (arith, e, before)) ∙ c.loop-m.invariant.found i ge lt k before
         | inr behind ↦
             let e : m ≡ k = omega (arith, low, behind) in
             subst (λ n. cell r.rows new n i ≡ syndromes_of (table_row 255 r.rows table i) n) e (here i ge lt)
