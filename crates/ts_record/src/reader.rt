@@ -89,10 +89,8 @@ impl RecordReader {
         ensures few { OnOk result (self.old.count < 2 ^ 32) }
         ensures too_long { IsErrOf result RecordFault.TooLong ↔ (self.old.count ≡ 2 ^ 32) }
         ensures unchanged { IsErrOf result RecordFault.TooLong → source.new ≡ source.old }
-        ensures failed { IsErrOf result RecordFault.Failed → (bytes : List ℕ)
-            × (length bytes < record_size self.old.form)
-            × TakesBytes (S.told source.old).left (S.told source.new).left
-            (S.told source.old).taken (S.told source.new).taken bytes }
+        ensures failed { IsErrOf result RecordFault.Failed → (bytes : List ℕ) × (length bytes < record_size self.old.form)
+            × TakesBytes (S.told source.old).left (S.told source.new).left (S.told source.old).taken (S.told source.new).taken bytes }
         ensures cause { IsErrOf result RecordFault.Failed → Rose (S.told source.old).faults (S.told source.new).faults }
         ensures soon { IsErrOf result RecordFault.Failed → self.old.count < 2 ^ 32 }
         ensures goes_on { IsErrOf result RecordFault.Failed → (S.told source.old).ended ≡ false → (S.told source.new).ended ≡ false }
@@ -132,10 +130,8 @@ impl RecordReader {
         ensures few { OnOk result (self.old.count < 2 ^ 32) }
         ensures too_long { IsErrOf result RecordFault.TooLong ↔ (self.old.count ≡ 2 ^ 32) }
         ensures unchanged { IsErrOf result RecordFault.TooLong → source.new ≡ source.old }
-        ensures failed { IsErrOf result RecordFault.Failed → (bytes : List ℕ)
-            × (length bytes < record_size self.old.form)
-            × TakesBytes (S.told source.old).left (S.told source.new).left
-            (S.told source.old).taken (S.told source.new).taken bytes }
+        ensures failed { IsErrOf result RecordFault.Failed → (bytes : List ℕ) × (length bytes < record_size self.old.form)
+            × TakesBytes (S.told source.old).left (S.told source.new).left (S.told source.old).taken (S.told source.new).taken bytes }
         ensures cause { IsErrOf result RecordFault.Failed → Rose (S.told source.old).faults (S.told source.new).faults }
         ensures soon { IsErrOf result RecordFault.Failed → self.old.count < 2 ^ 32 }
         ensures goes_on { IsErrOf result RecordFault.Failed → (S.told source.old).ended ≡ false → (S.told source.new).ended ≡ false }
