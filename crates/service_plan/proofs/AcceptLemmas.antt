@@ -1,5 +1,5 @@
 -- What the checks of a plan that was read say of its settings.
-use Rattle.std.proofs.Common.{◌≡◌, inl, inr, ℕ, Bool, true, false, not, ◌||◌, ◌&&◌, List, [], ◌∷◌, ◌++◌, map, Option, Some, None, MatchOption, codes, if◌then◌else◌, refl, sym, ap, ap₂, ◌∙◌}
+use Rattle.std.proofs.Common.{◌≡◌, inl, inr, ℕ, Bool, true, false, not, ◌||◌, ◌&&◌, List, [], ◌∷◌, map, Option, Some, None, MatchOption, codes, if◌then◌else◌, refl, sym, ap, ap₂, ◌∙◌}
 use Rattle.toml.specs.Data.{Members}
 use Rattle.addr_rules.specs.declared.rules.Rule.{Rule}
 use Rattle.plan_spec.specs.Plan.{KindFields, ServiceFields, ServiceRules, PlanFields, services_with, with_rules}
@@ -7,7 +7,7 @@ use Rattle.plan_spec.specs.Checks.{has_wrong_carrier, has_same_name, has_same_pi
 use Rattle.plan_spec.specs.Changes.{has_wrong_change}
 use Rattle.plan_spec.specs.Valid.{is_plan}
 use Rattle.plan_spec.specs.Wholes.{has_wrong_rules, most_table_packets, is_whole_of_settings, is_whole_of_pid, is_whole_plan}
-use Rattle.settings_spec.specs.Keys.{SettingsFault, no_document, missing, wrong_type, out_of_range, unknown_key, wrong_carrier, same_name, same_pid, wrong_change, wrong_rules, no_stamps, wrong_window, short_gap, long_cycle, KeyRule, key_fault, keys_fault, unknown_fault, first_of, table_at, tables_at}
+use Rattle.settings_spec.specs.Keys.{SettingsFault, no_document, missing, wrong_type, out_of_range, unknown_key, wrong_carrier, same_name, same_pid, wrong_change, wrong_rules, no_stamps, wrong_window, short_gap, long_cycle, key_fault, keys_fault, unknown_fault, first_of, table_at, tables_at}
 use Rattle.settings_spec.specs.Changes.{ChangeValues, with_changes}
 use Rattle.settings_spec.specs.Settings.{top_names, value_keys, int_key, service_key, change_key, int_fault, services_fault, changes_fault, tables_fault, plan_of}
 use Rattle.settings_spec.specs.Refusal.{HasNoRule, IsPlan, Fails, whole_checks, IsFirst, NoneFails, IsRefusedTable, IsDocument, IsNoDocument, IsAccepted, IsRefused}
@@ -21,19 +21,12 @@ use Rattle.service_plan.specs.Plans.{parts_fault, draft_seen, IsDraftOf}
 use Rattle.service_plan.specs.Order.{first_failing, fails_of, whole_fault}
 use Rattle.service_plan.specs.Keys.{fault_seen, Faults, OnFault}
 use Rattle.service_plan.specs.Accepted.{IsAcceptedTable}
+use Rattle.service_plan.proofs.KeyLemmas.{keys_append}
 use Rattle.service_plan.specs.declared.settings_draft.Draft.{Draft}
 use Rattle.service_plan.specs.declared.fault.PlanError.{PlanError}
 use Rattle.service_plan.specs.declared.fault.PlanError.TheVariants as error
 
 -- the tables, part by part
-first_joined : (a b c d : Option SettingsFault) → d ≡ first_of b c → first_of a d ≡ first_of (first_of a b) c
-first_joined None b c d same = same
-first_joined (Some f) b c d same = refl
-
-keys_append : (xs ys : List KeyRule) (m : Members) → keys_fault (xs ++ ys) m ≡ first_of (keys_fault xs m) (keys_fault ys m)
-keys_append [] ys m = refl
-keys_append (x ∷ xs) ys m = first_joined (key_fault x m) (keys_fault xs m) (keys_fault ys m) (keys_fault (xs ++ ys) m) (keys_append xs ys m)
-
 parts_are : (u v i s rest : Option SettingsFault) → first_of (first_of u (first_of v (first_of i (first_of s None)))) rest ≡ first_of u (first_of v (first_of i (first_of s rest)))
 parts_are (Some f) v i s rest = refl
 parts_are None (Some f) i s rest = refl

@@ -1,7 +1,7 @@
 -- What is wrong with settings, in errors; the carrier and the INT's table.
-use Rattle.std.proofs.Common.{◌≡◌, ℕ, Bool, List, Option, Some, None, bytes_eq, codes, refl}
+use Rattle.std.proofs.Common.{◌≡◌, ℕ, Bool, List, [], ◌∷◌, ◌++◌, Option, Some, None, bytes_eq, codes, refl, ◌∙◌}
 use Rattle.toml.specs.Data.{Members}
-use Rattle.settings_spec.specs.Keys.{SettingsFault, first_of, table_fault, text_or}
+use Rattle.settings_spec.specs.Keys.{SettingsFault, KeyRule, key_fault, keys_fault, first_of, table_fault, text_or}
 use Rattle.settings_spec.specs.Settings.{says_baseband, int_fault, int_keys}
 use Rattle.service_plan.specs.Keys.{fault_seen, Faults}
 use Rattle.service_plan.specs.declared.fault.PlanError.{PlanError}
@@ -30,3 +30,18 @@ error_here error.OutOfMemory a b here = tt
 pub error_later : (e : PlanError) (a b : Option SettingsFault) → a ≡ None → Faults e b → Faults e (first_of a b)
 error_later (error.Fault f) a b none later = first_later a b (Some (fault_seen f)) none later
 error_later error.OutOfMemory a b none later = tt
+
+-- what is wrong at some keys, and at more after them
+first_joined : (a b c d : Option SettingsFault) → d ≡ first_of b c → first_of a d ≡ first_of (first_of a b) c
+first_joined None b c d same = same
+first_joined (Some f) b c d same = refl
+
+pub keys_append : (xs ys : List KeyRule) (m : Members) → keys_fault (xs ++ ys) m ≡ first_of (keys_fault xs m) (keys_fault ys m)
+keys_append [] ys m = refl
+keys_append (x ∷ xs) ys m = first_joined (key_fault x m) (keys_fault xs m) (keys_fault ys m) (keys_fault (xs ++ ys) m) (keys_append xs ys m)
+
+pub keys_here : (front back : List KeyRule) (m : Members) (f : SettingsFault) → keys_fault front m ≡ Some f → keys_fault (front ++ back) m ≡ Some f
+keys_here front back m f here = keys_append front back m ∙ first_here (keys_fault front m) (keys_fault back m) f here
+
+pub keys_later : (front back : List KeyRule) (m : Members) (f : Option SettingsFault) → keys_fault front m ≡ None → keys_fault back m ≡ f → keys_fault (front ++ back) m ≡ f
+keys_later front back m f none later = keys_append front back m ∙ first_later (keys_fault front m) (keys_fault back m) f none later

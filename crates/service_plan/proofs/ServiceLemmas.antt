@@ -5,10 +5,10 @@ use Rattle.std.specs.List.{filter_map}
 use Rattle.toml.specs.Data.{Data, Members}
 use Rattle.addr_rules.specs.Texts.{mac_of_text}
 use Rattle.addr_rules.specs.declared.rules.Rule.{Rule}
-use Rattle.plan_spec.specs.Plan.{ServiceFields, ServiceRules, ule, mpe, fec, gse}
+use Rattle.plan_spec.specs.Plan.{WindowFields, ServiceFields, ServiceRules, ule, mpe, fec, gse}
 use Rattle.plan_spec.specs.Checks.{is_service_name, is_gse}
 use Rattle.settings_spec.specs.Keys.{SettingsFault, key_fault, table_fault, number_or, flag_or, text_or, items_at, texts_at}
-use Rattle.settings_spec.specs.Settings.{kind_key, mode_key, ule_keys, mpe_keys, indexed_keys, sliced_keys, gse_keys, kind_text, is_sliced_mode, kind_fault, fec_fault, service_fault, kind_of, service_of, urgent_texts, service_texts}
+use Rattle.settings_spec.specs.Settings.{kind_key, mode_key, ule_keys, mpe_keys, indexed_keys, sliced_keys, gse_keys, kind_text, is_sliced_mode, kind_fault, fec_fault, service_fault, window_of, kind_of, service_of, urgent_texts, service_texts}
 use Rattle.settings_spec.specs.Refusal.{AreRules}
 use Rattle.plan_spec.specs.Valid.{is_valid_kind, has_valid_values}
 use Rattle.plan.specs.Parts.{kind_seen, urgent_seen, service_seen}
@@ -16,8 +16,9 @@ use Rattle.settings_keys.specs.Lists.{macs_of}
 use Rattle.service_plan.specs.Keys.{Faults}
 use Rattle.service_plan.specs.Reading.{AnswersOrWants}
 use Rattle.service_plan.specs.declared.fault.PlanError.{PlanError}
-use Rattle.service_plan.specs.Services.{Spells, SpellsService, rules_read, ruled, IsEnded, IsServiceOf}
+use Rattle.service_plan.specs.Services.{Spells, SpellsService, rules_read, ruled, IsEnded, IsServiceOf, mode_keys}
 use Rattle.plan.specs.declared.service.Kind.{Kind}
+use Rattle.service_plan.proofs.KeyLemmas.{first_later}
 use Rattle.service_plan.specs.declared.service_draft.ServiceDraft.{ServiceDraft}
 
 -- the kinds
@@ -30,16 +31,11 @@ pub kind_of_mpe : (m : Members) (pid : ℕ) → kind_text m ≡ codes "mpe" → 
 unfolding kind_of
 kind_of_mpe m pid word p = rw (word, ← p)
 
-pub kind_of_indexed : (m : Members) (pid rows parity : ℕ) → kind_text m ≡ codes "fec" → is_sliced_mode m ≡ false → pid ≡ number_or 0 (codes "pid") m
-    → rows ≡ number_or 1024 (codes "rows") m → parity ≡ number_or 64 (codes "parity") m → fec pid rows parity None ≡ kind_of m
+pub kind_of_fec : (m : Members) (pid rows parity : ℕ) (sliced : Bool) (window : Option WindowFields) → kind_text m ≡ codes "fec" → is_sliced_mode m ≡ sliced
+    → pid ≡ number_or 0 (codes "pid") m → rows ≡ number_or 1024 (codes "rows") m → parity ≡ number_or 64 (codes "parity") m
+    → window ≡ (if sliced then Some (window_of m) else None) → fec pid rows parity window ≡ kind_of m
 unfolding kind_of
-kind_of_indexed m pid rows parity word mode p r q = rw (word, mode, ← p, ← r, ← q)
-
-pub kind_of_sliced : (m : Members) (pid rows parity start length : ℕ) → kind_text m ≡ codes "fec" → is_sliced_mode m ≡ true → pid ≡ number_or 0 (codes "pid") m
-    → rows ≡ number_or 1024 (codes "rows") m → parity ≡ number_or 64 (codes "parity") m → start ≡ number_or 0 (codes "window_start") m
-    → length ≡ number_or 0 (codes "window_length") m → fec pid rows parity (Some (record { start = start; length = length })) ≡ kind_of m
-unfolding kind_of
-kind_of_sliced m pid rows parity start length word mode p r q s l = rw (word, mode, ← p, ← r, ← q, ← s, ← l)
+kind_of_fec m pid rows parity sliced window word mode p r q w = rw (word, mode, ← p, ← r, ← q) (ap (λ (o : Option WindowFields). fec pid rows parity o) w)
 
 pub kind_of_gse : (m : Members) (isi : ℕ) (address : Bool) → bytes_eq (kind_text m) (codes "ule") ≡ false → bytes_eq (kind_text m) (codes "mpe") ≡ false
     → bytes_eq (kind_text m) (codes "fec") ≡ false → isi ≡ number_or 0 (codes "isi") m → address ≡ flag_or true (codes "address") m → gse isi address ≡ kind_of m
@@ -171,8 +167,6 @@ pub sliced_said : (m : Members) (word : List ℕ) (b : Bool) → word ≡ text_o
 unfolding is_sliced_mode
 sliced_said m word b is said = rw (← is) (sym said)
 
-pub fec_fault_sliced : (m : Members) → key_fault mode_key m ≡ None → is_sliced_mode m ≡ true → fec_fault m ≡ table_fault sliced_keys m
-fec_fault_sliced m none mode = rw (none, mode)
-
-pub fec_fault_indexed : (m : Members) → key_fault mode_key m ≡ None → is_sliced_mode m ≡ false → fec_fault m ≡ table_fault indexed_keys m
-fec_fault_indexed m none mode = rw (none, mode)
+pub mode_later : (m : Members) (b : Bool) (f : Option SettingsFault) → key_fault mode_key m ≡ None → is_sliced_mode m ≡ b → table_fault (mode_keys b) m ≡ f → fec_fault m ≡ f
+mode_later m true f none mode later = first_later (key_fault mode_key m) (if is_sliced_mode m then table_fault sliced_keys m else table_fault indexed_keys m) f none (rw mode later)
+mode_later m false f none mode later = first_later (key_fault mode_key m) (if is_sliced_mode m then table_fault sliced_keys m else table_fault indexed_keys m) f none (rw mode later)

@@ -1,15 +1,15 @@
 -- A service that was read, and the settings that it is from.
-use Rattle.std.specs.Prelude.{◌≡◌, ℕ, Bool, true, List, codes}
+use Rattle.std.specs.Prelude.{◌≡◌, ℕ, Bool, true, List, [], ◌∷◌, ◌++◌, Option, Some, None, option_map, codes, if◌then◌else◌}
 use Rattle.toml.specs.Data.{Data, Members}
 use Rattle.addr_rules.specs.Macs.{broadcast_mac}
 use Rattle.addr_rules.specs.declared.rules.Rule.{Rule}
 use Rattle.plan_spec.specs.Plan.{ServiceFields, ServiceRules, own_rules}
 use Rattle.plan_spec.specs.Checks.{is_between}
-use Rattle.settings_spec.specs.Keys.{number_or, address_or}
-use Rattle.settings_spec.specs.Settings.{service_of, service_texts}
+use Rattle.settings_spec.specs.Keys.{KeyRule, number_or, address_or}
+use Rattle.settings_spec.specs.Settings.{name_key, kind_key, pid_key, frame_keys, window_keys, rules_key, last_keys, window_of, service_of, service_texts}
 use Rattle.settings_spec.specs.Refusal.{AreRules, AreServiceRules}
-use Rattle.plan_spec.specs.Valid.{has_valid_values}
-use Rattle.plan.specs.Parts.{kind_seen, urgent_seen, service_seen}
+use Rattle.plan_spec.specs.Valid.{is_valid_window, has_valid_values}
+use Rattle.plan.specs.Parts.{window_seen, kind_seen, urgent_seen, service_seen}
 use Rattle.settings_keys.specs.Lists.{texts_of}
 use Rattle.plan.specs.declared.service.Kind.{Kind}
 use Rattle.service_plan.specs.declared.service_draft.ServiceDraft.{ServiceDraft}
@@ -43,6 +43,19 @@ pub record IsEnded (table : Members) (place : ℕ) (name : List ℕ) (kind : Kin
   pub rules : Spells (texts_of items) draft.service.rules draft.spelled
   pub id_in_range : is_between 0 65535 draft.service.service_id ≡ true
   pub tag_in_range : is_between 0 255 draft.service.component_tag ≡ true
+
+-- the keys of the window, which sliced frames alone have
+abbrev pub window_keys_of : Bool → List KeyRule
+window_keys_of sliced = if sliced then window_keys else []
+
+-- the keys of a service with frames, in order
+abbrev pub mode_keys : Bool → List KeyRule
+mode_keys sliced = name_key ∷ kind_key ∷ pid_key ∷ (frame_keys ++ window_keys_of sliced ++ rules_key ∷ last_keys)
+
+-- the window of a table, where its frames are sliced; its numbers are in their ranges
+abbrev pub IsWindowOf : Members → Bool → Option (ℕ × ℕ) → Type 0
+IsWindowOf table sliced window =
+    (option_map window_seen window ≡ (if sliced then Some (window_of table) else None)) × (is_valid_window (option_map window_seen window) ≡ true)
 
 -- the service of a table
 abbrev pub ruled : ServiceFields → ServiceRules Rule → ServiceFields

@@ -1,12 +1,13 @@
 //! The table of a service, by its kind.
-ghost use Rattle.std.specs.Prelude.{◌≡◌, ◌≤◌, true, false, codes, None, bytes_eq};
+ghost use Rattle.std.specs.Prelude.{◌≡◌, ◌≤◌, false, codes, map, None, bytes_eq};
 ghost use Rattle.toml.specs.View.{table_view};
-ghost use Rattle.settings_spec.specs.Keys.{key_fault, table_fault};
-ghost use Rattle.settings_spec.specs.Settings.{kind_key, mode_key, kind_text, is_sliced_mode, ule_keys, mpe_keys, indexed_keys, sliced_keys, gse_keys, fec_fault, service_fault};
-ghost use Rattle.service_plan.specs.Reading.{AnswersOrWants};
-ghost use Rattle.service_plan.specs.Services.{IsServiceOf};
+ghost use Rattle.settings_spec.specs.Keys.{KeyRule, key_fault, keys_fault, table_fault};
+ghost use Rattle.settings_spec.specs.Settings.{kind_key, kind_text, ule_keys, mpe_keys, gse_keys, fec_fault, service_fault};
+ghost use Rattle.service_plan.specs.Keys.{key_text};
+ghost use Rattle.service_plan.specs.Reading.{Answers, AnswersOrWants};
+ghost use Rattle.service_plan.specs.Services.{IsServiceOf, IsWindowOf, mode_keys, window_keys_of};
 
-use crate::fault::PlanError;
+use crate::fault::{PlanError, PlanFault};
 use crate::service_draft::{ServiceDraft, filter, finish};
 use crate::services::both;
 use addr_rules::MacList;
@@ -126,58 +127,6 @@ fn mpe(alloc: Global, place: u8, table: &Table) -> Result<ServiceDraft, PlanErro
     finish(alloc, place, table, name, kind, items, filter)
 }
 
-/// Reads a service with indexed frames.
-#[tactic(auto, using(settings_keys::proofs::KeyLemmas::first_here, settings_keys::proofs::KeyLemmas::first_later, crate::proofs::KeyLemmas::error_here, crate::proofs::KeyLemmas::error_later))]
-fn indexed(alloc: Global, place: u8, table: &Table) -> Result<ServiceDraft, PlanError>
-    requires word { kind_text (table_view table.now) ≡ codes "fec" }
-    requires kind { key_fault kind_key (table_view table.now) ≡ None }
-    requires mode { key_fault mode_key (table_view table.now) ≡ None }
-    requires indexed { is_sliced_mode (table_view table.now) ≡ false }
-    ensures read { AnswersOrWants result (table_fault indexed_keys (table_view table.now)) (IsServiceOf (table_view table.now) place) }
-{
-    refuse_unknown(table, &INDEXED_KEYS)?;
-    let name = name_text(table)?;
-    let pid = pid(table)?;
-    let rows = rows(table)?;
-    let parity = number(table, Key::Parity, 1, 64, Some(64))?;
-    let items = rule_items(table)?;
-    let filter = MacList::new(alloc);
-    let kind = Kind::Fec {
-        pid,
-        rows,
-        parity: parity as u8,
-        window: None,
-    };
-    finish(alloc, place, table, name, kind, items, filter)
-}
-
-/// Reads a service with sliced frames.
-#[tactic(auto, using(settings_keys::proofs::KeyLemmas::first_here, settings_keys::proofs::KeyLemmas::first_later, crate::proofs::KeyLemmas::error_here, crate::proofs::KeyLemmas::error_later))]
-fn sliced(alloc: Global, place: u8, table: &Table) -> Result<ServiceDraft, PlanError>
-    requires word { kind_text (table_view table.now) ≡ codes "fec" }
-    requires kind { key_fault kind_key (table_view table.now) ≡ None }
-    requires mode { key_fault mode_key (table_view table.now) ≡ None }
-    requires sliced { is_sliced_mode (table_view table.now) ≡ true }
-    ensures read { AnswersOrWants result (table_fault sliced_keys (table_view table.now)) (IsServiceOf (table_view table.now) place) }
-{
-    refuse_unknown(table, &SLICED_KEYS)?;
-    let name = name_text(table)?;
-    let pid = pid(table)?;
-    let rows = rows(table)?;
-    let parity = number(table, Key::Parity, 1, 64, Some(64))?;
-    let start = number(table, Key::WindowStart, 0, 999_999, None)?;
-    let length = number(table, Key::WindowLength, 1, 1_000_000, None)?;
-    let items = rule_items(table)?;
-    let filter = MacList::new(alloc);
-    let kind = Kind::Fec {
-        pid,
-        rows,
-        parity: parity as u8,
-        window: Some((start, length)),
-    };
-    finish(alloc, place, table, name, kind, items, filter)
-}
-
 /// Reads a GSE service, which alone may have urgent rules.
 #[tactic(auto, using(settings_keys::proofs::KeyLemmas::first_here, settings_keys::proofs::KeyLemmas::first_later, crate::proofs::KeyLemmas::error_here, crate::proofs::KeyLemmas::error_later))]
 fn gse(alloc: Global, place: u8, table: &Table) -> Result<ServiceDraft, PlanError>
@@ -207,18 +156,49 @@ fn gse(alloc: Global, place: u8, table: &Table) -> Result<ServiceDraft, PlanErro
     })
 }
 
+/// The keys of a service with frames, by its mode.
+fn fec_keys(sliced: bool) -> &'static [Key]
+    ensures { map key_text result.now ≡ map (λ (rule : KeyRule). rule.name) (mode_keys sliced) }
+{
+    if sliced { &SLICED_KEYS } else { &INDEXED_KEYS }
+}
+
+/// Reads the window, which sliced frames alone have.
+#[tactic(auto, using(settings_keys::proofs::KeyLemmas::first_here, settings_keys::proofs::KeyLemmas::first_later))]
+fn window(table: &Table, sliced: bool) -> Result<Option<(u32, u32)>, PlanFault>
+    ensures read { Answers result (keys_fault (window_keys_of sliced) (table_view table.now)) (IsWindowOf (table_view table.now) sliced) }
+{
+    if !sliced {
+        return Ok(None);
+    }
+    let start = number(table, Key::WindowStart, 0, 999_999, None)?;
+    let length = number(table, Key::WindowLength, 1, 1_000_000, None)?;
+    Ok(Some((start, length)))
+}
+
 /// Reads a service with frames.
-#[tactic(auto, using(settings_keys::proofs::KeyLemmas::first_here))]
+#[tactic(auto, using(settings_keys::proofs::KeyLemmas::first_here, settings_keys::proofs::KeyLemmas::first_later, crate::proofs::KeyLemmas::keys_here, crate::proofs::KeyLemmas::keys_later, crate::proofs::ServiceLemmas::mode_later, crate::proofs::ServiceLemmas::sliced_said))]
 fn fec(alloc: Global, place: u8, table: &Table) -> Result<ServiceDraft, PlanError>
     requires word { kind_text (table_view table.now) ≡ codes "fec" }
     requires kind { key_fault kind_key (table_view table.now) ≡ None }
     ensures read { AnswersOrWants result (fec_fault (table_view table.now)) (IsServiceOf (table_view table.now) place) }
 {
-    let mode = word(table, Key::Mode, "indexed")?;
-    if mode == "sliced" {
-        return sliced(alloc, place, table);
-    }
-    indexed(alloc, place, table)
+    let sliced = word(table, Key::Mode, "indexed")? == "sliced";
+    refuse_unknown(table, fec_keys(sliced))?;
+    let name = name_text(table)?;
+    let pid = pid(table)?;
+    let rows = rows(table)?;
+    let parity = number(table, Key::Parity, 1, 64, Some(64))?;
+    let window = window(table, sliced)?;
+    let items = rule_items(table)?;
+    let filter = MacList::new(alloc);
+    let kind = Kind::Fec {
+        pid,
+        rows,
+        parity: parity as u8,
+        window,
+    };
+    finish(alloc, place, table, name, kind, items, filter)
 }
 
 /// Reads a service at a place of the list.
