@@ -1,12 +1,11 @@
 -- What is written of a stream, by the plan's carrier.
 use Rattle.std.proofs.Common.{◌≡◌, ℕ, true, false, List, Option, Result, Ok, Err}
 use Rattle.plan_spec.specs.Plan.{PlanFields, is_baseband}
+use Rattle.datagram_routing.specs.declared.faults.MuxFault.{MuxFault}
 use Rattle.bb_mux.specs.Sending.{WritesBaseband}
-use Rattle.bb_mux.specs.declared.sending.StreamFault.{StreamFault}
 use Rattle.carrier_law.proofs.Cases.{in_frames, in_records}
 use Rattle.ts_mux.specs.Sending.{WritesPackets}
 use Rattle.ts_mux.specs.declared.sending.Sent.{Sent}
-use Rattle.ts_mux.specs.declared.sending.MuxFault.{MuxFault}
 use Rattle.mux_core.specs.Sending.{WritesStream}
 
 -- of transport packets
@@ -21,7 +20,7 @@ writes_packets plan datagrams result old new is wrote = record {
 
 -- of baseband frames: all of them, or a prefix
 pub writes_frames : (plan : PlanFields) (datagrams : ℕ → ℕ → List (List ℕ)) (frames datagram_count : ℕ) (old new : Option (List ℕ)) → is_baseband plan ≡ true
-    → WritesBaseband {E = StreamFault} plan datagrams (Ok frames) old new → WritesStream plan datagrams (Ok (record { packets = frames; datagrams = datagram_count })) old new
+    → WritesBaseband {E = MuxFault} plan datagrams (Ok frames) old new → WritesStream plan datagrams (Ok (record { packets = frames; datagrams = datagram_count })) old new
 writes_frames plan datagrams frames datagram_count old new is wrote = record {
   pieces = wrote.frames;
   stream = in_frames plan datagrams wrote.frames is wrote.stream;
@@ -29,9 +28,9 @@ writes_frames plan datagrams frames datagram_count old new is wrote = record {
   packets = wrote.count;
 }
 
-pub writes_front : (plan : PlanFields) (datagrams : ℕ → ℕ → List (List ℕ)) {fault : StreamFault} (answer : MuxFault) (old new : Option (List ℕ)) → is_baseband plan ≡ true
-    → WritesBaseband plan datagrams (Err fault) old new → WritesStream plan datagrams (Err answer) old new
-writes_front plan datagrams {fault} answer old new is wrote = record {
+pub writes_front : (plan : PlanFields) (datagrams : ℕ → ℕ → List (List ℕ)) (fault : MuxFault) (old new : Option (List ℕ)) → is_baseband plan ≡ true
+    → WritesBaseband plan datagrams (Err fault) old new → WritesStream plan datagrams (Err fault) old new
+writes_front plan datagrams fault old new is wrote = record {
   pieces = wrote.frames;
   stream = in_frames plan datagrams wrote.frames is wrote.stream;
   written = wrote.written;

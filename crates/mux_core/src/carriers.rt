@@ -1,22 +1,20 @@
 //! What was offered to the services of a plan -> their stream, by the plan's carrier: transport packets, or baseband frames.
-ghost use Rattle.std.specs.Prelude.{◌≡◌, ◌≤◌, true, IfOk, IsErrOf};
-ghost use Rattle.wire_spec.specs.Causes.{Rose};
-ghost use Rattle.wire_spec.specs.Content.{Stays};
+ghost use Rattle.std.specs.Prelude.{◌≡◌, true, IfOk};
 ghost use Rattle.plan_spec.specs.Plan.{is_baseband};
 ghost use Rattle.plan_spec.specs.Offered.{Records, offered_in};
 ghost use Rattle.plan.specs.PlanView.{plan_fields};
 ghost use Rattle.datagram_routing.specs.Offering.{IsOffered, IsUnderPlan};
+ghost use Rattle.datagram_routing.specs.Leaving.{LeavesSink};
 ghost use Rattle.ts_mux.specs.Sending.{datagram_count};
 ghost use Rattle.mux_core.specs.Sending.{WritesStream};
-ghost use Rattle.ts_mux.specs.declared.sending.MuxFault.TheVariants.{Sink as SinkFault, OutOfMemory as NoMemory};
 
-use bb_mux::{StreamFault, stream_frames};
+use bb_mux::stream_frames;
 use carrier_law::a_plan_of_transport_packets_has_pids;
-use datagram_routing::{Offered, nothing_is_left_out};
+use datagram_routing::{MuxFault, Offered, nothing_is_left_out};
 use ipe_io::Sink;
 use plan::Plan;
 use std::alloc::Global;
-use ts_mux::{MuxFault, Sent, count_datagrams, stream_packets};
+use ts_mux::{Sent, count_datagrams, stream_packets};
 
 /// Writes the stream of what was offered under the plan. In transport packets: the packets of its services in rotation or, with time slicing,
 /// in bursts, and in each cycle of slots those of the INT first. In baseband frames: the frames of its services in rotation, one frame each.
@@ -32,11 +30,7 @@ pub fn stream<K: Sink>(
     ensures written { (gives : Records) → IsOffered (plan_fields plan.now) gives offered.now
         → WritesStream (plan_fields plan.now) (offered_in (plan_fields plan.now) gives) result (K.told sink.old).held (K.told sink.new).held }
     ensures datagrams { IfOk result (λ sent. sent.datagrams ≡ datagram_count offered.now.lists) }
-    ensures sink { IsErrOf result SinkFault → Rose (K.told sink.old).faults (K.told sink.new).faults }
-    ensures memory { IsErrOf result NoMemory → sink.new ≡ sink.old }
-    ensures later { (K.told sink.old).faults ≤ (K.told sink.new).faults }
-    ensures kept { ¬ IsErrOf result SinkFault → (K.told sink.new).faults ≡ (K.told sink.old).faults }
-    ensures flushed { Stays (K.told sink.old).flushed (K.told sink.new).flushed }
+    ensures leaves { LeavesSink result (K.told sink.old) (K.told sink.new) (sink.new ≡ sink.old) }
 {
     a_plan_of_transport_packets_has_pids();
     match plan.frame_bytes {
@@ -57,17 +51,12 @@ fn stream_in_frames<K: Sink>(
     ensures written { (gives : Records) → IsOffered (plan_fields plan.now) gives offered.now
         → WritesStream (plan_fields plan.now) (offered_in (plan_fields plan.now) gives) result (K.told sink.old).held (K.told sink.new).held }
     ensures datagrams { IfOk result (λ sent. sent.datagrams ≡ datagram_count offered.now.lists) }
-    ensures sink { IsErrOf result SinkFault → Rose (K.told sink.old).faults (K.told sink.new).faults }
-    ensures memory { IsErrOf result NoMemory → sink.new ≡ sink.old }
-    ensures later { (K.told sink.old).faults ≤ (K.told sink.new).faults }
-    ensures kept { ¬ IsErrOf result SinkFault → (K.told sink.new).faults ≡ (K.told sink.old).faults }
-    ensures flushed { Stays (K.told sink.old).flushed (K.told sink.new).flushed }
+    ensures leaves { LeavesSink result (K.told sink.old) (K.told sink.new) (sink.new ≡ sink.old) }
 {
     nothing_is_left_out();
     let datagrams = count_datagrams(&offered.lists);
     match stream_frames(alloc, plan, offered, sink) {
         Ok(packets) => Ok(Sent { packets, datagrams }),
-        Err(StreamFault::Sink) => Err(MuxFault::Sink),
-        Err(StreamFault::OutOfMemory) => Err(MuxFault::OutOfMemory),
+        Err(fault) => Err(fault),
     }
 }

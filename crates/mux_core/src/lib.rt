@@ -7,5 +7,5 @@
 mod carriers;
 
 pub use carriers::stream;
-pub use datagram_routing::{Lists, Offered};
-pub use ts_mux::{MuxFault, Sent};
+pub use datagram_routing::{Lists, MuxFault, Offered};
+pub use ts_mux::Sent;

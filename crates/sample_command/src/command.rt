@@ -7,7 +7,7 @@ ghost use Rattle.plan_spec.specs.Offered.{Records, offered_in};
 ghost use Rattle.plan.specs.PlanView.{plan_fields};
 ghost use Rattle.ipe_io.specs.Counts.{IsFlushed};
 ghost use Rattle.datagram_routing.specs.Offering.{IsOffered, IsUnderPlan};
-ghost use Rattle.ts_mux.specs.declared.sending.MuxFault.TheVariants.{Sink as SinkFault, OutOfMemory as NoMemory};
+ghost use Rattle.datagram_routing.specs.declared.faults.MuxFault.TheVariants.{Sink as SinkFault, OutOfMemory as NoMemory};
 ghost use Rattle.sample_spec.specs.Summary.{IsSummary};
 ghost use Rattle.sample_command.specs.Numbers.{HoldsStream};
 

@@ -11,7 +11,7 @@ use Rattle.datagram_routing.specs.declared.offered.Offered.{Offered}
 use Rattle.mux_core.specs.Sending.{WritesStream}
 use Rattle.ts_mux.specs.Sending.{datagram_count}
 use Rattle.ts_mux.specs.declared.sending.Sent.{Sent}
-use Rattle.ts_mux.specs.declared.sending.MuxFault.{MuxFault}
+use Rattle.datagram_routing.specs.declared.faults.MuxFault.{MuxFault}
 use Rattle.send_command.specs.Writing.{WritesAll, WritesFront}
 use Rattle.send_command.specs.declared.ends.Tally.{Tally}
 use Rattle.send_command.proofs.Counts.{tally_is}

@@ -5,7 +5,7 @@ use Rattle.wire_spec.specs.Lists.{joined}
 use Rattle.plan_spec.specs.Plan.{PlanFields}
 use Rattle.plan_spec.specs.Offered.{Records, offered_in}
 use Rattle.carrier_spec.specs.Stream.{IsSentStream}
-use Rattle.ts_mux.specs.declared.sending.MuxFault.{MuxFault}
+use Rattle.datagram_routing.specs.declared.faults.MuxFault.{MuxFault}
 use Rattle.send_command.specs.Tally.{IsTally}
 use Rattle.send_command.specs.declared.ends.Tally.{Tally}
 

@@ -6,7 +6,7 @@ ghost use Rattle.ipe_io.specs.Counts.{IsFlushed};
 ghost use Rattle.plan.specs.PlanView.{plan_fields};
 ghost use Rattle.plan_spec.specs.Offered.{Records};
 ghost use Rattle.datagram_routing.specs.Offering.{IsOffered, IsUnderPlan};
-ghost use Rattle.ts_mux.specs.declared.sending.MuxFault.TheVariants.{Sink as SinkFault, OutOfMemory as NoMemory};
+ghost use Rattle.datagram_routing.specs.declared.faults.MuxFault.TheVariants.{Sink as SinkFault, OutOfMemory as NoMemory};
 ghost use Rattle.send_command.specs.Writing.{Writes};
 
 use crate::ends::Tally;

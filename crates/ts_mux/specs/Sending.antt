@@ -7,7 +7,7 @@ use Rattle.stream_spec.specs.Stream.{IsStream}
 use Rattle.ts_mux.specs.PartUnits.{MadeUnits, AreUnitsOf}
 use Rattle.ts_mux.specs.Services.{frames_before}
 use Rattle.ts_mux.specs.declared.sending.Sent.{Sent}
-use Rattle.ts_mux.specs.declared.sending.MuxFault.{MuxFault}
+use Rattle.datagram_routing.specs.declared.faults.MuxFault.{MuxFault}
 
 -- a call wrote the stream of transport packets of these datagrams, by version and service: all of it at Ok, with the number of its packets,
 -- and a prefix at Err

@@ -14,6 +14,14 @@ use Rattle.ts_mux.specs.Services.{Serving, AreAt, Bursts, no_bursts, bursts_of, 
 use Rattle.ts_mux.specs.IntPackets.{IsTableAt}
 use Rattle.ts_mux.specs.declared.int_packets.IntPackets.{IntPackets}
 
+-- the bytes with which a batch is full: 1,024 packets
+abbrev pub full_batch : ℕ
+full_batch = 192512
+
+-- the bytes for which a batch has room: those, and the longest record, of 196
+abbrev pub batch_room : ℕ
+batch_room = 192708
+
 -- how far the services are in their rotation before a slot
 abbrev pub turns_in : PartFields → ℕ → Turns
 turns_in part slot = turns_at (kept_in part) (turn_counts (kinds part.plan) (service_packets part)) slot

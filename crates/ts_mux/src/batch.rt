@@ -22,12 +22,13 @@ pub(crate) struct Batch {
 
 impl Model for Batch {
     ghost use Rattle.std.specs.Prelude.{◌≡◌, ◌≤◌, ℕ, List, length, take};
+    ghost use Rattle.ts_mux.specs.Slots.{batch_room};
 
     ghost Value = { List ℕ };
 
     ghost view = { λ b. take b.fill b.buffer.items };
 
-    ghost invariant = { λ b. (b.fill ≤ length b.buffer.items) × (length b.buffer.items ≡ 192708) };
+    ghost invariant = { λ b. (b.fill ≤ length b.buffer.items) × (length b.buffer.items ≡ batch_room) };
 }
 
 impl Batch {
@@ -37,7 +38,7 @@ impl Batch {
     ghost use Rattle.plan.specs.PlanView.{plan_fields};
     ghost use Rattle.stream_spec.specs.Parts.{PartFields};
     ghost use Rattle.ts_mux.specs.Services.{turn_of};
-    ghost use Rattle.ts_mux.specs.Slots.{StandBefore, StandInPart, AddsRecord, Hands};
+    ghost use Rattle.ts_mux.specs.Slots.{StandBefore, StandInPart, AddsRecord, Hands, full_batch};
 
     /// Takes memory for the records; there are none yet.
     pub(crate) fn new(alloc: Global) -> Result<Batch, OutOfMemory>
@@ -59,7 +60,7 @@ impl Batch {
         table: &mut IntPackets<'_>,
         slot: u64,
     )
-        requires room { length self.old ≤ 192512 }
+        requires room { length self.old ≤ full_batch }
         requires stand { StandInPart (plan_fields plan.now) slot services.old table.old }
         requires turn { turn_of services.old ≡ turn }
         ensures added { (part : PartFields) (place : ℕ) → StandBefore (plan_fields plan.now) part place slot services.old table.old
@@ -85,7 +86,7 @@ impl Batch {
     /// Appends all records to the sink where the batch is full. On `Failed` a prefix of them was appended.
     pub(crate) fn put_full<K: Sink>(&mut self, sink: &mut K) -> Result<(), Failed>
         ensures handed { Hands result (K.told sink.old).held (K.told sink.new).held self.old self.new }
-        ensures room { OnOk result (length self.new ≤ 192512) }
+        ensures room { OnOk result (length self.new ≤ full_batch) }
         ensures flushed { Stays (K.told sink.old).flushed (K.told sink.new).flushed }
         ensures cause { HasCause (K.told sink.old).faults (K.told sink.new).faults result }
     {

@@ -18,5 +18,6 @@ mod stamps;
 mod unit_bytes;
 mod units;
 
+pub use datagram_routing::MuxFault;
 pub use plan_int::int_section;
-pub use sending::{MuxFault, Sent, count_datagrams, stream_packets};
+pub use sending::{Sent, count_datagrams, stream_packets};

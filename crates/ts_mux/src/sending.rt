@@ -1,23 +1,24 @@
 //! What was offered to the services of a plan of transport packets -> the records of their stream.
-ghost use Rattle.std.specs.Prelude.{◌≡◌, ℕ, ◌≤◌, ◌<◌, ◌^◌, ◌+◌, List, [], get_or, All, true, length, sum_by, IfOk, IsErrOf};
-ghost use Rattle.wire_spec.specs.Causes.{Rose};
+ghost use Rattle.std.specs.Prelude.{◌≡◌, ℕ, ◌≤◌, ◌<◌, ◌^◌, ◌+◌, List, [], get_or, All, true, length, sum_by, IfOk};
 ghost use Rattle.wire_spec.specs.Content.{Stays};
 ghost use Rattle.plan_spec.specs.Offered.{Records, offered_in};
 ghost use Rattle.plan.specs.PlanView.{plan_fields};
 ghost use Rattle.datagram_routing.specs.Offering.{IsOffered, IsUnderPlan};
+ghost use Rattle.datagram_routing.specs.Leaving.{LeavesSink};
 ghost use Rattle.wire_spec.specs.Causes.{HasCause};
 ghost use Rattle.stream_spec.specs.Parts.{PartFields};
 ghost use Rattle.ts_mux.specs.Services.{packet_total, AreTaken, HasLists, Begins};
 ghost use Rattle.ts_mux.specs.Sending.{WritesPackets, WritesRecords, AreUnits, AreDatagrams, datagram_count};
 ghost use Rattle.stream_spec.specs.Stream.{are_on_pids};
-ghost use Rattle.ts_mux.specs.declared.sending.MuxFault.TheVariants.{Sink as SinkFault, OutOfMemory as NoMemory};
 
 use crate::batch::Batch;
 use crate::int_packets::IntPackets;
 use crate::part_units::PartUnits;
 use crate::services::Services;
 use crate::slots::put_slots;
-use datagram_routing::{Lists, Offered, each_datagram_is_for_its_service, nothing_is_left_out};
+use datagram_routing::{
+    Lists, MuxFault, Offered, each_datagram_is_for_its_service, nothing_is_left_out,
+};
 use ipe_io::{Failed, Sink};
 use plan::Plan;
 use std::alloc::{AllocError as OutOfMemory, Global};
@@ -30,26 +31,6 @@ pub struct Sent {
     pub packets: u64,
     /// The datagrams of all services.
     pub datagrams: u32,
-}
-
-/// Why a stream was not sent whole.
-#[derive(Clone, Copy, Debug, PartialEq, Eq)]
-pub enum MuxFault {
-    /// The sink has failed.
-    Sink,
-    /// Out of memory.
-    OutOfMemory,
-}
-
-impl From<OutOfMemory> for MuxFault {
-    ghost use Rattle.std.specs.Prelude.{◌≡◌};
-    ghost use Rattle.ts_mux.specs.declared.sending.MuxFault.TheVariants as fault;
-
-    ghost from_gives = { λ _ e. e ≡ fault.OutOfMemory };
-
-    fn from(_error: OutOfMemory) -> MuxFault {
-        MuxFault::OutOfMemory
-    }
 }
 
 /// How many datagrams all services have in a version.
@@ -170,11 +151,7 @@ pub fn stream_packets<K: Sink>(
     ensures written { (gives : Records) → IsOffered (plan_fields plan.now) gives offered.now
         → WritesPackets (plan_fields plan.now) (offered_in (plan_fields plan.now) gives) result (K.told sink.old).held (K.told sink.new).held }
     ensures datagrams { IfOk result (λ sent. sent.datagrams ≡ datagram_count offered.now.lists) }
-    ensures sink { IsErrOf result SinkFault → Rose (K.told sink.old).faults (K.told sink.new).faults }
-    ensures memory { IsErrOf result NoMemory → sink.new ≡ sink.old }
-    ensures later { (K.told sink.old).faults ≤ (K.told sink.new).faults }
-    ensures kept { ¬ IsErrOf result SinkFault → (K.told sink.new).faults ≡ (K.told sink.old).faults }
-    ensures flushed { Stays (K.told sink.old).flushed (K.told sink.new).flushed }
+    ensures leaves { LeavesSink result (K.told sink.old) (K.told sink.new) (sink.new ≡ sink.old) }
 {
     there_is_one_stream();
     each_datagram_is_for_its_service();

@@ -4,7 +4,7 @@ ghost use Rattle.wire_spec.specs.Causes.{HasCause};
 ghost use Rattle.wire_spec.specs.Content.{Stays};
 ghost use Rattle.plan.specs.PlanView.{plan_fields};
 ghost use Rattle.stream_spec.specs.Parts.{PartFields};
-ghost use Rattle.ts_mux.specs.Slots.{StandBefore, IsFew, IsOver, AreHanded, WritesSlots, FillsCycle};
+ghost use Rattle.ts_mux.specs.Slots.{StandBefore, IsFew, IsOver, AreHanded, WritesSlots, FillsCycle, full_batch};
 
 use crate::batch::Batch;
 use crate::int_packets::IntPackets;
@@ -23,10 +23,10 @@ fn put_packets<K: Sink>(
     sink: &mut K,
 ) -> Result<u64, Failed>
     requires stand { (part : PartFields) × StandBefore (plan_fields plan.now) part 0 first services.old table.old × IsFew part first }
-    requires room { length batch.old ≤ 192512 }
+    requires room { length batch.old ≤ full_batch }
     ensures written { (part : PartFields) → StandBefore (plan_fields plan.now) part 0 first services.old table.old
         → WritesSlots (plan_fields plan.now) part false result (K.told sink.old).held (K.told sink.new).held batch.old batch.new services.new table.new }
-    ensures room { OnOk result (length batch.new ≤ 192512) }
+    ensures room { OnOk result (length batch.new ≤ full_batch) }
     ensures behind { services.new.behind ≡ services.old.behind }
     ensures flushed { Stays (K.told sink.old).flushed (K.told sink.new).flushed }
     ensures cause { HasCause (K.told sink.old).faults (K.told sink.new).faults result }
@@ -53,10 +53,10 @@ pub(crate) fn put_slots<K: Sink>(
     sink: &mut K,
 ) -> Result<u64, Failed>
     requires stand { (part : PartFields) × StandBefore (plan_fields plan.now) part 0 first services.old table.old × IsFew part first }
-    requires room { length batch.old ≤ 192512 }
+    requires room { length batch.old ≤ full_batch }
     ensures written { (part : PartFields) → StandBefore (plan_fields plan.now) part 0 first services.old table.old
         → WritesSlots (plan_fields plan.now) part fills result (K.told sink.old).held (K.told sink.new).held batch.old batch.new services.new table.new }
-    ensures room { OnOk result (length batch.new ≤ 192512) }
+    ensures room { OnOk result (length batch.new ≤ full_batch) }
     ensures behind { services.new.behind ≡ services.old.behind }
     ensures flushed { Stays (K.told sink.old).flushed (K.told sink.new).flushed }
     ensures cause { HasCause (K.told sink.old).faults (K.told sink.new).faults result }
@@ -79,12 +79,12 @@ fn fill_cycle<K: Sink>(
     sink: &mut K,
 ) -> Result<u64, Failed>
     requires stand { (part : PartFields) × (place : ℕ) × StandBefore (plan_fields plan.now) part place from services.old table.old × IsOver part place }
-    requires room { length batch.old ≤ 192512 }
+    requires room { length batch.old ≤ full_batch }
     requires few { from + 1000000 < 2 ^ 64 }
     ensures filled { (part : PartFields) (place : ℕ) (held : Option (List ℕ)) (before : List ℕ) → StandBefore (plan_fields plan.now) part place from services.old table.old
         → AreHanded part place held (K.told sink.old).held before batch.old
         → FillsCycle (plan_fields plan.now) part place result held (K.told sink.new).held before batch.new services.new table.new }
-    ensures room { OnOk result (length batch.new ≤ 192512) }
+    ensures room { OnOk result (length batch.new ≤ full_batch) }
     ensures behind { services.new.behind ≡ services.old.behind }
     ensures flushed { Stays (K.told sink.old).flushed (K.told sink.new).flushed }
     ensures cause { HasCause (K.told sink.old).faults (K.told sink.new).faults result }

@@ -4,7 +4,6 @@ use Rattle.plan_spec.specs.Offered.{offered_in}
 use Rattle.plan.specs.PlanView.{plan_fields}
 use Rattle.stream_law.proofs.Plans.{few_services}
 use Rattle.stream_law.proofs.Wholes.{few_changes}
-use Rattle.ts_mux.specs.declared.sending.MuxFault.TheVariants as fault
 use Rattle.ts_mux.specs.Sending.{datagram_count}
 use Rattle.ts_mux.proofs.Streamed.{few_lists, length-offered}
 use Rattle.mux_core.proofs.ByCarrier.{writes_frames, writes_front}
@@ -35,14 +34,8 @@ returns-in-Ok-clause-written g c = λ gives stands.
     writes_frames plan (offered_in plan gives) c.in-Ok.packets c.count_datagrams-datagrams.result (g.K.Sink.told c.args.sink.now).held (g.K.Sink.told c.stream_frames.new.sink).held c.requires.carrier
     (c.in-Ok.ensures.written gives stands)
 
-pub returns-in-Err-Sink-clause-written : goal.returns-in-Err-Sink-clause-written
-returns-in-Err-Sink-clause-written g c = λ gives stands.
+pub returns-in-Err-clause-written : goal.returns-in-Err-clause-written
+returns-in-Err-clause-written g c = λ gives stands.
     let plan : PlanFields = plan_fields c.args.plan.now in
-    writes_front plan (offered_in plan gives) fault.Sink (g.K.Sink.told c.args.sink.now).held (g.K.Sink.told c.stream_frames.new.sink).held c.requires.carrier
-    (c.in-Err-Sink.ensures.written gives stands)
-
-pub returns-in-Err-OutOfMemory-clause-written : goal.returns-in-Err-OutOfMemory-clause-written
-returns-in-Err-OutOfMemory-clause-written g c = λ gives stands.
-    let plan : PlanFields = plan_fields c.args.plan.now in
-    writes_front plan (offered_in plan gives) fault.OutOfMemory (g.K.Sink.told c.args.sink.now).held (g.K.Sink.told c.stream_frames.new.sink).held c.requires.carrier
-    (c.in-Err-OutOfMemory.ensures.written gives stands)
+    writes_front plan (offered_in plan gives) c.in-Err.fault (g.K.Sink.told c.args.sink.now).held (g.K.Sink.told c.stream_frames.new.sink).held c.requires.carrier
+    (c.in-Err.ensures.written gives stands)

@@ -4,6 +4,7 @@ use Rattle.wire_spec.specs.Content.{Stays}
 use Rattle.plan.specs.PlanView.{plan_fields}
 use Rattle.ts_mux.specs.Services.{left_in}
 use Rattle.ts_mux.specs.Sending.{AreDatagrams}
+use Rattle.ts_mux.specs.Slots.{full_batch}
 use Rattle.ts_mux.proofs.Parted.{IsBehind}
 use Rattle.ts_mux.proofs.Staged.{slots_of}
 use Rattle.ts_mux.proofs.sending.put_parts.Given as goal
@@ -15,7 +16,7 @@ invariant-loop-version g l = record {
       (g.K.Sink.told l.fn.sink).held (g.K.Sink.told l.sink).held l.batch l.services l.table;
   few : l.slot ≤ l.version * 400000000000000000;
   out : left_in l.services ≡ 0;
-  room : length l.batch ≤ 192512;
+  room : length l.batch ≤ full_batch;
   flushed : Stays (g.K.Sink.told l.fn.sink).flushed (g.K.Sink.told l.sink).flushed;
   same : (g.K.Sink.told l.sink).faults ≡ (g.K.Sink.told l.fn.sink).faults;
 }

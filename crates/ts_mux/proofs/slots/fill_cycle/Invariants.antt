@@ -4,7 +4,7 @@ use Rattle.wire_spec.specs.Content.{Stays}
 use Rattle.plan.specs.PlanView.{plan_fields}
 use Rattle.stream_spec.specs.Parts.{PartFields}
 use Rattle.stream_spec.specs.Stream.{whole_cycles}
-use Rattle.ts_mux.specs.Slots.{StandBefore, AreHanded}
+use Rattle.ts_mux.specs.Slots.{StandBefore, AreHanded, full_batch}
 use Rattle.ts_mux.proofs.slots.fill_cycle.Given as goal
 
 abbrev pub invariant-loop-slot : goal.invariant-loop-slot
@@ -15,7 +15,7 @@ invariant-loop-slot g l = record {
       → AreHanded part place held (g.K.Sink.told l.fn.sink).held before l.fn.batch → AreHanded part (place + (l.slot - l.from)) held (g.K.Sink.told l.sink).held before l.batch;
   from : l.from ≤ l.slot;
   most : l.slot ≤ whole_cycles l.plan.cycle l.from;
-  room : length l.batch ≤ 192512;
+  room : length l.batch ≤ full_batch;
   behind : l.services.behind ≡ l.fn.services.behind;
   flushed : Stays (g.K.Sink.told l.fn.sink).flushed (g.K.Sink.told l.sink).flushed;
   same : (g.K.Sink.told l.sink).faults ≡ (g.K.Sink.told l.fn.sink).faults;

@@ -3,7 +3,7 @@ use Rattle.std.proofs.Common.{◌≡◌, ◌-◌, ◌^◌, ◌≤◌, length}
 use Rattle.wire_spec.specs.Content.{Stays}
 use Rattle.plan.specs.PlanView.{plan_fields}
 use Rattle.stream_spec.specs.Parts.{PartFields}
-use Rattle.ts_mux.specs.Slots.{StandBefore}
+use Rattle.ts_mux.specs.Slots.{StandBefore, full_batch}
 use Rattle.ts_mux.proofs.Ended.{IsUnderWay}
 use Rattle.ts_mux.proofs.slots.put_packets.Given as goal
 
@@ -12,7 +12,7 @@ invariant-loop-turn g l = record {
   under_way : (part : PartFields) → StandBefore (plan_fields l.plan) part 0 l.first l.fn.services l.fn.table
       → IsUnderWay (plan_fields l.plan) part (l.slot - l.first) l.slot (g.K.Sink.told l.fn.sink).held (g.K.Sink.told l.sink).held l.fn.batch l.batch l.services l.table;
   from : l.first ≤ l.slot;
-  room : length l.batch ≤ 192512;
+  room : length l.batch ≤ full_batch;
   behind : l.services.behind ≡ l.fn.services.behind;
   flushed : Stays (g.K.Sink.told l.fn.sink).flushed (g.K.Sink.told l.sink).flushed;
   same : (g.K.Sink.told l.sink).faults ≡ (g.K.Sink.told l.fn.sink).faults;
