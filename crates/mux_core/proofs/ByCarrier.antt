@@ -5,7 +5,7 @@ use Rattle.datagram_routing.specs.declared.faults.MuxFault.{MuxFault}
 use Rattle.bb_mux.specs.Sending.{WritesBaseband}
 use Rattle.carrier_law.proofs.Cases.{in_frames, in_records}
 use Rattle.ts_mux.specs.Sending.{WritesPackets}
-use Rattle.ts_mux.specs.declared.sending.Sent.{Sent}
+use Rattle.datagram_routing.specs.declared.sent.Sent.{Sent}
 use Rattle.mux_core.specs.Sending.{WritesStream}
 
 -- of transport packets

@@ -4,7 +4,7 @@ use Rattle.wire_spec.specs.Lists.{joined}
 use Rattle.wire_spec.specs.Content.{Puts}
 use Rattle.plan_spec.specs.Plan.{PlanFields}
 use Rattle.carrier_spec.specs.Stream.{IsSentStream}
-use Rattle.ts_mux.specs.declared.sending.Sent.{Sent}
+use Rattle.datagram_routing.specs.declared.sent.Sent.{Sent}
 use Rattle.datagram_routing.specs.declared.faults.MuxFault.{MuxFault}
 
 -- a call wrote the stream of these datagrams, by version and service: all of it at Ok, with the number of its packets or frames, and a

@@ -3,18 +3,17 @@ ghost use Rattle.std.specs.Prelude.{◌≡◌, true, IfOk};
 ghost use Rattle.plan_spec.specs.Plan.{is_baseband};
 ghost use Rattle.plan_spec.specs.Offered.{Records, offered_in};
 ghost use Rattle.plan.specs.PlanView.{plan_fields};
-ghost use Rattle.datagram_routing.specs.Offering.{IsOffered, IsUnderPlan};
+ghost use Rattle.datagram_routing.specs.Offering.{IsOffered, IsUnderPlan, datagram_count};
 ghost use Rattle.datagram_routing.specs.Leaving.{LeavesSink};
-ghost use Rattle.ts_mux.specs.Sending.{datagram_count};
 ghost use Rattle.mux_core.specs.Sending.{WritesStream};
 
 use bb_mux::stream_frames;
 use carrier_law::a_plan_of_transport_packets_has_pids;
-use datagram_routing::{MuxFault, Offered, nothing_is_left_out};
+use datagram_routing::{MuxFault, Offered, Sent, nothing_is_left_out};
 use ipe_io::Sink;
 use plan::Plan;
 use std::alloc::Global;
-use ts_mux::{Sent, count_datagrams, stream_packets};
+use ts_mux::{count_datagrams, stream_packets};
 
 /// Writes the stream of what was offered under the plan. In transport packets: the packets of its services in rotation or, with time slicing,
 /// in bursts, and in each cycle of slots those of the INT first. In baseband frames: the frames of its services in rotation, one frame each.

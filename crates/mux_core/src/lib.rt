@@ -7,5 +7,4 @@
 mod carriers;
 
 pub use carriers::stream;
-pub use datagram_routing::{Lists, MuxFault, Offered};
-pub use ts_mux::Sent;
+pub use datagram_routing::{Lists, MuxFault, Offered, Sent};

@@ -8,7 +8,7 @@ use Rattle.datagram_routing.specs.Offering.{IsOffered}
 use Rattle.datagram_routing.specs.declared.offered.Offered.{Offered}
 use Rattle.datagram_routing.proofs.Ranges.{sum_from, sum_by-range, sum_from-same}
 use Rattle.datagram_routing.proofs.Sums.{given, in_version, in_all, all_counted}
-use Rattle.ts_mux.specs.Sending.{datagram_count}
+use Rattle.datagram_routing.specs.Offering.{datagram_count}
 use Rattle.send_command.specs.Tally.{is_taken_by, is_taken, taken_count, offered_count, IsTally}
 use Rattle.send_command.specs.declared.ends.Tally.{Tally}
 

@@ -9,8 +9,8 @@ use Rattle.plan_spec.specs.Offered.{Records, offered_in}
 use Rattle.datagram_routing.specs.Offering.{IsOffered}
 use Rattle.datagram_routing.specs.declared.offered.Offered.{Offered}
 use Rattle.mux_core.specs.Sending.{WritesStream}
-use Rattle.ts_mux.specs.Sending.{datagram_count}
-use Rattle.ts_mux.specs.declared.sending.Sent.{Sent}
+use Rattle.datagram_routing.specs.Offering.{datagram_count}
+use Rattle.datagram_routing.specs.declared.sent.Sent.{Sent}
 use Rattle.datagram_routing.specs.declared.faults.MuxFault.{MuxFault}
 use Rattle.send_command.specs.Writing.{WritesAll, WritesFront}
 use Rattle.send_command.specs.declared.ends.Tally.{Tally}

@@ -16,7 +16,7 @@ use Rattle.stream_spec.specs.Stream.{frame_count_in}
 use Rattle.stream_law.proofs.Kept.{kind_of_version, frame_count_kept}
 use Rattle.stream_law.proofs.Ranges.{sum_next}
 use Rattle.ts_mux.specs.Services.{listed, frames_before}
-use Rattle.ts_mux.specs.Sending.{datagram_count}
+use Rattle.datagram_routing.specs.Offering.{datagram_count}
 use Rattle.ts_mux.proofs.Items.{map_at}
 
 pub item_is : {X : Type 0} (xs : List X) (i : ℕ) (x d : X) → slice_get xs i ≡ Some x → get_or xs i d ≡ x

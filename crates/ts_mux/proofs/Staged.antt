@@ -20,7 +20,8 @@ use Rattle.ts_mux.specs.IntPackets.{IsTableAt}
 use Rattle.ts_mux.specs.declared.int_packets.IntPackets.{IntPackets}
 use Rattle.ts_mux.specs.PartUnits.{MadeUnits, AreUnitsOf}
 use Rattle.ts_mux.specs.Services.{Serving, packet_total, left_in, HasLists, Begins, counter_at, frames_before}
-use Rattle.ts_mux.specs.Sending.{AreDatagrams, AreUnits, WritesRecords, datagram_count}
+use Rattle.ts_mux.specs.Sending.{AreDatagrams, AreUnits, WritesRecords}
+use Rattle.datagram_routing.specs.Offering.{datagram_count}
 use Rattle.ts_mux.proofs.Moved.{there_is as there_is_item}
 use Rattle.ts_mux.proofs.Signalled.{section_some, few_packets, part_accepted, cycle_some}
 use Rattle.ts_mux.proofs.Again.{counter_is}

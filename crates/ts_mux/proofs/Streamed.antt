@@ -24,7 +24,8 @@ use Rattle.stream_law.proofs.Ranges.{sum_same}
 use Rattle.stream_law.proofs.Kept.{part_kept}
 use Rattle.datagram_routing.specs.Offering.{lists_in, IsOffered}
 use Rattle.datagram_routing.specs.declared.offered.Offered.{Offered}
-use Rattle.ts_mux.specs.Sending.{AreDatagrams, AreUnits, datagram_count}
+use Rattle.ts_mux.specs.Sending.{AreDatagrams, AreUnits}
+use Rattle.datagram_routing.specs.Offering.{datagram_count}
 use Rattle.ts_mux.specs.PartUnits.{MadeUnits, AreUnitsOf}
 use Rattle.ts_mux.specs.Units.{AreFor}
 use Rattle.ts_mux.specs.Services.{Takes, AreTaken, HasLists, listed, frames_before}

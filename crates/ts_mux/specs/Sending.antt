@@ -1,12 +1,12 @@
 -- What is sent of what was offered.
-use Rattle.std.specs.Prelude.{◌≡◌, ℕ, ◌+◌, ◌<◌, ◌≤◌, List, [], length, sum_by, get_or, slice_get, Option, Some, Result, IfOk}
+use Rattle.std.specs.Prelude.{◌≡◌, ℕ, ◌+◌, ◌<◌, ◌≤◌, List, [], length, get_or, slice_get, Option, Some, Result, IfOk}
 use Rattle.wire_spec.specs.Lists.{joined}
 use Rattle.wire_spec.specs.Content.{Puts}
 use Rattle.plan_spec.specs.Plan.{PlanFields}
 use Rattle.stream_spec.specs.Stream.{IsStream}
 use Rattle.ts_mux.specs.PartUnits.{MadeUnits, AreUnitsOf}
 use Rattle.ts_mux.specs.Services.{frames_before}
-use Rattle.ts_mux.specs.declared.sending.Sent.{Sent}
+use Rattle.datagram_routing.specs.declared.sent.Sent.{Sent}
 use Rattle.datagram_routing.specs.declared.faults.MuxFault.{MuxFault}
 
 -- a call wrote the stream of transport packets of these datagrams, by version and service: all of it at Ok, with the number of its packets,
@@ -23,10 +23,6 @@ pub record WritesRecords {E : Type 0} (plan : PlanFields) (datagrams : ℕ → �
   pub stream : IsStream plan datagrams records
   pub written : Puts result old new (joined records)
   pub packets : IfOk result (λ n. n ≡ length records)
-
--- the datagrams of all services in all versions
-abbrev pub datagram_count : List (List (List (List ℕ))) → ℕ
-datagram_count lists = sum_by (λ (services : List (List (List ℕ))). sum_by (λ (list : List (List ℕ)). length list) services) lists
 
 -- these are listed, by version and service
 pub record AreDatagrams (plan : PlanFields) (datagrams : ℕ → ℕ → List (List ℕ)) (lists : List (List (List (List ℕ)))) : Type 0 where

@@ -20,4 +20,4 @@ mod units;
 
 pub use datagram_routing::MuxFault;
 pub use plan_int::int_section;
-pub use sending::{Sent, count_datagrams, stream_packets};
+pub use sending::{count_datagrams, stream_packets};

@@ -3,12 +3,12 @@ ghost use Rattle.std.specs.Prelude.{◌≡◌, ℕ, ◌≤◌, ◌<◌, ◌^◌,
 ghost use Rattle.wire_spec.specs.Content.{Stays};
 ghost use Rattle.plan_spec.specs.Offered.{Records, offered_in};
 ghost use Rattle.plan.specs.PlanView.{plan_fields};
-ghost use Rattle.datagram_routing.specs.Offering.{IsOffered, IsUnderPlan};
+ghost use Rattle.datagram_routing.specs.Offering.{IsOffered, IsUnderPlan, datagram_count};
 ghost use Rattle.datagram_routing.specs.Leaving.{LeavesSink};
 ghost use Rattle.wire_spec.specs.Causes.{HasCause};
 ghost use Rattle.stream_spec.specs.Parts.{PartFields};
 ghost use Rattle.ts_mux.specs.Services.{packet_total, AreTaken, HasLists, Begins};
-ghost use Rattle.ts_mux.specs.Sending.{WritesPackets, WritesRecords, AreUnits, AreDatagrams, datagram_count};
+ghost use Rattle.ts_mux.specs.Sending.{WritesPackets, WritesRecords, AreUnits, AreDatagrams};
 ghost use Rattle.stream_spec.specs.Stream.{are_on_pids};
 
 use crate::batch::Batch;
@@ -17,21 +17,12 @@ use crate::part_units::PartUnits;
 use crate::services::Services;
 use crate::slots::put_slots;
 use datagram_routing::{
-    Lists, MuxFault, Offered, each_datagram_is_for_its_service, nothing_is_left_out,
+    Lists, MuxFault, Offered, Sent, each_datagram_is_for_its_service, nothing_is_left_out,
 };
 use ipe_io::{Failed, Sink};
 use plan::Plan;
 use std::alloc::{AllocError as OutOfMemory, Global};
 use stream_law::there_is_one_stream;
-
-/// How much was sent.
-#[derive(Clone, Copy, Debug, PartialEq, Eq)]
-pub struct Sent {
-    /// The packets of the stream: one in each slot, null packets among them. Of a stream in baseband frames its frames.
-    pub packets: u64,
-    /// The datagrams of all services.
-    pub datagrams: u32,
-}
 
 /// How many datagrams all services have in a version.
 fn count_in(lists: &Lists, version: u8) -> u32

@@ -4,7 +4,7 @@ use Rattle.plan_spec.specs.Offered.{offered_in}
 use Rattle.plan.specs.PlanView.{plan_fields}
 use Rattle.stream_law.proofs.Plans.{few_services}
 use Rattle.stream_law.proofs.Wholes.{few_changes}
-use Rattle.ts_mux.specs.Sending.{datagram_count}
+use Rattle.datagram_routing.specs.Offering.{datagram_count}
 use Rattle.ts_mux.proofs.Streamed.{few_lists, length-offered}
 use Rattle.mux_core.proofs.ByCarrier.{writes_frames, writes_front}
 use Rattle.mux_core.proofs.carriers.stream_in_frames.Goals as goal

@@ -1,6 +1,6 @@
 -- What was counted and what is left are the whole.
 use Rattle.std.proofs.Common.{◌≡◌, ℕ, ◌+◌, List, length, drop, sum_by}
-use Rattle.ts_mux.specs.Sending.{datagram_count}
+use Rattle.datagram_routing.specs.Offering.{datagram_count}
 use Rattle.ts_mux.proofs.sending.count_datagrams.Given as goal
 
 abbrev pub invariant-loop-version : goal.invariant-loop-version

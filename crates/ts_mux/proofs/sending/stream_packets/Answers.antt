@@ -10,7 +10,8 @@ use Rattle.stream_spec.specs.Stream.{IsStream}
 use Rattle.stream_law.proofs.Plans.{few_services}
 use Rattle.stream_law.proofs.Wholes.{few_changes}
 use Rattle.datagram_routing.specs.declared.faults.MuxFault.{MuxFault}
-use Rattle.ts_mux.specs.Sending.{WritesPackets, datagram_count}
+use Rattle.ts_mux.specs.Sending.{WritesPackets}
+use Rattle.datagram_routing.specs.Offering.{datagram_count}
 use Rattle.ts_mux.proofs.Streamed.{all_taken, are_offered, few_lists, length-offered, services_size}
 use Rattle.ts_mux.proofs.Staged.{unit_found}
 use Rattle.ts_mux.proofs.sending.stream_packets.Goals as goal
