@@ -14,14 +14,6 @@ use Rattle.ts_mux.specs.Services.{Serving, AreAt, Bursts, no_bursts, bursts_of, 
 use Rattle.ts_mux.specs.IntPackets.{IsTableAt}
 use Rattle.ts_mux.specs.declared.int_packets.IntPackets.{IntPackets}
 
--- the bytes with which a batch is full: 1,024 packets
-abbrev pub full_batch : ℕ
-full_batch = 192512
-
--- the bytes for which a batch has room: those, and the longest record, of 196
-abbrev pub batch_room : ℕ
-batch_room = 192708
-
 -- how far the services are in their rotation before a slot
 abbrev pub turns_in : PartFields → ℕ → Turns
 turns_in part slot = turns_at (kept_in part) (turn_counts (kinds part.plan) (service_packets part)) slot
@@ -97,11 +89,6 @@ pub record WritesRecord (plan : PlanFields) (part : PartFields) (slot of_stream 
 pub record AddsRecord (plan : PlanFields) (part : PartFields) (slot of_stream : ℕ) (serving : Serving) (table : IntPackets) (old bytes : List ℕ) : Type 0 where
   pub bytes_are : bytes ≡ old ++ record_of_slot part slot
   pub after : StandBefore plan part (slot + 1) (of_stream + 1) serving table
-
--- bytes that were held back were appended: at Ok a front of them, and the others are still held back; at Err a prefix
-abbrev pub Hands : {T E : Type 0} → Result T E → Option (List ℕ) → Option (List ℕ) → List ℕ → List ℕ → Type 0
-Hands result old new before after =
-    MatchResult result (λ _. (front : List ℕ) × Appends old new front × (before ≡ front ++ after)) (λ _. (n : ℕ) × Appends old new (take n before))
 
 -- records went after those that were held back: at Ok all, and a front of all is appended, the others are held back; at Err a prefix is
 -- appended of what was to be

@@ -4,7 +4,6 @@
 //! Begin with `stream_packets`.
 #![tactic(auto)]
 
-mod batch;
 mod int_packets;
 mod part_units;
 mod plan_int;

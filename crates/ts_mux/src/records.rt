@@ -3,19 +3,18 @@ ghost use Rattle.std.specs.Prelude.{◌≡◌, ◌≤◌, ◌+◌, ℕ, length, 
 ghost use Rattle.plan.specs.PlanView.{plan_fields};
 ghost use Rattle.stream_spec.specs.Parts.{PartFields};
 ghost use Rattle.ts_mux.specs.Services.{turn_of};
-ghost use Rattle.ts_mux.specs.Slots.{is_early, StandBefore, StandInPart, TakesSlot, WritesRecord};
+ghost use Rattle.stream_batch.specs.Handing.{full_batch};
+ghost use Rattle.ts_mux.specs.Slots.{is_early, StandBefore, StandInPart, TakesSlot, WritesRecord, AddsRecord};
 
 use crate::int_packets::IntPackets;
 use crate::services::Services;
-use crate::stamps::{LONGEST_STAMP, write_stamp};
+use crate::stamps::write_stamp;
 use plan::Plan;
+use stream_batch::Batch;
 use ts_packet::write_null;
 
 /// Bytes of a packet (ISO/IEC 13818-1 clause 2.4.3.2).
-pub(crate) const PACKET: usize = 188;
-
-/// Bytes of the longest record.
-pub(crate) const LONGEST_RECORD: usize = LONGEST_STAMP + PACKET;
+const PACKET: usize = 188;
 
 /// Whether a slot carries a packet of the INT. Without an INT nothing is divided, since division is slow.
 fn is_of_table(plan: &Plan, table: &IntPackets, slot: u64) -> bool
@@ -83,7 +82,7 @@ fn put_packet(
 ///
 /// Slots count from the first of the stream. A part begins with a cycle, so that a slot has the same place in its cycle from the first
 /// of the part.
-pub(crate) fn write_record(
+fn write_record(
     plan: &Plan,
     services: &mut Services<'_>,
     turn: Option<usize>,
@@ -102,4 +101,27 @@ pub(crate) fn write_record(
     let stamp = write_stamp(plan.recording, plan.packet_rate, slot, into);
     put_packet(plan, services, turn, table, slot, &mut into[stamp..]);
     stamp + PACKET
+}
+
+/// Writes the record of a slot after the others of the batch.
+///
+/// It is inlined, so that no packet pays for a call with all of these.
+#[inline(always)]
+pub(crate) fn add_record(
+    batch: &mut Batch,
+    plan: &Plan,
+    services: &mut Services<'_>,
+    turn: Option<usize>,
+    table: &mut IntPackets<'_>,
+    slot: u64,
+)
+    requires room { length batch.old ≤ full_batch }
+    requires stand { StandInPart (plan_fields plan.now) slot services.old table.old }
+    requires turn { turn_of services.old ≡ turn }
+    ensures added { (part : PartFields) (place : ℕ) → StandBefore (plan_fields plan.now) part place slot services.old table.old
+        → AddsRecord (plan_fields plan.now) part place slot services.new table.new batch.old batch.new }
+    ensures kept { (table.new.count ≡ table.old.count) × (services.new.behind ≡ services.old.behind) }
+{
+    let into = &mut batch.buffer[batch.fill..];
+    batch.fill += write_record(plan, services, turn, table, slot, into);
 }

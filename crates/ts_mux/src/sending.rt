@@ -11,7 +11,6 @@ ghost use Rattle.ts_mux.specs.Services.{packet_total, AreTaken, HasLists, Begins
 ghost use Rattle.ts_mux.specs.Sending.{WritesPackets, WritesRecords, AreUnits, AreDatagrams};
 ghost use Rattle.stream_spec.specs.Stream.{are_on_pids};
 
-use crate::batch::Batch;
 use crate::int_packets::IntPackets;
 use crate::part_units::PartUnits;
 use crate::services::Services;
@@ -22,6 +21,7 @@ use datagram_routing::{
 use ipe_io::{Failed, Sink};
 use plan::Plan;
 use std::alloc::{AllocError as OutOfMemory, Global};
+use stream_batch::Batch;
 use stream_law::there_is_one_stream;
 
 /// How many datagrams all services have in a version.

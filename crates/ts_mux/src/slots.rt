@@ -4,13 +4,15 @@ ghost use Rattle.wire_spec.specs.Causes.{HasCause};
 ghost use Rattle.wire_spec.specs.Content.{Stays};
 ghost use Rattle.plan.specs.PlanView.{plan_fields};
 ghost use Rattle.stream_spec.specs.Parts.{PartFields};
-ghost use Rattle.ts_mux.specs.Slots.{StandBefore, IsFew, IsOver, AreHanded, WritesSlots, FillsCycle, full_batch};
+ghost use Rattle.stream_batch.specs.Handing.{full_batch};
+ghost use Rattle.ts_mux.specs.Slots.{StandBefore, IsFew, IsOver, AreHanded, WritesSlots, FillsCycle};
 
-use crate::batch::Batch;
 use crate::int_packets::IntPackets;
+use crate::records::add_record;
 use crate::services::Services;
 use ipe_io::{Failed, Sink};
 use plan::Plan;
+use stream_batch::Batch;
 
 /// Writes the records of the slots of a part up to the last packet of its services; the first is this slot of the stream. Answers the
 /// slot behind them.
@@ -33,7 +35,7 @@ fn put_packets<K: Sink>(
 {
     let mut slot = first;
     while let Some(turn) = services.left() {
-        batch.add(plan, services, turn, table, slot);
+        add_record(batch, plan, services, turn, table, slot);
         slot += 1;
         batch.put_full(sink)?;
     }
@@ -91,7 +93,7 @@ fn fill_cycle<K: Sink>(
 {
     let mut slot = from;
     while slot % u64::from(plan.cycle) != 0 {
-        batch.add(plan, services, None, table, slot);
+        add_record(batch, plan, services, None, table, slot);
         slot += 1;
         batch.put_full(sink)?;
     }

@@ -13,9 +13,6 @@ const STAMP: usize = 8;
 /// Bytes of the stamp of an m2ts record: the copy permission in 2 bits, and its time in 30.
 const M2TS_STAMP: usize = 4;
 
-/// Bytes of the longest stamp.
-pub(crate) const LONGEST_STAMP: usize = STAMP;
-
 /// Microseconds in a second.
 const MICROS: u128 = 1_000_000;
 

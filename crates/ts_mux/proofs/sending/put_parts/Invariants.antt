@@ -2,9 +2,9 @@
 use Rattle.std.proofs.Common.{◌≡◌, ℕ, ◌-◌, ◌*◌, ◌≤◌, List, length}
 use Rattle.wire_spec.specs.Content.{Stays}
 use Rattle.plan.specs.PlanView.{plan_fields}
+use Rattle.stream_batch.specs.Handing.{full_batch}
 use Rattle.ts_mux.specs.Services.{left_in}
 use Rattle.ts_mux.specs.Sending.{AreDatagrams}
-use Rattle.ts_mux.specs.Slots.{full_batch}
 use Rattle.ts_mux.proofs.Parted.{IsBehind}
 use Rattle.ts_mux.proofs.Staged.{slots_of}
 use Rattle.ts_mux.proofs.sending.put_parts.Given as goal

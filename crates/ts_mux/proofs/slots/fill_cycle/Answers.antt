@@ -45,19 +45,19 @@ pub loop-slot-preserved : goal.loop-slot-preserved
 loop-slot-preserved g c = record {
   stand = λ part place begins.
       let now = c.loop-slot.invariant.stand part place begins in
-      subst (λ (n : ℕ). StandBefore (plan_fields c.args.plan.now) part n (c.loop-slot.slot + 1) c.add.new.services c.add.new.table)
-      (one_more place c.args.from c.loop-slot.slot c.loop-slot.invariant.from) (c.add.ensures.added part (place + (c.loop-slot.slot - c.args.from)) now).after;
+      subst (λ (n : ℕ). StandBefore (plan_fields c.args.plan.now) part n (c.loop-slot.slot + 1) c.add_record.new.services c.add_record.new.table)
+      (one_more place c.args.from c.loop-slot.slot c.loop-slot.invariant.from) (c.add_record.ensures.added part (place + (c.loop-slot.slot - c.args.from)) now).after;
   handed = λ part place held before begins handed.
       let at : ℕ = place + (c.loop-slot.slot - c.args.from) in
       let now = c.loop-slot.invariant.stand part place begins in
       subst (λ (n : ℕ). AreHanded part n held (g.K.Sink.told c.put_full.new.sink).held before c.put_full.new.self) (one_more place c.args.from c.loop-slot.slot c.loop-slot.invariant.from)
-      (one_handed (plan_fields c.args.plan.now) part at c.loop-slot.slot c.add.new.services c.add.new.table held (g.K.Sink.told c.loop-slot.sink).held (g.K.Sink.told c.put_full.new.sink).held
-      before c.loop-slot.batch c.add.new.self (c.add.ensures.added part at now) (c.loop-slot.invariant.handed part place held before begins handed) c.put_full.new.self c.in_ok-put_full.ensures.handed);
+      (one_handed (plan_fields c.args.plan.now) part at c.loop-slot.slot c.add_record.new.services c.add_record.new.table held (g.K.Sink.told c.loop-slot.sink).held (g.K.Sink.told c.put_full.new.sink).held
+      before c.loop-slot.batch c.add_record.new.batch (c.add_record.ensures.added part at now) (c.loop-slot.invariant.handed part place held before begins handed) c.put_full.new.self c.in_ok-put_full.ensures.handed);
   from = omega (arith, c.loop-slot.invariant.from);
   most = goes_up c.args.plan.now.cycle (omega (arith, some_cycle c.args.plan.now)) c.args.from c.loop-slot.slot c.loop-slot.invariant.most
       (λ e. c.loop-slot-test.true (ap (λ (n : ℕ). c.loop-slot.slot % n) c.from.ensures ∙ e));
   room = c.in_ok-put_full.ensures.room;
-  behind = c.add.ensures.kept.1 ∙ c.loop-slot.invariant.behind;
+  behind = c.add_record.ensures.kept.1 ∙ c.loop-slot.invariant.behind;
   flushed = stays-trans (g.K.Sink.told c.args.sink.now).flushed (g.K.Sink.told c.loop-slot.sink).flushed (g.K.Sink.told c.put_full.new.sink).flushed c.loop-slot.invariant.flushed c.in_ok-put_full.ensures.flushed;
   same = c.in_ok-put_full.ensures.cause.kept ∙ c.loop-slot.invariant.same;
 }
@@ -65,12 +65,12 @@ loop-slot-preserved g c = record {
 pub nonzero_rem-slot : goal.nonzero_rem-slot
 nonzero_rem-slot g c = omega (arith, c.from.ensures, some_cycle c.args.plan.now)
 
-pub add-requires-clause-stand : goal.add-requires-clause-stand
-add-requires-clause-stand g c =
+pub add_record-requires-clause-stand : goal.add_record-requires-clause-stand
+add_record-requires-clause-stand g c =
     (c.requires.stand.0, c.requires.stand.1 + (c.loop-slot.slot - c.args.from), c.loop-slot.invariant.stand c.requires.stand.0 c.requires.stand.1 c.requires.stand.2)
 
-pub add-requires-clause-turn : goal.add-requires-clause-turn
-add-requires-clause-turn g c =
+pub add_record-requires-clause-turn : goal.add_record-requires-clause-turn
+add_record-requires-clause-turn g c =
     let stand = c.loop-slot.invariant.stand c.requires.stand.0 c.requires.stand.1 c.requires.stand.2 in
     none_turns (plan_fields c.args.plan.now) c.args.plan.now.whole c.requires.stand.0 c.requires.stand.1 (c.requires.stand.1 + (c.loop-slot.slot - c.args.from)) c.loop-slot.slot c.loop-slot.services c.loop-slot.table stand
     (omega arith) c.requires.stand.3
@@ -103,10 +103,10 @@ returns-in_err-put_full-clause-filled g c = λ part place held before begins han
     (λ e. c.loop-slot-test.true (ap (λ (n : ℕ). c.loop-slot.slot % n) c.from.ensures ∙ e)) in
     let below = filled_below plan c.args.plan.now.whole part place c.args.from (c.loop-slot.slot + 1) c.args.services.now c.args.table.now begins (omega (arith, c.loop-slot.invariant.from)) up in
     rw failed.1 (record {
-      passes = part_handed part (whole_cycles part.plan.cycle place) (at + 1) held (g.K.Sink.told c.loop-slot.sink).held (g.K.Sink.told c.put_full.new.sink).held before so_far.front c.add.new.self
+      passes = part_handed part (whole_cycles part.plan.cycle place) (at + 1) held (g.K.Sink.told c.loop-slot.sink).held (g.K.Sink.told c.put_full.new.sink).held before so_far.front c.add_record.new.batch
           (omega (arith, below, one_more place c.args.from c.loop-slot.slot c.loop-slot.invariant.from))
-          (added_bytes plan part at c.loop-slot.slot c.add.new.services c.add.new.table held (g.K.Sink.told c.loop-slot.sink).held (g.K.Sink.told c.put_full.new.sink).held
-          before c.loop-slot.batch c.add.new.self (c.add.ensures.added part at now) so_far)
+          (added_bytes plan part at c.loop-slot.slot c.add_record.new.services c.add_record.new.table held (g.K.Sink.told c.loop-slot.sink).held (g.K.Sink.told c.put_full.new.sink).held
+          before c.loop-slot.batch c.add_record.new.batch (c.add_record.ensures.added part at now) so_far)
           so_far.appended c.in_err-put_full.ensures.handed;
       stand = tt;
     })

@@ -4,7 +4,8 @@ use Rattle.wire_spec.specs.Content.{Stays}
 use Rattle.plan.specs.PlanView.{plan_fields}
 use Rattle.stream_spec.specs.Parts.{PartFields}
 use Rattle.stream_spec.specs.Stream.{whole_cycles}
-use Rattle.ts_mux.specs.Slots.{StandBefore, AreHanded, full_batch}
+use Rattle.stream_batch.specs.Handing.{full_batch}
+use Rattle.ts_mux.specs.Slots.{StandBefore, AreHanded}
 use Rattle.ts_mux.proofs.slots.fill_cycle.Given as goal
 
 abbrev pub invariant-loop-slot : goal.invariant-loop-slot

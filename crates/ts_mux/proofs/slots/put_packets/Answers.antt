@@ -37,8 +37,8 @@ loop-turn-init g c = record {
   same = refl;
 }
 
-pub add-requires-clause-stand : goal.add-requires-clause-stand
-add-requires-clause-stand g c = (c.requires.stand.0, c.loop-turn.slot - c.args.first, (c.loop-turn.invariant.under_way c.requires.stand.0 c.requires.stand.1).stand)
+pub add_record-requires-clause-stand : goal.add_record-requires-clause-stand
+add_record-requires-clause-stand g c = (c.requires.stand.0, c.loop-turn.slot - c.args.first, (c.loop-turn.invariant.under_way c.requires.stand.0 c.requires.stand.1).stand)
 
 pub overflow_add-slot : goal.overflow_add-slot
 overflow_add-slot g c =
@@ -61,12 +61,12 @@ loop-turn-preserved g c =
       under_way = λ part begins.
           let way = c.loop-turn.invariant.under_way part begins in
           under_way_next plan part place (c.loop-turn.slot + 1 - c.args.first) c.loop-turn.slot (g.K.Sink.told c.args.sink.now).held (g.K.Sink.told c.loop-turn.sink).held (g.K.Sink.told c.put_full.new.sink).held
-          c.args.batch.now c.loop-turn.batch c.add.new.self c.put_full.new.self c.loop-turn.services c.add.new.services c.loop-turn.table c.add.new.table
-          (omega (arith, c.loop-turn.invariant.from)) way (c.add.ensures.added part place way.stand) c.in_ok-put_full.ensures.handed
+          c.args.batch.now c.loop-turn.batch c.add_record.new.batch c.put_full.new.self c.loop-turn.services c.add_record.new.services c.loop-turn.table c.add_record.new.table
+          (omega (arith, c.loop-turn.invariant.from)) way (c.add_record.ensures.added part place way.stand) c.in_ok-put_full.ensures.handed
           (goes plan c.args.plan.now.whole part place c.loop-turn.slot c.loop-turn.services c.loop-turn.table way.stand c.in-Some.ensures.left);
       from = omega (arith, c.loop-turn.invariant.from);
       room = c.in_ok-put_full.ensures.room;
-      behind = c.add.ensures.kept.1 ∙ c.loop-turn.invariant.behind;
+      behind = c.add_record.ensures.kept.1 ∙ c.loop-turn.invariant.behind;
       flushed = stays-trans (g.K.Sink.told c.args.sink.now).flushed (g.K.Sink.told c.loop-turn.sink).flushed (g.K.Sink.told c.put_full.new.sink).flushed c.loop-turn.invariant.flushed c.in_ok-put_full.ensures.flushed;
       same = c.in_ok-put_full.ensures.cause.kept ∙ c.loop-turn.invariant.same;
     }
@@ -97,10 +97,10 @@ returns-in_err-put_full-clause-written g c = λ part begins.
     rw failed.1 (record {
       least = end.0;
       count = end.1;
-      passes = part_handed part end.0 (place + 1) (g.K.Sink.told c.args.sink.now).held (g.K.Sink.told c.loop-turn.sink).held (g.K.Sink.told c.put_full.new.sink).held c.args.batch.now way.handed.front c.add.new.self
+      passes = part_handed part end.0 (place + 1) (g.K.Sink.told c.args.sink.now).held (g.K.Sink.told c.loop-turn.sink).held (g.K.Sink.told c.put_full.new.sink).held c.args.batch.now way.handed.front c.add_record.new.batch
           (omega (arith, goes plan c.args.plan.now.whole part place c.loop-turn.slot c.loop-turn.services c.loop-turn.table way.stand c.in-Some.ensures.left end.0 end.1))
-          (added_bytes plan part place c.loop-turn.slot c.add.new.services c.add.new.table (g.K.Sink.told c.args.sink.now).held (g.K.Sink.told c.loop-turn.sink).held (g.K.Sink.told c.put_full.new.sink).held
-          c.args.batch.now c.loop-turn.batch c.add.new.self (c.add.ensures.added part place way.stand) way.handed)
+          (added_bytes plan part place c.loop-turn.slot c.add_record.new.services c.add_record.new.table (g.K.Sink.told c.args.sink.now).held (g.K.Sink.told c.loop-turn.sink).held (g.K.Sink.told c.put_full.new.sink).held
+          c.args.batch.now c.loop-turn.batch c.add_record.new.batch (c.add_record.ensures.added part place way.stand) way.handed)
           way.handed.appended c.in_err-put_full.ensures.handed;
       stand = tt;
     })

@@ -3,7 +3,8 @@ use Rattle.std.proofs.Common.{◌≡◌, ◌-◌, ◌^◌, ◌≤◌, length}
 use Rattle.wire_spec.specs.Content.{Stays}
 use Rattle.plan.specs.PlanView.{plan_fields}
 use Rattle.stream_spec.specs.Parts.{PartFields}
-use Rattle.ts_mux.specs.Slots.{StandBefore, full_batch}
+use Rattle.stream_batch.specs.Handing.{full_batch}
+use Rattle.ts_mux.specs.Slots.{StandBefore}
 use Rattle.ts_mux.proofs.Ended.{IsUnderWay}
 use Rattle.ts_mux.proofs.slots.put_packets.Given as goal
 
