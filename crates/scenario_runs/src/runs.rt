@@ -34,10 +34,30 @@ pub fn sent(alloc: Global, settings: &str, capture: &[u8], room: usize) -> Resul
         ..faultless(&["send", "a.toml"], settings.as_bytes(), capture)
     };
     let ended = ran(alloc, &given)?;
+    output_of(alloc, &ended)
+}
+
+/// The output of a run that is done.
+fn output_of(alloc: Global, ended: &Ended) -> Result<Vec<u8>, Fail> {
     if ended.status != Status::Done {
         return Err("not sent".into());
     }
     Ok(Vec::from_slice(alloc, ended.outside.output.bytes())?)
+}
+
+/// What differs where the program runs; nothing at all: an empty text.
+fn difference(
+    alloc: Global,
+    given: &Given<'_>,
+    status: Status,
+    left: &Left<'_>,
+) -> Result<&'static str, Fail> {
+    let ended = ran(alloc, given)?;
+    Ok(if ended.status == status {
+        ended.outside.difference(left)
+    } else {
+        "the status"
+    })
 }
 
 /// Runs the program, and compares all that it leaves. A difference fails as a text: the case, and what differs.
@@ -48,12 +68,7 @@ pub fn expect(
     status: Status,
     left: &Left<'_>,
 ) -> Result<(), Fail> {
-    let ended = ran(alloc, given)?;
-    let difference = if ended.status == status {
-        ended.outside.difference(left)
-    } else {
-        "the status"
-    };
+    let difference = difference(alloc, given, status, left)?;
     if difference.is_empty() {
         return Ok(());
     }
