@@ -1,10 +1,11 @@
 //! The command `receive` for any plan: a recording of transport packets or of baseband frames in, a capture for each service and the report out.
-ghost use Rattle.std.specs.Prelude.{◌≡◌, ℕ, ◌≤◌, true, List, [], length, Some, slice_get, IfOk};
+ghost use Rattle.std.specs.Prelude.{◌≡◌, ℕ, ◌≤◌, true, false, List, [], length, Some, slice_get, IfOk};
 ghost use Rattle.plan_spec.specs.Plan.{ServiceFields};
 ghost use Rattle.plan_spec.specs.Checks.{is_service_name};
 ghost use Rattle.plan.specs.PlanView.{plan_fields};
-ghost use Rattle.demux_core.specs.Carriers.{plan_of};
-ghost use Rattle.recording_reader.specs.Any.{form_in, size_in, count_in, HasReadIn};
+ghost use Rattle.demux_core.specs.Carriers.{plan_of, stream_of};
+ghost use Rattle.demux_core.specs.Carried.{IsReady};
+ghost use Rattle.recording_reader.specs.Any.{form_in, size_in, content_in, count_in, HasReadIn};
 ghost use Rattle.receive_command.specs.Report.{IsReport};
 ghost use Rattle.receive_command.specs.Writing.{IsGiven, IsFormOf, HasContentOf};
 ghost use Rattle.receive_command.specs.Receives.{Receives, PutsReport};
@@ -17,7 +18,7 @@ use demux_core::Receiver;
 use ipe_io::{Failed, OutOfMemory, Rack, Sink, Source, put_all};
 use plan::Plan;
 use recording_reader::{FramePieces, PacketPieces, RecordingPieces};
-use std::alloc::Global;
+use std::alloc::{Allocator, Global};
 
 /// Receives a recording under a plan, of packets or of frames as the plan says: a capture for each service, `NAME.pcap` in the order of the
 /// plan, and the report.
@@ -35,10 +36,32 @@ pub fn receive_recording<I: Source, O: Sink, R: Rack>(
         (input.new ≡ input.old) (output.new ≡ output.old) }
 {
     let arena = Bump::new(alloc);
-    let mut receiver = Receiver::open(&arena, plan)?;
     let mut pieces = open_pieces(&arena, plan)?;
-    let tail = write_captures(alloc, plan, &mut receiver, &mut pieces, input, rack)?;
-    put_report(alloc, plan, &receiver, tail, output)
+    let mut receiver = Receiver::open(&arena, plan)?;
+    write_and_report(alloc, plan, &mut receiver, &mut pieces, input, output, rack)
+}
+
+/// Writes the captures, and then the report. The receiver was given nothing before.
+fn write_and_report<I: Source, O: Sink, R: Rack, A: Allocator>(
+    alloc: Global,
+    plan: &Plan,
+    receiver: &mut Receiver<'_>,
+    pieces: &mut RecordingPieces<A>,
+    input: &mut I,
+    output: &mut O,
+    rack: &mut R,
+) -> Result<(), ReceiveFault>
+    requires unread { HasReadIn pieces.old [] }
+    requires uncounted { count_in pieces.old ≡ 0 }
+    requires ready { IsReady receiver.old (length plan.now.services) (content_in pieces.old) }
+    requires room { (stream_of receiver.old).records ≡ 0 }
+    requires fresh { IsGiven false (plan_fields plan.now) [] receiver.old }
+    requires fits { IsFormOf (plan_fields plan.now) (form_in pieces.old) (size_in pieces.old) }
+    ensures receives { Receives result (plan_fields plan.now) (I.told input.old) (I.told input.new) (R.told rack.old) (R.told rack.new) (O.told output.old) (O.told output.new)
+        (input.new ≡ input.old) (output.new ≡ output.old) }
+{
+    let tail = write_captures(alloc, plan, receiver, pieces, input, rack)?;
+    put_report(alloc, plan, receiver, tail, output)
 }
 
 /// The pieces of a recording under a plan. None was read.
