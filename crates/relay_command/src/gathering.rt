@@ -36,16 +36,16 @@ pub(crate) fn gather_recording<I: Source, P: OuterPlan>(
     delivered_datagrams_are_datagrams();
     datagrams_are_offered_as_they_are();
     let arena = Bump::new(alloc);
-    let mut receiver = match Receiver::open(&arena, inner) {
-        Ok(receiver) => receiver,
-        Err(_) => return Err(GatherEnd::OutOfMemory),
-    };
     let mut pieces = match open_pieces(&arena, inner) {
         Ok(pieces) => pieces,
         Err(_) => return Err(GatherEnd::OutOfMemory),
     };
     let mut gather: Gather<'_, P> = match Gather::new(alloc, outer) {
         Ok(gather) => gather,
+        Err(_) => return Err(GatherEnd::OutOfMemory),
+    };
+    let mut receiver = match Receiver::open(&arena, inner) {
+        Ok(receiver) => receiver,
         Err(_) => return Err(GatherEnd::OutOfMemory),
     };
     match receive_whole(inner, &mut receiver, &mut pieces, input, &mut gather) {

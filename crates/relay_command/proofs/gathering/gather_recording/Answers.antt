@@ -14,14 +14,14 @@ use Rattle.relay_command.proofs.gathering.gather_recording.Goals as goal
 pub receive_whole-requires-clause-ready : goal.receive_whole-requires-clause-ready
 receive_whole-requires-clause-ready g c =
     let plan : PlanFields = plan_fields c.args.inner.now in
-    is_ready plan c.in-Ok.receiver _ _ c.args.inner.now.whole (is_fresh plan c.in-Ok.receiver c.in-Ok.ensures.packets c.in-Ok.ensures.frames)
-    c.in-Ok.ensures.is_open c.in-Ok.ensures.plan (services_count plan c.args.inner.now.valid).1 c.in-Ok-open_pieces.ensures.content
+    is_ready plan c.in-Ok-open.receiver _ _ c.args.inner.now.whole (is_fresh plan c.in-Ok-open.receiver c.in-Ok-open.ensures.packets c.in-Ok-open.ensures.frames)
+    c.in-Ok-open.ensures.is_open c.in-Ok-open.ensures.plan (services_count plan c.args.inner.now.valid).1 c.in-Ok.ensures.content
 
 pub receive_whole-requires-clause-room : goal.receive_whole-requires-clause-room
-receive_whole-requires-clause-room g c = has_room (plan_fields c.args.inner.now) c.in-Ok.receiver c.in-Ok.ensures.packets c.in-Ok.ensures.frames
+receive_whole-requires-clause-room g c = has_room (plan_fields c.args.inner.now) c.in-Ok-open.receiver c.in-Ok-open.ensures.packets c.in-Ok-open.ensures.frames
 
 pub receive_whole-requires-clause-fresh : goal.receive_whole-requires-clause-fresh
-receive_whole-requires-clause-fresh g c = is_fresh (plan_fields c.args.inner.now) c.in-Ok.receiver c.in-Ok.ensures.packets c.in-Ok.ensures.frames
+receive_whole-requires-clause-fresh g c = is_fresh (plan_fields c.args.inner.now) c.in-Ok-open.receiver c.in-Ok-open.ensures.packets c.in-Ok-open.ensures.frames
 
 pub returns-in-Err-Source-clause-source : goal.returns-in-Err-Source-clause-source
 returns-in-Err-Source-clause-source g c = λ is.
