@@ -11,7 +11,7 @@ use Rattle.bridge_command.specs.Tally.{IsBridgeTally}
 use Rattle.bridge_command.specs.Lines.{bridge_tally_line}
 use Rattle.bridge_command.specs.declared.ends.BridgeTally.{BridgeTally}
 use Rattle.send_command.specs.Lines.{fault_line}
-use Rattle.receive_command.proofs.Adding.{adds_none}
+use Rattle.capture_files.proofs.Adding.{adds_none}
 use Rattle.command_words.specs.declared.carrier.Carrier.{Carrier}
 use Rattle.ipencap_engine.specs.Statuses.{status_line}
 use Rattle.ipencap_engine.specs.World.{World, world, Object, the_shelf, the_input, the_output, the_rack}

@@ -5,8 +5,8 @@ use Rattle.ipe_io.specs.Told.{InputTold, OutputTold, ShelfTold, RackTold}
 use Rattle.ipe_io.proofs.Told.{stays-refl}
 use Rattle.plan_spec.specs.Plan.{PlanFields}
 use Rattle.plan_spec.specs.Given.{plan_of_pid}
-use Rattle.receive_command.specs.Reading.{most_records}
-use Rattle.receive_command.proofs.Adding.{adds_none}
+use Rattle.recording_reader.specs.Reading.{most_pieces as most_records}
+use Rattle.capture_files.proofs.Adding.{adds_none}
 use Rattle.find_command.specs.Finding.{HasRead, ReadsWhole, IsFoundIn, Finds}
 use Rattle.find_command.specs.declared.fault.FindFault.{FindFault}
 use Rattle.find_command.specs.declared.fault.FindFault.TheVariants as fault

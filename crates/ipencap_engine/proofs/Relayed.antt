@@ -12,9 +12,9 @@ use Rattle.recording_spec.specs.Relayed.{as_records}
 use Rattle.settings_load.specs.Settings.{IsAcceptedFile}
 use Rattle.send_command.specs.Lines.{tally_line}
 use Rattle.send_command.specs.declared.ends.Tally.{Tally}
-use Rattle.receive_command.specs.Reading.{most_records}
-use Rattle.receive_command.specs.Receives.{TakesAll, TakesMost}
-use Rattle.receive_command.proofs.Adding.{adds_none}
+use Rattle.recording_reader.specs.Reading.{most_pieces as most_records}
+use Rattle.recording_reader.specs.Taken.{TakesAllOf, TakesMostOf}
+use Rattle.capture_files.proofs.Adding.{adds_none}
 use Rattle.relay_core.specs.Gathering.{FitsCapture}
 use Rattle.relay_command.specs.Gathered.{FailsToRead, HasTooMany, at_most, within, after as after_end}
 use Rattle.relay_command.specs.Relaying.{RelayLacksMemory, Receives, Relays}
@@ -67,14 +67,14 @@ module _ (first second : List ℕ) (inner outer : PlanFields) (whole : is_whole_
 
   -- What was read.
 
-  reads_all : TakesAll inner input taken → ReadsAll (to_relay first second) before after
+  reads_all : TakesAllOf (piece_size inner) input taken → ReadsAll (to_relay first second) before after
   reads_all all = record {
     ended = all.ended;
     takes = record { plan = inner; whole = whole; is = one_inner; count = all.count; is_bound = all.fewer; taken = all.taken };
     files = λ e. absurd (cc);
   }
 
-  reads_most : TakesMost inner input taken → TakesPieces (to_relay first second) before after (λ count most. count ≤ most)
+  reads_most : TakesMostOf (piece_size inner) input taken → TakesPieces (to_relay first second) before after (λ count most. count ≤ most)
   reads_most all = record { plan = inner; whole = whole; is = one_inner; count = all.count; is_bound = all.most; taken = all.taken }
 
   reads_many : HasTooMany inner input taken → TakesPieces (to_relay first second) before after (λ count most. count ≤ most)

@@ -6,7 +6,7 @@ use Rattle.wire_spec.specs.Content.{Stays}
 use Rattle.ipe_io.specs.Counts.{IsFlushed}
 use Rattle.ipe_io.specs.Told.{InputTold, OutputTold, ShelfTold, RackTold}
 use Rattle.plan_spec.specs.Plan.{PlanFields}
-use Rattle.receive_command.proofs.Adding.{adds_none}
+use Rattle.capture_files.proofs.Adding.{adds_none}
 use Rattle.ipencap_engine.specs.Statuses.{status_line}
 use Rattle.ipencap_engine.specs.World.{World, world, Object, the_shelf, the_input, the_output, the_rack}
 use Rattle.ipencap_engine.specs.Jobs.{Job, Intake, no_input, a_capture, a_recording, a_relayed, an_ethernet_capture, an_ethernet_recording, row, is_command, may_use, IsPlanOf, IsGiven}

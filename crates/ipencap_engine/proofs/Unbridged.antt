@@ -7,9 +7,9 @@ use Rattle.ts_record.proofs.Cuts.{one_cut}
 use Rattle.ipe_io.specs.Told.{InputTold, OutputTold, ShelfTold, RackTold}
 use Rattle.plan_spec.specs.Plan.{PlanFields}
 use Rattle.bridge_spec.specs.Frames.{BridgeCarrier, size_of_piece}
-use Rattle.receive_command.specs.Files.{file_with, AddsFiles}
-use Rattle.receive_command.specs.declared.faults.ReceiveFault.{ReceiveFault}
-use Rattle.receive_command.specs.declared.faults.ReceiveFault.TheVariants as fault
+use Rattle.capture_files.specs.Files.{file_with, AddsFiles}
+use Rattle.capture_files.specs.declared.faults.ReceiveFault.{ReceiveFault}
+use Rattle.capture_files.specs.declared.faults.ReceiveFault.TheVariants as fault
 use Rattle.unbridge_command.specs.Unbridging.{EndsWhole, Unbridges, AddsBridge, bridge_name, bridge_capture}
 use Rattle.unbridge_command.specs.Parts.{HasBridgePart}
 use Rattle.unbridge_command.proofs.Prefixes.{bridge_part}

@@ -21,7 +21,7 @@ use Rattle.loss_law.specs.Loss.{CarriesFor}
 use Rattle.loss_law.specs.Spans.{IsRecordedFor, DeliversOverSpans}
 use Rattle.bb_loss_law.specs.Plans.{CarriesInFramesFor, IsRecordedInFramesFor, DeliversOnIsi}
 use Rattle.recording_spec.specs.Pieces.{records_in}
-use Rattle.receive_command.specs.Files.{AddsCaptures, AddsParts}
+use Rattle.capture_files.specs.Files.{AddsCaptures, AddsParts}
 use Rattle.ipencap_engine.specs.World.{World}
 use Rattle.ipencap_engine.specs.Jobs.{Job, a_recording, an_ethernet_recording, row, IsPlanOf}
 use Rattle.ipencap_engine.specs.declared.status.Status.{Status}

@@ -11,8 +11,8 @@ use Rattle.plan_spec.specs.Wholes.{is_whole_plan}
 use Rattle.carrier_spec.specs.Stream.{piece_size}
 use Rattle.ipe_io.specs.Told.{InputTold}
 use Rattle.bridge_spec.specs.Frames.{BridgeCarrier, size_of_piece}
-use Rattle.receive_command.specs.Reading.{most_records}
-use Rattle.receive_command.specs.Receives.{TakesAllOf, TakesFrontOf, TakesMostOf}
+use Rattle.recording_reader.specs.Reading.{most_pieces as most_records}
+use Rattle.recording_reader.specs.Taken.{TakesAllOf, TakesFrontOf, TakesMostOf}
 use Rattle.ipencap_engine.specs.World.{World}
 use Rattle.ipencap_engine.specs.Jobs.{Job, Intake, no_input, a_capture, a_recording, a_relayed, an_ethernet_capture, an_ethernet_recording, row, IsPlanOf}
 use Rattle.ipencap_engine.specs.declared.status.Status.{Status}

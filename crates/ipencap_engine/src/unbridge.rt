@@ -9,9 +9,9 @@ ghost use Rattle.ipencap_engine.specs.Statuses.{outcome_line, status_of};
 ghost use Rattle.ipencap_engine.specs.Runs.{Runs};
 
 use crate::status::{Outcome, Status};
+use capture_files::ReceiveFault;
 use command_words::Carrier;
 use ipe_io::{Rack, Source};
-use receive_command::ReceiveFault;
 use std::alloc::Global;
 use unbridge_command::{unbridge_pdus, unbridge_sndus};
 

@@ -14,29 +14,27 @@ use Rattle.pcap_file.specs.Capture.{capture_record}
 use Rattle.demux_core.specs.declared.receiver.ByCarrier.{ByCarrier}
 use Rattle.recording_reader.specs.declared.fault.ReadFault.{ReadFault}
 use Rattle.recording_reader.specs.declared.fault.ReadFault.TheVariants as read
-use Rattle.receive_command.specs.declared.faults.ReceiveFault.{ReceiveFault}
-use Rattle.receive_command.specs.declared.faults.ReceiveFault.TheVariants as fault
+use Rattle.capture_files.specs.declared.faults.ReceiveFault.{ReceiveFault}
+use Rattle.capture_files.specs.declared.faults.ReceiveFault.TheVariants as fault
 use Rattle.carrier_spec.specs.Stream.{piece_size}
 use Rattle.recording_spec.specs.Pieces.{told_pairs, pairs_of_end}
-use Rattle.receive_command.specs.Faults.{fault_of_reading, fault_of_adding}
-use Rattle.receive_command.specs.Growth.{Grow, records_at, records_and}
-use Rattle.receive_command.specs.Files.{AddsCaptures, AddsHeadsPart, head_of, delivered_capture, capture_of_pairs, capture_and}
-use Rattle.receive_command.specs.Flushes.{Flush}
-use Rattle.receive_command.specs.Reading.{HasRead}
-use Rattle.receive_command.specs.Ends.{in_heads, in_piece, at_end, in_flush}
+use Rattle.capture_files.specs.Faults.{Blames, fault_of_reading, fault_of_adding}
+use Rattle.capture_files.proofs.CameUp.{stays}
+use Rattle.capture_files.specs.Growth.{Grow, records_at, records_and}
+use Rattle.capture_files.specs.Files.{AddsCaptures, AddsHeadsPart, head_of, capture_of_pairs, capture_and}
+use Rattle.capture_files.specs.Flushes.{Flush}
+use Rattle.receive_command.specs.Ends.{delivered_capture, in_heads, in_piece, at_end, in_flush}
 use Rattle.receive_command.specs.Writing.{WritesPieces}
-use Rattle.receive_command.specs.Receives.{HasHeads, Blames, TakesMost, Captures}
-use Rattle.receive_command.proofs.Pieces.{below_product}
+use Rattle.recording_reader.specs.Taken.{HasRead, TakesMostOf}
+use Rattle.receive_command.specs.Receives.{HasHeads, Captures}
+use Rattle.recording_reader.proofs.Taken.{below_product}
 use Rattle.receive_command.proofs.Pairs.{capture_of_delivered}
-use Rattle.receive_command.proofs.Assembly.{pairs_grown, pairs_and_grown, captures_of_pairs, captures_flushed, captures_flushed_to}
+use Rattle.capture_files.proofs.Assembly.{pairs_grown, pairs_and_grown, captures_of_pairs, captures_flushed, captures_flushed_to}
 
 -- Counters.
 
 pub sized : (a : Option (List File)) (count first : ℕ) → first ≡ count → IfSome a (λ told. length told ≡ count) → IfSome a (λ told. length told ≡ first)
 sized a count first e many = subst (λ (n : ℕ). IfSome a (λ told. length told ≡ n)) (sym e) many
-
-pub stays : {T : Type 0} (result : Result T ReceiveFault) (own : ReceiveFault) (before now : ℕ) → (result ≡ Err own → ⊥) → now ≡ before → Blames result own before now
-stays result own before now other same = record { rose = λ is. absurd (other is); kept = λ not. same }
 
 rises : (own : ReceiveFault) (before now : ℕ) → Rose before now → Blames {T = ℕ} (Err own) own before now
 rises own before now rose = record { rose = λ is. rose; kept = λ not. absurd (not refl) }
@@ -73,7 +71,7 @@ none_behind size before taken pieces behind none is =
 module _ (plan : PlanFields) (first : ℕ) (input now : InputTold) (rack heads mid : RackTold) (receiver : ByCarrier) (Unread : Type 0)
     (size : IfSome rack.files (λ told. length told ≡ first)) (added : AddsCaptures false head_of plan.services rack.files heads.files) (kept : heads.faults ≡ rack.faults) where
   -- how many bytes were taken, of fewer pieces than the most
-  takes_most : {answer : Result ℕ ReadFault} (wrote : WritesPieces answer plan first input now heads mid receiver) → length wrote.pieces < 2 ^ 32 → TakesMost plan input now
+  takes_most : {answer : Result ℕ ReadFault} (wrote : WritesPieces answer plan first input now heads mid receiver) → length wrote.pieces < 2 ^ 32 → TakesMostOf (piece_size plan) input now
   takes_most wrote few = record {
     count = piece_size plan * length wrote.pieces + length wrote.behind;
     most = omega (arith, below_product (piece_size plan) (length wrote.pieces) (length wrote.behind) few wrote.read.short);

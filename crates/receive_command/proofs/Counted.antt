@@ -4,13 +4,9 @@ use Rattle.std.specs.Prelude.{is_some}
 use Rattle.plan_spec.specs.Plan.{PlanFields, is_baseband}
 use Rattle.demux_core.specs.Carriers.{plan_of, HasReceivedPackets, HasReceivedFrames}
 use Rattle.demux_core.specs.declared.receiver.ByCarrier.{ByCarrier}
-use Rattle.demux_core.specs.declared.receiver.ByCarrier.TheVariants.{Packets, Frames}
 use Rattle.recording_spec.specs.Pieces.{by_carrier, records_in}
-use Rattle.receive_command.specs.Writing.{IsGivenOn, IsGiven}
-
-pub plan_of_frames : (receiver : ByCarrier) (plan : PlanFields) (frames : List (List ℕ)) → HasReceivedFrames plan frames receiver → plan_of receiver ≡ plan
-plan_of_frames (Packets receiver) plan frames has = absurd has
-plan_of_frames (Frames receiver) plan frames has = has.plan_is
+use Rattle.recording_reception.specs.Reception.{IsGivenOn, IsGiven}
+use Rattle.recording_reception.proofs.Begun.{plan_of_frames}
 
 -- what it answers of packets, and of frames
 pub answered : {X : Type 0} (ended : Bool) (plan : PlanFields) (pieces : List (List ℕ)) (receiver : ByCarrier) (answer of_packets of_frames : X)

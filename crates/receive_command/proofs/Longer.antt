@@ -12,8 +12,8 @@ use Rattle.reception_law.proofs.WhatIsTold.{told_stays, all_at_end}
 use Rattle.bb_reception_spec.specs.Delivered.{service_at, added_by, delivered_of as delivered_of_frames}
 use Rattle.bb_reception_law.proofs.FrameByFrame.{delivered_stays}
 use Rattle.recording_spec.specs.Pieces.{by_carrier, records_in}
-use Rattle.receive_command.specs.Files.{told_capture, delivered_capture}
-use Rattle.receive_command.proofs.Pieces.{records_next}
+use Rattle.receive_command.specs.Ends.{told_capture, delivered_capture}
+use Rattle.recording_reception.proofs.NextPiece.{records_next}
 
 text-append : (xs ys : List (List ℕ)) → capture_text (xs ++ ys) ≡ capture_text xs ++ flat_map capture_record ys
 text-append xs ys =

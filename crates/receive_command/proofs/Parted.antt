@@ -9,14 +9,15 @@ use Rattle.plan_spec.specs.Changes.{has_wrong_change}
 use Rattle.carrier_spec.specs.Stream.{piece_size}
 use Rattle.pcap_file.specs.Capture.{capture_head, capture_record}
 use Rattle.recording_spec.specs.Pieces.{told_pairs, pairs_of_end, told_of}
-use Rattle.receive_command.specs.Growth.{records_at, text_in}
-use Rattle.receive_command.specs.Files.{file_with, files_from, head_of, told_capture, delivered_capture, capture_of_pairs, capture_and, AddsParts, AddsHeadsPart, AddsCaptures}
-use Rattle.receive_command.specs.Reading.{HasRead}
-use Rattle.receive_command.specs.Ends.{EndsFront, EndsAtLimit, StopsInPiece, StopsAtEnd, EndsInFiles, in_heads, in_piece, at_end, in_flush}
-use Rattle.receive_command.proofs.Parts.{parts_whole, parts_front, parts_next, flushed_parts, parts_go_on, heads_are_parts}
-use Rattle.receive_command.proofs.Pieces.{consumes_none, last_pairs}
-use Rattle.receive_command.proofs.Assembly.{captures_of_pairs}
-use Rattle.receive_command.proofs.Grown.{records-append}
+use Rattle.capture_files.specs.Growth.{records_at, text_in}
+use Rattle.capture_files.specs.Files.{file_with, files_from, head_of, capture_of_pairs, capture_and, AddsParts, AddsHeadsPart, AddsCaptures}
+use Rattle.recording_reader.specs.Taken.{HasRead}
+use Rattle.receive_command.specs.Ends.{told_capture, delivered_capture, EndsFront, EndsAtLimit, StopsInPiece, StopsAtEnd, EndsInFiles, in_heads, in_piece, at_end, in_flush}
+use Rattle.capture_files.proofs.Parts.{parts_whole, parts_front, parts_next, flushed_parts, parts_go_on, heads_are_parts}
+use Rattle.recording_reader.proofs.Taken.{consumes_none}
+use Rattle.recording_reception.proofs.NextPiece.{last_pairs}
+use Rattle.capture_files.proofs.Assembly.{captures_of_pairs}
+use Rattle.capture_files.proofs.Grown.{records-append}
 use Rattle.receive_command.proofs.Pairs.{capture_of_told, capture_of_delivered}
 
 -- these pieces were read, and files were added: those of the first services, each with a prefix of the capture of what these pieces tell

@@ -4,14 +4,15 @@ use Rattle.std.specs.Bool.{⊤}
 use Rattle.ipe_io.specs.Told.{InputTold, RackTold, OutputTold}
 use Rattle.plan_spec.specs.Plan.{PlanFields}
 use Rattle.demux_core.specs.declared.receiver.ByCarrier.{ByCarrier}
-use Rattle.receive_command.specs.declared.faults.ReceiveFault.{ReceiveFault}
-use Rattle.receive_command.specs.declared.faults.ReceiveFault.TheVariants as fault
+use Rattle.capture_files.specs.declared.faults.ReceiveFault.{ReceiveFault}
+use Rattle.capture_files.specs.declared.faults.ReceiveFault.TheVariants as fault
 use Rattle.receive_command.specs.Report.{IsReport}
 use Rattle.receive_command.specs.Ends.{EndsWhole}
-use Rattle.receive_command.specs.Writing.{IsGiven}
-use Rattle.receive_command.specs.Receives.{Blames, ReceiveEnds, ReceivesInto, Captures, ReceivesFiles, Receives, PutsReport}
-use Rattle.receive_command.proofs.Adding.{adds_none, none_begun}
-use Rattle.receive_command.proofs.Captured.{stays}
+use Rattle.recording_reception.specs.Reception.{IsGiven}
+use Rattle.receive_command.specs.Receives.{ReceiveEnds, ReceivesInto, Captures, ReceivesFiles, Receives, PutsReport}
+use Rattle.capture_files.proofs.Adding.{adds_none, none_begun}
+use Rattle.capture_files.specs.Faults.{Blames}
+use Rattle.capture_files.proofs.CameUp.{stays}
 
 -- A fault of the captures that a command hands on.
 

@@ -3,19 +3,28 @@ use Rattle.std.specs.Prelude.{◌≡◌, ℕ, ◌<◌, true, false, List, [], �
 use Rattle.std.specs.Io.KnownBytes.{Appends, IsAtEnd}
 use Rattle.wire_spec.specs.Content.{File}
 use Rattle.plan_spec.specs.Plan.{PlanFields}
-use Rattle.pcap_file.specs.Capture.{capture_record}
+use Rattle.pcap_file.specs.Capture.{capture_record, capture_text}
 use Rattle.carrier_spec.specs.Stream.{piece_size}
-use Rattle.recording_spec.specs.Pieces.{told_pairs, pairs_of_piece, pairs_of_end}
-use Rattle.receive_command.specs.Files.{AddsCaptures, AddsHeadsPart, AddsFlushed, delivered_capture, capture_of_pairs, capture_and}
-use Rattle.receive_command.specs.Reading.{HasRead, most_records}
+use Rattle.recording_spec.specs.Pieces.{told_of, delivered_of, told_pairs, pairs_of_piece, pairs_of_end}
+use Rattle.capture_files.specs.Files.{AddsCaptures, AddsHeadsPart, AddsFlushed, capture_of_pairs, capture_and}
+use Rattle.recording_reader.specs.Reading.{most_pieces}
+use Rattle.recording_reader.specs.Taken.{HasRead}
 use Rattle.receive_command.specs.Report.{IsReport}
+
+-- the capture of service k of what pieces tell
+abbrev pub told_capture : PlanFields → List (List ℕ) → ℕ → List ℕ
+told_capture plan pieces k = capture_text (told_of plan k pieces)
+
+-- the capture of service k of what a recording of these pieces delivers
+abbrev pub delivered_capture : PlanFields → List (List ℕ) → ℕ → List ℕ
+delivered_capture plan pieces k = capture_text (delivered_of plan k pieces)
 
 -- the input was read to its end, and the files are the captures of all that it delivers, flushed
 pub record EndsWhole (plan : PlanFields) (left now : Option (List ℕ)) (old new : Option (List File)) : Type 0 where
   pub pieces : List (List ℕ)
   pub tail : List ℕ
   pub read : HasRead (piece_size plan) left now pieces tail
-  pub fewer : length pieces < most_records
+  pub fewer : length pieces < most_pieces
   pub at_end : IsAtEnd now
   pub files : AddsCaptures true (delivered_capture plan pieces) plan.services old new
 
@@ -31,14 +40,14 @@ pub record EndsFront (plan : PlanFields) (left now : Option (List ℕ)) (old new
   pub pieces : List (List ℕ)
   pub behind : List ℕ
   pub read : HasRead (piece_size plan) left now pieces behind
-  pub fewer : length pieces < most_records
+  pub fewer : length pieces < most_pieces
   pub files : AddsCaptures false (capture_of_pairs (told_pairs plan pieces)) plan.services old new
 
 -- the most pieces were read, and nothing after them; each file has what these tell, and nothing is flushed
 pub record EndsAtLimit (plan : PlanFields) (left now : Option (List ℕ)) (old new : Option (List File)) : Type 0 where
   pub pieces : List (List ℕ)
   pub read : HasRead (piece_size plan) left now pieces []
-  pub limit : length pieces ≡ most_records
+  pub limit : length pieces ≡ most_pieces
   pub files : AddsCaptures false (capture_of_pairs (told_pairs plan pieces)) plan.services old new
 
 -- the files stopped at the head of one of them: nothing was read, the heads before it are whole, and of this one less than all was written
@@ -53,7 +62,7 @@ pub record StopsInPiece (plan : PlanFields) (left now : Option (List ℕ)) (old 
   pub pieces : List (List ℕ)
   pub piece : List ℕ
   pub read : HasRead (piece_size plan) left now (pieces ++ piece ∷ []) []
-  pub fewer : length pieces < most_records
+  pub fewer : length pieces < most_pieces
   pub front : List (ℕ × List ℕ)
   pub service : ℕ
   pub datagram : List ℕ
@@ -69,7 +78,7 @@ pub record StopsAtEnd (plan : PlanFields) (left now : Option (List ℕ)) (old ne
   pub pieces : List (List ℕ)
   pub behind : List ℕ
   pub read : HasRead (piece_size plan) left now pieces behind
-  pub fewer : length pieces < most_records
+  pub fewer : length pieces < most_pieces
   pub at_end : IsAtEnd now
   pub front : List (ℕ × List ℕ)
   pub service : ℕ
@@ -85,7 +94,7 @@ pub record StopsInFlush (plan : PlanFields) (left now : Option (List ℕ)) (old 
   pub pieces : List (List ℕ)
   pub behind : List ℕ
   pub read : HasRead (piece_size plan) left now pieces behind
-  pub fewer : length pieces < most_records
+  pub fewer : length pieces < most_pieces
   pub at_end : IsAtEnd now
   pub count : ℕ
   pub less : count < length plan.services

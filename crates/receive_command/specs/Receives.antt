@@ -1,50 +1,20 @@
 -- What a command that receives ensures, by its answer: one record, a field a sentence.
-use Rattle.std.specs.Prelude.{◌≡◌, ◌⊎◌, ℕ, ◌+◌, ◌*◌, ◌<◌, ◌≤◌, true, false, List, length, Result, Ok, Err, OnErr, IsErrOf, ⊤}
-use Rattle.wire_spec.specs.Causes.{raised, Rose}
+use Rattle.std.specs.Prelude.{◌≡◌, ◌⊎◌, ℕ, ◌+◌, ◌*◌, true, List, length, Result, Ok, Err, OnErr, IsErrOf, ⊤}
+use Rattle.wire_spec.specs.Causes.{raised}
 use Rattle.wire_spec.specs.Content.{Stays}
 use Rattle.ipe_io.specs.Told.{InputTold, RackTold, OutputTold}
 use Rattle.ipe_io.specs.Counts.{IsFlushed}
 use Rattle.plan_spec.specs.Plan.{PlanFields}
 use Rattle.carrier_spec.specs.Stream.{piece_size}
 use Rattle.demux_core.specs.declared.receiver.ByCarrier.{ByCarrier}
-use Rattle.receive_command.specs.declared.faults.ReceiveFault.{ReceiveFault}
-use Rattle.receive_command.specs.declared.faults.ReceiveFault.TheVariants as fault
-use Rattle.receive_command.specs.Files.{AddsHeads}
-use Rattle.receive_command.specs.Reading.{most_records}
+use Rattle.capture_files.specs.declared.faults.ReceiveFault.{ReceiveFault}
+use Rattle.capture_files.specs.declared.faults.ReceiveFault.TheVariants as fault
+use Rattle.capture_files.specs.Faults.{Blames}
+use Rattle.capture_files.specs.Files.{AddsHeads}
+use Rattle.recording_reader.specs.Reading.{most_pieces}
 use Rattle.receive_command.specs.Ends.{WritesWhole, EndsWhole, EndsFront, EndsAtLimit, EndsInFiles, EndsReported, EndsInReport, Reports, ReportsPart}
-use Rattle.receive_command.specs.Writing.{IsGiven}
-
--- an input of pieces of so many bytes was read to its end, and gave fewer bytes than the most pieces have
-pub record TakesAllOf (size : ℕ) (input now : InputTold) : Type 0 where
-  pub ended : now.ended ≡ true
-  pub count : ℕ
-  pub fewer : count < size * most_records
-  pub taken : now.taken ≡ raised input.taken count
-
--- an input of pieces of so many bytes could not be read on, and gave fewer bytes than the most pieces have
-pub record TakesFrontOf (size : ℕ) (input now : InputTold) : Type 0 where
-  pub going : input.ended ≡ false → now.ended ≡ false
-  pub count : ℕ
-  pub fewer : count < size * most_records
-  pub taken : now.taken ≡ raised input.taken count
-
--- an input of pieces of so many bytes gave at most as many bytes as the most pieces have
-pub record TakesMostOf (size : ℕ) (input now : InputTold) : Type 0 where
-  pub count : ℕ
-  pub most : count ≤ size * most_records
-  pub taken : now.taken ≡ raised input.taken count
-
--- the pieces of a plan were read to the input's end, and gave fewer bytes than the most pieces have
-abbrev pub TakesAll : PlanFields → InputTold → InputTold → Type 0
-TakesAll plan input now = TakesAllOf (piece_size plan) input now
-
--- of the pieces of a plan, an input could not be read on, and gave fewer
-abbrev pub TakesFront : PlanFields → InputTold → InputTold → Type 0
-TakesFront plan input now = TakesFrontOf (piece_size plan) input now
-
--- of the pieces of a plan, an input gave at most as many bytes
-abbrev pub TakesMost : PlanFields → InputTold → InputTold → Type 0
-TakesMost plan input now = TakesMostOf (piece_size plan) input now
+use Rattle.recording_reader.specs.Taken.{TakesAllOf, TakesFrontOf, TakesMostOf}
+use Rattle.recording_reception.specs.Reception.{IsGiven}
 
 -- the rack has a file more for each service
 abbrev pub HasAllFiles : PlanFields → RackTold → RackTold → Type 0
@@ -55,20 +25,15 @@ pub record HasHeads (plan : PlanFields) (rack now : RackTold) : Type 0 where
   pub heads : AddsHeads plan.services rack.files now.files
   pub many : now.count ≡ rack.count + heads.count
 
--- a counter of faults: it rose where the answer names its object, and otherwise stayed
-pub record Blames {T : Type 0} (result : Result T ReceiveFault) (own : ReceiveFault) (before now : ℕ) : Type 0 where
-  pub rose : IsErrOf result own → Rose before now
-  pub kept : ¬ IsErrOf result own → now ≡ before
-
 -- How a recording is received into files, by the answer; where all is done, or memory runs out, or an output fails, as the command has it.
 abbrev pub ReceiveEnds : {T : Type 0} → Result T ReceiveFault → PlanFields → InputTold → InputTold → RackTold → RackTold → (Done : T → Type 0) → (LacksMemory Fails : Type 0) → Type 0
-ReceiveEnds (Ok it) plan input now rack now_rack Done LacksMemory Fails = Done it × HasAllFiles plan rack now_rack × TakesAll plan input now
+ReceiveEnds (Ok it) plan input now rack now_rack Done LacksMemory Fails = Done it × HasAllFiles plan rack now_rack × TakesAllOf (piece_size plan) input now
 ReceiveEnds (Err fault.Source) plan input now rack now_rack Done LacksMemory Fails =
-    EndsFront plan input.left now.left rack.files now_rack.files × TakesFront plan input now
+    EndsFront plan input.left now.left rack.files now_rack.files × TakesFrontOf (piece_size plan) input now
 ReceiveEnds (Err fault.TooLong) plan input now rack now_rack Done LacksMemory Fails =
-    EndsAtLimit plan input.left now.left rack.files now_rack.files × (now.taken ≡ raised input.taken (piece_size plan * most_records))
+    EndsAtLimit plan input.left now.left rack.files now_rack.files × (now.taken ≡ raised input.taken (piece_size plan * most_pieces))
 ReceiveEnds (Err fault.Rack) plan input now rack now_rack Done LacksMemory Fails =
-    EndsInFiles plan input.left now.left rack.files now_rack.files × TakesMost plan input now
+    EndsInFiles plan input.left now.left rack.files now_rack.files × TakesMostOf (piece_size plan) input now
 ReceiveEnds (Err fault.OutOfMemory) plan input now rack now_rack Done LacksMemory Fails = LacksMemory
 ReceiveEnds (Err fault.Sink) plan input now rack now_rack Done LacksMemory Fails = Fails
 
@@ -98,7 +63,7 @@ pub record Receives (result : Result ⊤ ReceiveFault) (plan : PlanFields) (inpu
       (λ done. EndsReported plan input.left now.left rack.files now_rack.files output.held now_output.held × IsFlushed now_output.held now_output.flushed)
       ((Unread × HasHeads plan rack now_rack) ⊎ EndsWhole plan input.left now.left rack.files now_rack.files)
       (EndsInReport plan input.left now.left rack.files now_rack.files output.held now_output.held × Stays output.flushed now_output.flushed
-      × HasAllFiles plan rack now_rack × TakesAll plan input now)
+      × HasAllFiles plan rack now_rack × TakesAllOf (piece_size plan) input now)
   pub unchanged : ¬ IsErrOf result fault.Sink → OnErr result Silent
   pub output_faults : Blames result fault.Sink output.faults now_output.faults
 

@@ -1,24 +1,22 @@
 //! The command `receive` for any plan: a recording of transport packets or of baseband frames in, a capture for each service and the report out.
-ghost use Rattle.std.specs.Prelude.{◌≡◌, ℕ, ◌≤◌, true, false, List, [], length, Some, slice_get, IfOk};
+ghost use Rattle.std.specs.Prelude.{◌≡◌, ℕ, ◌≤◌, true, List, length, Some, slice_get};
 ghost use Rattle.plan_spec.specs.Plan.{ServiceFields};
 ghost use Rattle.plan_spec.specs.Checks.{is_service_name};
 ghost use Rattle.plan.specs.PlanView.{plan_fields};
-ghost use Rattle.demux_core.specs.Carriers.{plan_of, stream_of};
-ghost use Rattle.demux_core.specs.Carried.{IsReady};
-ghost use Rattle.recording_reader.specs.Any.{form_in, size_in, content_in, count_in, HasReadIn};
+ghost use Rattle.demux_core.specs.Carriers.{plan_of};
+ghost use Rattle.recording_reception.specs.Reception.{IsGiven, HasBegun};
 ghost use Rattle.receive_command.specs.Report.{IsReport};
-ghost use Rattle.receive_command.specs.Writing.{IsGiven, IsFormOf, HasContentOf};
 ghost use Rattle.receive_command.specs.Receives.{Receives, PutsReport};
 
 use crate::captures::write_captures;
-use crate::faults::ReceiveFault;
 use crate::report::report_of;
 use bumpalo::Bump;
+use capture_files::ReceiveFault;
 use demux_core::Receiver;
-use ipe_io::{Failed, OutOfMemory, Rack, Sink, Source, put_all};
+use ipe_io::{Failed, Rack, Sink, Source, put_all};
 use plan::Plan;
-use recording_reader::{FramePieces, PacketPieces, RecordingPieces};
-use std::alloc::{Allocator, Global};
+use recording_reception::Reception;
+use std::alloc::Global;
 
 /// Receives a recording under a plan, of packets or of frames as the plan says: a capture for each service, `NAME.pcap` in the order of the
 /// plan, and the report.
@@ -36,51 +34,25 @@ pub fn receive_recording<I: Source, O: Sink, R: Rack>(
         (input.new ≡ input.old) (output.new ≡ output.old) }
 {
     let arena = Bump::new(alloc);
-    let mut pieces = open_pieces(&arena, plan)?;
-    let mut receiver = Receiver::open(&arena, plan)?;
-    write_and_report(alloc, plan, &mut receiver, &mut pieces, input, output, rack)
+    let mut reception = Reception::open(&arena, plan)?;
+    write_and_report(alloc, plan, &mut reception, input, output, rack)
 }
 
-/// Writes the captures, and then the report. The receiver was given nothing before.
-fn write_and_report<I: Source, O: Sink, R: Rack, A: Allocator>(
+/// Writes the captures, and then the report. The reception has begun.
+fn write_and_report<I: Source, O: Sink, R: Rack>(
     alloc: Global,
     plan: &Plan,
-    receiver: &mut Receiver<'_>,
-    pieces: &mut RecordingPieces<A>,
+    reception: &mut Reception<'_>,
     input: &mut I,
     output: &mut O,
     rack: &mut R,
 ) -> Result<(), ReceiveFault>
-    requires unread { HasReadIn pieces.old [] }
-    requires uncounted { count_in pieces.old ≡ 0 }
-    requires ready { IsReady receiver.old (length plan.now.services) (content_in pieces.old) }
-    requires room { (stream_of receiver.old).records ≡ 0 }
-    requires fresh { IsGiven false (plan_fields plan.now) [] receiver.old }
-    requires fits { IsFormOf (plan_fields plan.now) (form_in pieces.old) (size_in pieces.old) }
+    requires begun { HasBegun (plan_fields plan.now) reception.old.receiver reception.old.pieces }
     ensures receives { Receives result (plan_fields plan.now) (I.told input.old) (I.told input.new) (R.told rack.old) (R.told rack.new) (O.told output.old) (O.told output.new)
         (input.new ≡ input.old) (output.new ≡ output.old) }
 {
-    let tail = write_captures(alloc, plan, receiver, pieces, input, rack)?;
-    put_report(alloc, plan, receiver, tail, output)
-}
-
-/// The pieces of a recording under a plan. None was read.
-pub fn open_pieces<'a>(
-    arena: &'a Bump,
-    plan: &Plan,
-) -> Result<RecordingPieces<&'a Bump>, OutOfMemory>
-    ensures form { IfOk result (λ pieces. IsFormOf (plan_fields plan.now) (form_in pieces) (size_in pieces)) }
-    ensures content { IfOk result (λ pieces. HasContentOf (plan_fields plan.now) pieces) }
-    ensures unread { IfOk result (λ pieces. HasReadIn pieces []) }
-    ensures uncounted { IfOk result (λ pieces. count_in pieces ≡ 0) }
-{
-    match plan.frame_bytes {
-        None => Ok(RecordingPieces::Packets(PacketPieces::new(plan.recording))),
-        Some(size) => {
-            let place = vec![in arena; 0u8; usize::from(size)]?;
-            Ok(RecordingPieces::Frames(FramePieces::over(size, place)))
-        }
-    }
+    let tail = write_captures(alloc, plan, reception, input, rack)?;
+    put_report(alloc, plan, &reception.receiver, tail, output)
 }
 
 /// Writes the report and flushes it.

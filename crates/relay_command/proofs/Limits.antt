@@ -3,7 +3,7 @@
 use Rattle.std.proofs.Common.{◌≡◌, ◌≢◌, inl, inr, ℕ, ◌+◌, ◌<◌, ◌≤◌, List, [], ◌∷◌, ◌++◌, length, ap, sym, ◌∙◌, subst, arith}
 use Rattle.std.proofs.lemmas.List.{map-append, length-append}
 use Rattle.std.proofs.lemmas.List.Sums.{sum_by-append}
-use Rattle.pcap_file.specs.Reading.{most_records, most_bytes}
+use Rattle.pcap_file.specs.Reading.{most_pieces, most_bytes}
 use Rattle.pcap_file.specs.Told.{bytes_in}
 use Rattle.plan_spec.specs.Plan.{PlanFields}
 use Rattle.recording_spec.specs.Relayed.{datagrams_in}
@@ -37,7 +37,7 @@ module _ (plan : PlanFields) (gather : GatherState) (front : List (ℕ × List �
         size = omega (arith, fits_size, told.size_is, ap bytes_in parts, bytes_of (datagrams_in front) (datagram ∷ []));
       }
     where
-      fits_count : ¬ (most_records ≤ gather.count)
+      fits_count : ¬ (most_pieces ≤ gather.count)
       fits_count many = fits (inl many)
 
       fits_size : ¬ (most_bytes < gather.size + length datagram)

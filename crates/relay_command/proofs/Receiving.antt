@@ -11,17 +11,18 @@ use Rattle.recording_reader.specs.declared.fault.ReadFault.{ReadFault}
 use Rattle.recording_reader.specs.declared.fault.ReadFault.TheVariants as fault
 use Rattle.recording_spec.specs.Pieces.{told_pairs, pairs_of_end}
 use Rattle.recording_spec.specs.Relayed.{relayed}
-use Rattle.receive_command.specs.Reading.{HasRead, most_records}
-use Rattle.receive_command.specs.Receives.{TakesMost}
-use Rattle.receive_command.specs.Writing.{TakesPairs, RefusesAfter, StopsInLast, StopsBehind, ReceivesPieces}
-use Rattle.receive_command.proofs.Pieces.{last_pairs, below_product}
+use Rattle.recording_reader.specs.Reading.{most_pieces}
+use Rattle.recording_reader.specs.Taken.{HasRead, TakesMostOf}
+use Rattle.recording_reception.specs.Reception.{TakesPairs, RefusesAfter, StopsInLast, StopsBehind, ReceivesPieces}
+use Rattle.recording_reader.proofs.Taken.{below_product}
+use Rattle.recording_reception.proofs.NextPiece.{last_pairs}
 use Rattle.relay_core.specs.Gathering.{GatherState, IsGathered, IsCauseOf}
 use Rattle.relay_core.specs.declared.gather.GatherFault.TheVariants as gather_fault
 use Rattle.relay_command.specs.Gathered.{IsReadToEnd, FailsToRead, HasTooMany, at_most, within, after, LacksForDatagram, in_piece, at_end, GathersAll}
 use Rattle.relay_command.proofs.Limits.{pairs_pass, one_more_fits, front_fits, full, no_memory, some_cause}
 
 -- the bytes of at most the most pieces
-most_bytes_of : (size pieces : ℕ) → pieces ≤ most_records → size * pieces + 0 ≤ size * most_records
+most_bytes_of : (size pieces : ℕ) → pieces ≤ most_pieces → size * pieces + 0 ≤ size * most_pieces
 most_bytes_of size pieces few = omega (arith, mul-le-mul_left size few)
 
 module _ (plan outer : PlanFields) (input now : InputTold) (receiver : ByCarrier) (old new : GatherState) (faults now_faults : ℕ) (empty : IsGathered outer old []) where
@@ -35,7 +36,7 @@ module _ (plan outer : PlanFields) (input now : InputTold) (receiver : ByCarrier
   Received result = ReceivesPieces result plan input now receiver Took Stopped
 
   -- the input was read to its end
-  read_all : {result : Result ℕ ReadFault} (has : Received result) → length has.pieces < most_records → IsAtEnd now.left → now.ended ≡ true → IsReadToEnd plan input now has.pieces
+  read_all : {result : Result ℕ ReadFault} (has : Received result) → length has.pieces < most_pieces → IsAtEnd now.left → now.ended ≡ true → IsReadToEnd plan input now has.pieces
   read_all has fewer there ended = record {
     behind = has.behind;
     read = has.read;
@@ -104,10 +105,10 @@ module _ (plan outer : PlanFields) (input now : InputTold) (receiver : ByCarrier
     read_last : HasRead (piece_size plan) input.left now.left pieces [] → HasRead (piece_size plan) input.left now.left (stop.pieces ++ stop.piece ∷ []) []
     read_last read = subst (λ (pieces : List (List ℕ)). HasRead (piece_size plan) input.left now.left pieces []) stop.all_are read
 
-    most_last : length pieces ≤ most_records → length (stop.pieces ++ stop.piece ∷ []) ≤ most_records
-    most_last most = subst (λ (pieces : List (List ℕ)). length pieces ≤ most_records) stop.all_are most
+    most_last : length pieces ≤ most_pieces → length (stop.pieces ++ stop.piece ∷ []) ≤ most_pieces
+    most_last most = subst (λ (pieces : List (List ℕ)). length pieces ≤ most_pieces) stop.all_are most
 
-    module _ (read : HasRead (piece_size plan) input.left now.left pieces []) (most : length pieces ≤ most_records) (takes : TakesMost plan input now) where
+    module _ (read : HasRead (piece_size plan) input.left now.left pieces []) (most : length pieces ≤ most_pieces) (takes : TakesMostOf (piece_size plan) input now) where
       pub passes_in_last : new.cause ≡ gather_fault.Full → HasTooMany plan input now
       passes_in_last is = within (record {
         before = stop.pieces;
@@ -176,7 +177,7 @@ module _ (plan outer : PlanFields) (input now : InputTold) (receiver : ByCarrier
     whole : has.behind ≡ [] → HasRead (piece_size plan) input.left now.left has.pieces []
     whole none = subst (λ (behind : List ℕ). HasRead (piece_size plan) input.left now.left has.pieces behind) none has.read
 
-    takes_most : has.behind ≡ [] → length has.pieces ≤ most_records → TakesMost plan input now
+    takes_most : has.behind ≡ [] → length has.pieces ≤ most_pieces → TakesMostOf (piece_size plan) input now
     takes_most none most = record {
       count = piece_size plan * length has.pieces + 0;
       most = most_bytes_of (piece_size plan) (length has.pieces) most;

@@ -2,15 +2,15 @@
 use Rattle.std.specs.Prelude.{◌≡◌, ◌⊎◌, ℕ, ◌*◌, ◌<◌, ◌≤◌, List, [], ◌∷◌, ◌++◌, length}
 use Rattle.std.specs.Io.KnownBytes.{IsAtEnd}
 use Rattle.wire_spec.specs.Causes.{raised, Rose}
-use Rattle.pcap_file.specs.Reading.{most_records as most_datagrams, most_bytes}
+use Rattle.pcap_file.specs.Reading.{most_pieces as most_datagrams, most_bytes}
 use Rattle.pcap_file.specs.Told.{bytes_in}
 use Rattle.ipe_io.specs.Told.{InputTold}
 use Rattle.plan_spec.specs.Plan.{PlanFields}
 use Rattle.carrier_spec.specs.Stream.{piece_size}
 use Rattle.recording_spec.specs.Pieces.{told_pairs, delivered_pairs}
 use Rattle.recording_spec.specs.Relayed.{datagrams_in, relayed}
-use Rattle.receive_command.specs.Reading.{HasRead, most_records}
-use Rattle.receive_command.specs.Receives.{TakesAll, TakesFront, TakesMost}
+use Rattle.recording_reader.specs.Reading.{most_pieces}
+use Rattle.recording_reader.specs.Taken.{HasRead, TakesAllOf, TakesFrontOf, TakesMostOf}
 use Rattle.relay_core.specs.Gathering.{GatherState, FitsCapture, HasGathered}
 
 -- more datagrams than a capture has, or more bytes
@@ -25,9 +25,9 @@ told_in plan pieces = datagrams_in (told_pairs plan pieces)
 pub record IsReadToEnd (plan : PlanFields) (input now : InputTold) (pieces : List (List ℕ)) : Type 0 where
   pub behind : List ℕ
   pub read : HasRead (piece_size plan) input.left now.left pieces behind
-  pub fewer : length pieces < most_records
+  pub fewer : length pieces < most_pieces
   pub at_end : IsAtEnd now.left
-  pub takes : TakesAll plan input now
+  pub takes : TakesAllOf (piece_size plan) input now
 
 -- these are the datagrams that the recording delivers, its end included
 pub record Gathers (plan : PlanFields) (input now : InputTold) (datagrams : List (List ℕ)) : Type 0 where
@@ -40,28 +40,28 @@ pub record FailsToRead (plan : PlanFields) (input now : InputTold) : Type 0 wher
   pub pieces : List (List ℕ)
   pub behind : List ℕ
   pub read : HasRead (piece_size plan) input.left now.left pieces behind
-  pub fewer : length pieces < most_records
+  pub fewer : length pieces < most_pieces
   pub fits : FitsCapture (told_in plan pieces)
-  pub takes : TakesFront plan input now
+  pub takes : TakesFrontOf (piece_size plan) input now
   pub rose : Rose input.faults now.faults
 
 -- the most pieces that are read were read, and nothing after them; the datagrams that they tell are within the limits
 pub record StopsAtMost (plan : PlanFields) (input now : InputTold) : Type 0 where
   pub pieces : List (List ℕ)
   pub read : HasRead (piece_size plan) input.left now.left pieces []
-  pub most : length pieces ≡ most_records
+  pub most : length pieces ≡ most_pieces
   pub fits : FitsCapture (told_in plan pieces)
-  pub taken : now.taken ≡ raised input.taken (piece_size plan * most_records)
+  pub taken : now.taken ≡ raised input.taken (piece_size plan * most_pieces)
 
 -- nothing was read after the piece with which the datagrams first pass the limits
 pub record StopsWithin (plan : PlanFields) (input now : InputTold) : Type 0 where
   pub before : List (List ℕ)
   pub piece : List ℕ
   pub read : HasRead (piece_size plan) input.left now.left (before ++ piece ∷ []) []
-  pub most : length (before ++ piece ∷ []) ≤ most_records
+  pub most : length (before ++ piece ∷ []) ≤ most_pieces
   pub fits : FitsCapture (told_in plan before)
   pub many : PassesCapture (told_in plan (before ++ piece ∷ []))
-  pub takes : TakesMost plan input now
+  pub takes : TakesMostOf (piece_size plan) input now
 
 -- all was read, and the datagrams pass the limits only with those that the end gives
 pub record StopsAfter (plan : PlanFields) (input now : InputTold) : Type 0 where
@@ -85,10 +85,10 @@ pub record LacksWithin (plan : PlanFields) (input now : InputTold) : Type 0 wher
   pub datagram : List ℕ
   pub behind : List (ℕ × List ℕ)
   pub read : HasRead (piece_size plan) input.left now.left (before ++ piece ∷ []) []
-  pub most : length (before ++ piece ∷ []) ≤ most_records
+  pub most : length (before ++ piece ∷ []) ≤ most_pieces
   pub gives : told_pairs plan (before ++ piece ∷ []) ≡ told_pairs plan before ++ given ++ (service, datagram) ∷ behind
   pub fits : FitsCapture (datagrams_in (told_pairs plan before ++ given ++ (service, datagram) ∷ []))
-  pub takes : TakesMost plan input now
+  pub takes : TakesMostOf (piece_size plan) input now
 
 -- all was read, and the end gives such a datagram
 pub record LacksAfter (plan : PlanFields) (input now : InputTold) : Type 0 where

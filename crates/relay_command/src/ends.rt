@@ -1,4 +1,5 @@
 //! How a relay ends.
+use ipe_io::OutOfMemory;
 use send_command::Tally;
 
 /// How a relay ends.
@@ -25,4 +26,15 @@ pub(crate) enum GatherEnd {
     TooLong,
     /// Out of memory.
     OutOfMemory,
+}
+
+impl From<OutOfMemory> for GatherEnd {
+    ghost use Rattle.std.specs.Prelude.{◌≡◌};
+    ghost use Rattle.relay_command.specs.declared.ends.GatherEnd.TheVariants as end;
+
+    ghost from_gives = { λ _ fault. fault ≡ end.OutOfMemory };
+
+    fn from(_: OutOfMemory) -> GatherEnd {
+        GatherEnd::OutOfMemory
+    }
 }

@@ -1,19 +1,21 @@
 //! A recording -> the datagrams that it delivers, of all services in one order, offered under another plan.
-ghost use Rattle.std.specs.Prelude.{◌≡◌, IfOk, IsErrOf};
+ghost use Rattle.std.specs.Prelude.{◌≡◌, ◌×◌, [], IfOk, IsErrOf};
 ghost use Rattle.plan.specs.PlanView.{plan_fields};
 ghost use Rattle.datagram_routing.specs.Offering.{IsUnderPlan};
+ghost use Rattle.recording_reception.specs.Reception.{HasBegun};
+ghost use Rattle.relay_core.specs.Gathering.{HasGathered};
+ghost use Rattle.relay_core.specs.declared.gather.GatherFault.TheVariants as gather_fault;
 ghost use Rattle.relay_command.specs.Gathered.{FailsToRead, HasTooMany};
 ghost use Rattle.relay_command.specs.Relaying.{GathersInto, RelayLacksMemory};
 
 use crate::ends::GatherEnd;
 use bumpalo::Bump;
 use datagram_routing::Offered;
-use demux_core::Receiver;
 use ipe_io::Source;
 use plan::Plan;
-use receive_command::{open_pieces, receive_whole};
 use recording_law::delivered_datagrams_are_datagrams;
 use recording_reader::ReadFault;
+use recording_reception::Reception;
 use relay_core::{Gather, GatherFault, OuterPlan, datagrams_are_offered_as_they_are};
 use std::alloc::Global;
 
@@ -33,22 +35,31 @@ pub(crate) fn gather_recording<I: Source, P: OuterPlan>(
     ensures memory { IsErrOf result GatherEnd.OutOfMemory → RelayLacksMemory (plan_fields inner.now) (I.told input.old) (I.told input.new) }
     ensures kept { ¬ IsErrOf result GatherEnd.Source → (I.told input.new).faults ≡ (I.told input.old).faults }
 {
+    let gather: Gather<'_, P> = Gather::new(alloc, outer)?;
+    let arena = Bump::new(alloc);
+    let mut reception = Reception::open(&arena, inner)?;
+    gather_pieces(inner, &mut reception, input, gather)
+}
+
+/// Gathers what a reception delivers that has begun, its end included, into a gather that has nothing yet.
+fn gather_pieces<I: Source, P: OuterPlan>(
+    inner: &Plan,
+    reception: &mut Reception<'_>,
+    input: &mut I,
+    mut gather: Gather<'_, P>,
+) -> Result<Offered, GatherEnd>
+    requires begun { HasBegun (plan_fields inner.now) reception.old.receiver reception.old.pieces }
+    requires gathered { HasGathered P.outer gather.entry [] }
+    requires fresh { (gather.entry.cause ≡ gather_fault.None) × (gather.entry.faults ≡ 0) }
+    ensures gathers { IfOk result (λ offered. GathersInto (plan_fields inner.now) P.outer (I.told input.old) (I.told input.new) offered × IsUnderPlan P.outer offered) }
+    ensures source { IsErrOf result GatherEnd.Source → FailsToRead (plan_fields inner.now) (I.told input.old) (I.told input.new) }
+    ensures too_long { IsErrOf result GatherEnd.TooLong → HasTooMany (plan_fields inner.now) (I.told input.old) (I.told input.new) }
+    ensures memory { IsErrOf result GatherEnd.OutOfMemory → RelayLacksMemory (plan_fields inner.now) (I.told input.old) (I.told input.new) }
+    ensures kept { ¬ IsErrOf result GatherEnd.Source → (I.told input.new).faults ≡ (I.told input.old).faults }
+{
     delivered_datagrams_are_datagrams();
     datagrams_are_offered_as_they_are();
-    let arena = Bump::new(alloc);
-    let mut pieces = match open_pieces(&arena, inner) {
-        Ok(pieces) => pieces,
-        Err(_) => return Err(GatherEnd::OutOfMemory),
-    };
-    let mut gather: Gather<'_, P> = match Gather::new(alloc, outer) {
-        Ok(gather) => gather,
-        Err(_) => return Err(GatherEnd::OutOfMemory),
-    };
-    let mut receiver = match Receiver::open(&arena, inner) {
-        Ok(receiver) => receiver,
-        Err(_) => return Err(GatherEnd::OutOfMemory),
-    };
-    match receive_whole(inner, &mut receiver, &mut pieces, input, &mut gather) {
+    match reception.receive(inner, input, &mut gather) {
         Ok(_) => Ok(gather.into_offered()),
         Err(ReadFault::Source) => Err(GatherEnd::Source),
         Err(ReadFault::TooLong) => Err(GatherEnd::TooLong),

@@ -19,25 +19,21 @@ use Rattle.recording_reader.specs.Reading.{Reads}
 use Rattle.bridge_spec.specs.Frames.{BridgeCarrier, size_of_piece, received_ethernet_frames}
 use Rattle.bridge_frame.specs.Taking.{frames_of_records}
 use Rattle.bridge_frame.proofs.Taken.{frames_of_pieces}
-use Rattle.receive_command.specs.declared.faults.ReceiveFault.{ReceiveFault}
-use Rattle.receive_command.specs.declared.faults.ReceiveFault.TheVariants as fault
-use Rattle.receive_command.specs.Faults.{fault_of_reading, fault_of_adding}
-use Rattle.receive_command.specs.Files.{AddsPartOf}
-use Rattle.receive_command.specs.Growth.{records_at, records_and}
-use Rattle.receive_command.specs.Reading.{HasRead}
-use Rattle.receive_command.specs.Receives.{Blames}
-use Rattle.receive_command.proofs.Pieces.{below_product}
-use Rattle.receive_command.proofs.Pairs.{none_before}
-use Rattle.receive_command.proofs.Written.{by_last, init_same}
+use Rattle.capture_files.specs.declared.faults.ReceiveFault.{ReceiveFault}
+use Rattle.capture_files.specs.declared.faults.ReceiveFault.TheVariants as fault
+use Rattle.capture_files.specs.Faults.{Blames, fault_of_reading, fault_of_adding}
+use Rattle.capture_files.proofs.CameUp.{stays}
+use Rattle.capture_files.specs.Files.{AddsPartOf}
+use Rattle.capture_files.specs.Growth.{records_at, records_and}
+use Rattle.recording_reader.specs.Taken.{HasRead}
+use Rattle.recording_reader.proofs.Taken.{below_product, by_last, init_same}
+use Rattle.capture_files.proofs.Pairs.{none_before}
 use Rattle.unbridge_command.specs.Writing.{HasWritten, HasStopped}
 use Rattle.unbridge_command.specs.Unbridging.{Unbridges, AddsBridge, StopsInFrame, bridge_name, bridge_capture, in_head, in_frame, in_flush}
 use Rattle.unbridge_command.proofs.Frames.{record_stays}
 use Rattle.unbridge_command.proofs.Grown.{added_grown, added_flushed, added_stays, own_records, own_part, part_before}
 
 -- Counters.
-
-stays : {T : Type 0} (result : Result T ReceiveFault) (own : ReceiveFault) (before now : ℕ) → (result ≡ Err own → ⊥) → now ≡ before → Blames result own before now
-stays result own before now other same = record { rose = λ is. absurd (other is); kept = λ not. same }
 
 rises : (own : ReceiveFault) (before now : ℕ) → Rose before now → Blames {T = ⊤} (Err own) own before now
 rises own before now rose = record { rose = λ is. rose; kept = λ not. absurd (not refl) }

@@ -6,10 +6,10 @@ use Rattle.std.proofs.lemmas.Bool.{cases_lt, eq-eqb}
 use Rattle.wire_spec.specs.Content.{File, AddsFile, ChangesFile, Stays, grown, flushed_file, no_file}
 use Rattle.outlet_spec.specs.Pairs.{pairs_of}
 use Rattle.pcap_file.specs.Capture.{capture_record}
-use Rattle.receive_command.specs.Growth.{GrowEach, Grow, text_in, records_at, records_and}
-use Rattle.receive_command.specs.Files.{file_with}
-use Rattle.receive_command.proofs.Grown.{grown_nil}
-use Rattle.receive_command.proofs.Pairs.{none_before, text_before}
+use Rattle.capture_files.specs.Growth.{GrowEach, Grow, text_in, records_at, records_and}
+use Rattle.capture_files.specs.Files.{file_with}
+use Rattle.capture_files.proofs.Grown.{grown_nil}
+use Rattle.capture_files.proofs.Pairs.{none_before, text_before}
 
 last_grown : (olds heads news : List File) (file : File) (place : ℕ) (text : ℕ → List ℕ) → length olds ≡ place → heads ≡ olds ++ file ∷ []
     → GrowEach heads news text → ((at : ℕ) → at < place → text at ≡ []) → news ≡ olds ++ grown file (text place) ∷ []

@@ -11,10 +11,10 @@ use Rattle.wire_spec.specs.Lists.{joined, IsCut}
 use Rattle.ipe_io.specs.Told.{InputTold, RackTold}
 use Rattle.pcap_file.specs.Capture.{ethernet_head, ethernet_capture, capture_record}
 use Rattle.bridge_spec.specs.Frames.{BridgeCarrier, size_of_piece, received_ethernet_frames}
-use Rattle.receive_command.specs.declared.faults.ReceiveFault.{ReceiveFault}
-use Rattle.receive_command.specs.declared.faults.ReceiveFault.TheVariants as fault
-use Rattle.receive_command.specs.Files.{file_with, AddsPartOf}
-use Rattle.receive_command.specs.Reading.{HasRead}
+use Rattle.capture_files.specs.declared.faults.ReceiveFault.{ReceiveFault}
+use Rattle.capture_files.specs.declared.faults.ReceiveFault.TheVariants as fault
+use Rattle.capture_files.specs.Files.{file_with, AddsPartOf}
+use Rattle.recording_reader.specs.Taken.{HasRead}
 use Rattle.unbridge_command.specs.Unbridging.{Unbridges, AddsBridge, EndsInFile, in_head, in_frame, in_flush, bridge_name, bridge_capture}
 use Rattle.unbridge_command.specs.Parts.{HasBridgePart}
 use Rattle.unbridge_command.proofs.Frames.{frames_go_on}

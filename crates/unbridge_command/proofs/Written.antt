@@ -11,11 +11,11 @@ use Rattle.recording_reader.specs.Reading.{Reads, Ends}
 use Rattle.bridge_spec.specs.Frames.{BridgeCarrier}
 use Rattle.bridge_frame.specs.Bridge.{BridgeState}
 use Rattle.bridge_frame.specs.Taking.{HasTaken, TookRecords, StoppedInRecord, frames_of_records, added_by_record}
-use Rattle.receive_command.specs.declared.outlet.Progress.{Progress}
-use Rattle.receive_command.specs.declared.outlet.Progress.TheVariants.{Whole}
-use Rattle.receive_command.specs.Growth.{Grow, records_and}
-use Rattle.receive_command.specs.Outlets.{RackSeen, StandsFor, Refuses, failures}
-use Rattle.receive_command.proofs.Outlets.{seen, BeginsWith, writes_all, part_of}
+use Rattle.capture_files.specs.declared.outlet.Progress.{Progress}
+use Rattle.capture_files.specs.declared.outlet.Progress.TheVariants.{Whole}
+use Rattle.capture_files.specs.Growth.{Grow, records_and}
+use Rattle.capture_files.specs.Outlets.{RackSeen, StandsFor, Refuses, failures}
+use Rattle.capture_files.proofs.Outlets.{seen, BeginsWith, writes_all, part_of}
 use Rattle.unbridge_command.specs.Writing.{HasWritten, HasStopped}
 use Rattle.unbridge_command.proofs.Frames.{Split, split}
 

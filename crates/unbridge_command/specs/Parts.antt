@@ -1,7 +1,7 @@
 -- What the file has at any end of an `unbridge`.
 use Rattle.std.specs.Prelude.{◌⊎◌, ℕ, List, Option}
 use Rattle.wire_spec.specs.Content.{File, AddsFile, Stays}
-use Rattle.receive_command.specs.Files.{IsPart}
+use Rattle.capture_files.specs.Files.{IsPart}
 use Rattle.unbridge_command.specs.Unbridging.{bridge_name}
 
 -- bridge.pcap was added with a prefix of a text

@@ -7,11 +7,12 @@ use Rattle.wire_spec.specs.Content.{File, AddsFile, Stays}
 use Rattle.ipe_io.specs.Told.{InputTold, RackTold}
 use Rattle.pcap_file.specs.Capture.{ethernet_head, ethernet_capture, capture_record}
 use Rattle.bridge_spec.specs.Frames.{BridgeCarrier, size_of_piece, received_ethernet_frames}
-use Rattle.receive_command.specs.Files.{file_with, AddsPartOf}
-use Rattle.receive_command.specs.Reading.{HasRead, most_records}
-use Rattle.receive_command.specs.Receives.{Blames, TakesAllOf, TakesFrontOf, TakesMostOf}
-use Rattle.receive_command.specs.declared.faults.ReceiveFault.{ReceiveFault}
-use Rattle.receive_command.specs.declared.faults.ReceiveFault.TheVariants as fault
+use Rattle.capture_files.specs.Files.{file_with, AddsPartOf}
+use Rattle.recording_reader.specs.Reading.{most_pieces}
+use Rattle.recording_reader.specs.Taken.{HasRead, TakesAllOf, TakesFrontOf, TakesMostOf}
+use Rattle.capture_files.specs.Faults.{Blames}
+use Rattle.capture_files.specs.declared.faults.ReceiveFault.{ReceiveFault}
+use Rattle.capture_files.specs.declared.faults.ReceiveFault.TheVariants as fault
 
 -- The file.
 
@@ -34,7 +35,7 @@ pub record EndsWhole (carrier : BridgeCarrier) (left now : Option (List ℕ)) (o
   pub pieces : List (List ℕ)
   pub tail : List ℕ
   pub read : HasRead (size_of_piece carrier) left now pieces tail
-  pub fewer : length pieces < most_records
+  pub fewer : length pieces < most_pieces
   pub at_end : IsAtEnd now
   pub file : AddsBridge true (bridge_capture carrier pieces) old new
 
@@ -44,14 +45,14 @@ pub record EndsFront (carrier : BridgeCarrier) (left now : Option (List ℕ)) (o
   pub pieces : List (List ℕ)
   pub behind : List ℕ
   pub read : HasRead (size_of_piece carrier) left now pieces behind
-  pub fewer : length pieces < most_records
+  pub fewer : length pieces < most_pieces
   pub file : AddsBridge false (bridge_capture carrier pieces) old new
 
 -- the most pieces were read, and nothing after them; the file is the capture of what they give, and nothing is flushed
 pub record EndsAtLimit (carrier : BridgeCarrier) (left now : Option (List ℕ)) (old new : Option (List File)) : Type 0 where
   pub pieces : List (List ℕ)
   pub read : HasRead (size_of_piece carrier) left now pieces []
-  pub limit : length pieces ≡ most_records
+  pub limit : length pieces ≡ most_pieces
   pub file : AddsBridge false (bridge_capture carrier pieces) old new
 
 -- the rack stopped at the head of the file: nothing was read, and no file was added, or it has less than its head
@@ -65,7 +66,7 @@ pub record StopsInFrame (carrier : BridgeCarrier) (left now : Option (List ℕ))
   pub pieces : List (List ℕ)
   pub piece : List ℕ
   pub read : HasRead (size_of_piece carrier) left now (pieces ++ piece ∷ []) []
-  pub fewer : length pieces < most_records
+  pub fewer : length pieces < most_pieces
   pub front : List (List ℕ)
   pub frame : List ℕ
   pub rest : List (List ℕ)
@@ -79,7 +80,7 @@ pub record StopsInFlush (carrier : BridgeCarrier) (left now : Option (List ℕ))
   pub pieces : List (List ℕ)
   pub tail : List ℕ
   pub read : HasRead (size_of_piece carrier) left now pieces tail
-  pub fewer : length pieces < most_records
+  pub fewer : length pieces < most_pieces
   pub at_end : IsAtEnd now
   pub file : AddsBridge false (bridge_capture carrier pieces) old new
 
@@ -98,7 +99,7 @@ UnbridgeEnds (Ok done) carrier input now rack now_rack Unread =
 UnbridgeEnds (Err fault.Source) carrier input now rack now_rack Unread =
     EndsFront carrier input.left now.left rack.files now_rack.files × TakesFrontOf (size_of_piece carrier) input now
 UnbridgeEnds (Err fault.TooLong) carrier input now rack now_rack Unread =
-    EndsAtLimit carrier input.left now.left rack.files now_rack.files × (now.taken ≡ raised input.taken (size_of_piece carrier * most_records))
+    EndsAtLimit carrier input.left now.left rack.files now_rack.files × (now.taken ≡ raised input.taken (size_of_piece carrier * most_pieces))
 UnbridgeEnds (Err fault.Rack) carrier input now rack now_rack Unread =
     EndsInFile carrier input.left now.left rack.files now_rack.files × TakesMostOf (size_of_piece carrier) input now
 UnbridgeEnds (Err fault.OutOfMemory) carrier input now rack now_rack Unread = Unread × (now_rack.count ≡ rack.count) × Stays rack.files now_rack.files

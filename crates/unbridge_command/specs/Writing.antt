@@ -7,7 +7,7 @@ use Rattle.outlet_spec.specs.Pairs.{pairs_of}
 use Rattle.pcap_file.specs.Capture.{capture_record}
 use Rattle.bridge_spec.specs.Frames.{BridgeCarrier}
 use Rattle.bridge_frame.specs.Taking.{frames_of_records, added_by_record}
-use Rattle.receive_command.specs.Growth.{Grow, records_at, records_and}
+use Rattle.capture_files.specs.Growth.{Grow, records_at, records_and}
 
 -- by all of them, and nothing failed
 pub record HasWritten (carrier : BridgeCarrier) (place : ℕ) (rack now : RackTold) (records : List Record) : Type 0 where

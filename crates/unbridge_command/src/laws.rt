@@ -5,7 +5,7 @@ ghost use Rattle.std.specs.Prelude.{◌≡◌, ℕ, List, ◌++◌, Option, Some
 ghost use Rattle.wire_spec.specs.Lists.{IsCut};
 ghost use Rattle.ipe_io.specs.Told.{InputTold, RackTold};
 ghost use Rattle.bridge_spec.specs.Frames.{BridgeCarrier, size_of_piece, received_ethernet_frames};
-ghost use Rattle.receive_command.specs.declared.faults.ReceiveFault.{ReceiveFault};
+ghost use Rattle.capture_files.specs.declared.faults.ReceiveFault.{ReceiveFault};
 ghost use Rattle.unbridge_command.specs.Unbridging.{Unbridges, bridge_capture};
 ghost use Rattle.unbridge_command.specs.Parts.{HasBridgePart};
 

@@ -1,6 +1,6 @@
 //! The command `unbridge`: a recording in, the Ethernet frames of one PID or ISI out, as a capture.
 //!
-//! Receiving: Source -> recording_reader -> bridge_frame -> [unbridge_command] -> receive_command's outlet -> Rack.
+//! Receiving: Source -> recording_reader -> bridge_frame -> [unbridge_command] -> capture_files -> Rack.
 //! Begin with `unbridge_sndus` and `unbridge_pdus`.
 #![tactic(auto)]
 

@@ -6,15 +6,15 @@ ghost use Rattle.ipe_io.specs.Counts.{HasAddCause};
 ghost use Rattle.pcap_file.specs.Capture.{ethernet_head};
 ghost use Rattle.bridge_spec.specs.Frames.{BridgeCarrier, on_pid, on_isi, size_of_piece};
 ghost use Rattle.bridge_frame.specs.Taking.{HasTaken, TakesSize};
-ghost use Rattle.receive_command.specs.Files.{AddsPartOf};
+ghost use Rattle.capture_files.specs.Files.{AddsPartOf};
 ghost use Rattle.unbridge_command.specs.Unbridging.{Unbridges, AddsBridge, bridge_name};
 
 use crate::writing::write_frames;
 use bridge_frame::Bridge;
+use capture_files::{ReceiveFault, add_file};
 use gse_reassembly::Slot;
 use ipe_io::{AddFault, Failed, OutOfMemory, Rack, Recording, Source};
 use pcap_file::write_ethernet_head;
-use receive_command::{ReceiveFault, add_file};
 use recording_reader::{FramePieces, PacketPieces, Pieces};
 use std::alloc::{Allocator, Global};
 use std::marker::Brand;

@@ -6,8 +6,8 @@ ghost use Rattle.bridge_frame.specs.Taking.{HasTaken, TakesSize};
 ghost use Rattle.unbridge_command.specs.Writing.{HasWritten, HasStopped};
 
 use bridge_frame::Bridge;
+use capture_files::{Began, Progress, RackOutlet};
 use ipe_io::{Rack, Source};
-use receive_command::{Began, Progress, RackOutlet};
 use recording_reader::{Pieces, ReadFault, read_to_end};
 use std::alloc::Allocator;
 use std::marker::PhantomData;

@@ -3,9 +3,9 @@ use Rattle.std.proofs.lemmas.List.{length-map}
 use Rattle.plan_spec.specs.Plan.{PlanFields}
 use Rattle.plan.specs.Parts.{service_seen}
 use Rattle.plan.specs.PlanView.{plan_fields}
-use Rattle.receive_command.specs.Faults.{fault_of_reading, fault_of_adding}
-use Rattle.receive_command.proofs.CameUp.{comes_up}
-use Rattle.receive_command.proofs.Plans.{changes_right, services_count}
+use Rattle.capture_files.specs.Faults.{fault_of_reading, fault_of_adding}
+use Rattle.capture_files.proofs.CameUp.{comes_up}
+use Rattle.recording_reception.proofs.Plans.{changes_right, services_count}
 use Rattle.receive_command.proofs.Captured.{sized, heads_stopped, captured_part, captured_whole, captured_in_flush}
 use Rattle.receive_command.proofs.captures.write_captures.Goals as goal
 
@@ -14,7 +14,7 @@ returns-in_err-first g c =
     let failed = comes_up c.from_residual.result (fault_of_adding c.in_err-first.field-0.0) (fault_of_adding c.in_err-first.field-0.0) c.from_residual.ensures.1 refl in
     record {
       captures = rw failed (heads_stopped c.in_err-first.field-0.0 (plan_fields c.args.plan.now) (g.I.Source.told c.args.input.now) (g.R.Rack.told c.args.rack.now) (g.R.Rack.told c.add_files.new.rack)
-          c.args.receiver.now (c.args.input.now ≡ c.args.input.now) (search rules) refl c.in_err-first.ensures.failed (λ e. let begun = c.in_err-first.ensures.memory e in record { heads = begun.0; many = begun.1 }) c.in_err-first.ensures.cause);
+          c.args.reception.now.receiver (c.args.input.now ≡ c.args.input.now) (search rules) refl c.in_err-first.ensures.failed (λ e. let begun = c.in_err-first.ensures.memory e in record { heads = begun.0; many = begun.1 }) c.in_err-first.ensures.cause);
     }
 
 pub returns-in_err-tail : goal.returns-in_err-tail
@@ -23,7 +23,7 @@ returns-in_err-tail g c =
     let failed = comes_up c.from_residual-in_err-tail.result (fault_of_reading c.in_err-tail.field-0.0) (fault_of_reading c.in_err-tail.field-0.0) c.from_residual-in_err-tail.ensures.1 refl in
     record {
       captures = rw failed (captured_part plan c.in_ok-first.first (g.I.Source.told c.args.input.now) (g.I.Source.told c.write_pieces.new.input)
-          (g.R.Rack.told c.args.rack.now) (g.R.Rack.told c.add_files.new.rack) (g.R.Rack.told c.write_pieces.new.rack) c.write_pieces.new.receiver (c.write_pieces.new.input ≡ c.args.input.now)
+          (g.R.Rack.told c.args.rack.now) (g.R.Rack.told c.add_files.new.rack) (g.R.Rack.told c.write_pieces.new.rack) c.write_pieces.new.reception.receiver (c.write_pieces.new.input ≡ c.args.input.now)
           (sized (g.R.Rack.told c.args.rack.now).files (g.R.Rack.told c.args.rack.now).count c.in_ok-first.first c.in_ok-first.ensures.place.0 (g.met.R.Rack.as_many c.args.rack.now))
           c.in_ok-first.ensures.written.1 (c.in_ok-first.ensures.cause.kept (λ f. absurd (cc)))
           c.in_err-tail.field-0.0 c.in_err-tail.ensures.writes);
@@ -48,7 +48,7 @@ returns-in-Ok g c = record {
   captures =
       let plan : PlanFields = plan_fields c.args.plan.now in
       captured_whole plan c.in_ok-first.first (g.I.Source.told c.args.input.now) (g.I.Source.told c.write_pieces.new.input)
-      (g.R.Rack.told c.args.rack.now) (g.R.Rack.told c.add_files.new.rack) (g.R.Rack.told c.write_pieces.new.rack) c.write_pieces.new.receiver (c.write_pieces.new.input ≡ c.args.input.now)
+      (g.R.Rack.told c.args.rack.now) (g.R.Rack.told c.add_files.new.rack) (g.R.Rack.told c.write_pieces.new.rack) c.write_pieces.new.reception.receiver (c.write_pieces.new.input ≡ c.args.input.now)
       (sized (g.R.Rack.told c.args.rack.now).files (g.R.Rack.told c.args.rack.now).count c.in_ok-first.first c.in_ok-first.ensures.place.0 (g.met.R.Rack.as_many c.args.rack.now))
       c.in_ok-first.ensures.written.1 (c.in_ok-first.ensures.cause.kept (λ f. absurd (cc)))
       (g.R.Rack.told c.flush_files.new.rack) c.in_ok-tail.tail c.len-services.result (changes_right plan c.args.plan.now.whole)
@@ -61,7 +61,7 @@ returns-in-Err g c = record {
   captures =
       let plan : PlanFields = plan_fields c.args.plan.now in
       captured_in_flush plan c.in_ok-first.first (g.I.Source.told c.args.input.now) (g.I.Source.told c.write_pieces.new.input)
-      (g.R.Rack.told c.args.rack.now) (g.R.Rack.told c.add_files.new.rack) (g.R.Rack.told c.write_pieces.new.rack) c.write_pieces.new.receiver (c.write_pieces.new.input ≡ c.args.input.now)
+      (g.R.Rack.told c.args.rack.now) (g.R.Rack.told c.add_files.new.rack) (g.R.Rack.told c.write_pieces.new.rack) c.write_pieces.new.reception.receiver (c.write_pieces.new.input ≡ c.args.input.now)
       (sized (g.R.Rack.told c.args.rack.now).files (g.R.Rack.told c.args.rack.now).count c.in_ok-first.first c.in_ok-first.ensures.place.0 (g.met.R.Rack.as_many c.args.rack.now))
       c.in_ok-first.ensures.written.1 (c.in_ok-first.ensures.cause.kept (λ f. absurd (cc)))
       (g.R.Rack.told c.flush_files.new.rack) c.in_ok-tail.tail c.len-services.result (changes_right plan c.args.plan.now.whole)

@@ -1,6 +1,6 @@
 use Rattle.std.proofs.Common.{◌≡◌, rules, refl, arith}
-use Rattle.receive_command.specs.Faults.{fault_of_adding}
-use Rattle.receive_command.proofs.CameUp.{comes_up}
+use Rattle.capture_files.specs.Faults.{fault_of_adding}
+use Rattle.capture_files.proofs.CameUp.{comes_up}
 use Rattle.unbridge_command.proofs.Ended.{sized, as_plain, head_stopped, ended_early, ended_whole, ended_in_flush}
 use Rattle.unbridge_command.proofs.unbridging.unbridge.Goals as goal
 

@@ -1,5 +1,5 @@
 use Rattle.std.proofs.Common.{ap}
-use Rattle.receive_command.specs.Outlets.{RackSeen}
+use Rattle.capture_files.specs.Outlets.{RackSeen}
 use Rattle.unbridge_command.proofs.Written.{reads_as, wrote_all, wrote_part}
 use Rattle.unbridge_command.proofs.writing.write_frames.Goals as goal
 

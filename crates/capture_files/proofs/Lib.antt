@@ -1,0 +1,9 @@
+pub mod CameUp
+pub mod Texts
+pub mod Grown
+pub mod Outlets
+pub mod Adding
+pub mod Parts
+pub mod Flushed
+pub mod Pairs
+pub mod Assembly

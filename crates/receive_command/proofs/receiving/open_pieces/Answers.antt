@@ -1,7 +1,0 @@
-use Rattle.std.proofs.Common.{arith}
-use Rattle.plan.specs.PlanView.{plan_fields}
-use Rattle.bb_stream_law.proofs.PlanChecks.{has_size}
-use Rattle.receive_command.proofs.receiving.open_pieces.Goals as goal
-
-pub over-requires-clause-some : goal.over-requires-clause-some
-over-requires-clause-some c = omega (arith, (has_size (plan_fields c.args.plan.now) c.in-Some.size c.args.plan.now.whole c.in-Some.is).0)

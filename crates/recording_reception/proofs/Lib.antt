@@ -1,0 +1,4 @@
+pub mod Begun
+pub mod NextPiece
+pub mod Received
+pub mod Plans
