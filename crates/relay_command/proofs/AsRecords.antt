@@ -1,5 +1,5 @@
 -- Datagrams as records, as a sender takes them.
-use Rattle.std.proofs.Common.{◌≡◌, ℕ, ◌≤◌, List, length, subst, sym, arith, Option, Some}
+use Rattle.std.proofs.Common.{◌≡◌, ℕ, List, subst, sym, arith, Option, Some}
 use Rattle.std.specs.Prelude.{All, IfSome}
 use Rattle.std.proofs.lemmas.List.{length-map}
 use Rattle.std.proofs.lemmas.List.Elements.{All-map}
@@ -8,7 +8,6 @@ use Rattle.ipe_io.specs.Told.{InputTold}
 use Rattle.plan_spec.specs.Plan.{PlanFields}
 use Rattle.plan_spec.specs.Offered.{Records}
 use Rattle.datagram_routing.specs.Offering.{IsOffered, HoldDatagrams, IsUnderPlan}
-use Rattle.datagram_routing.specs.declared.offered.Offered.{Offered}
 use Rattle.recording_spec.specs.Relayed.{as_records, relayed}
 use Rattle.relay_core.specs.Gathering.{GatherState, delivered_records}
 use Rattle.relay_command.specs.Gathered.{GathersAll}

@@ -1,9 +1,9 @@
 -- What is gathered would pass the limits with one datagram more: so do all datagrams of which these are a front. Where it would not, these
 -- and that one are within them; and so is what a list within the limits begins with.
-use Rattle.std.proofs.Common.{◌≡◌, ◌≢◌, inl, inr, ℕ, ◌+◌, ◌<◌, ◌≤◌, List, [], ◌∷◌, ◌++◌, length, ap, sym, ◌∙◌, subst, arith}
+use Rattle.std.proofs.Common.{◌≡◌, ◌≢◌, inl, inr, ℕ, ◌+◌, ◌<◌, ◌≤◌, List, [], ◌∷◌, ◌++◌, length, ap, ◌∙◌, arith}
 use Rattle.std.proofs.lemmas.List.{map-append, length-append}
 use Rattle.std.proofs.lemmas.List.Sums.{sum_by-append}
-use Rattle.pcap_file.specs.Reading.{most_pieces, most_bytes}
+use Rattle.pcap_file.specs.Reading.{most_records, most_bytes}
 use Rattle.pcap_file.specs.Told.{bytes_in}
 use Rattle.plan_spec.specs.Plan.{PlanFields}
 use Rattle.recording_spec.specs.Relayed.{datagrams_in}
@@ -37,7 +37,7 @@ module _ (plan : PlanFields) (gather : GatherState) (front : List (ℕ × List �
         size = omega (arith, fits_size, told.size_is, ap bytes_in parts, bytes_of (datagrams_in front) (datagram ∷ []));
       }
     where
-      fits_count : ¬ (most_pieces ≤ gather.count)
+      fits_count : ¬ (most_records ≤ gather.count)
       fits_count many = fits (inl many)
 
       fits_size : ¬ (most_bytes < gather.size + length datagram)

@@ -2,7 +2,7 @@
 use Rattle.std.specs.Prelude.{◌≡◌, ◌⊎◌, ℕ, ◌*◌, ◌<◌, ◌≤◌, List, [], ◌∷◌, ◌++◌, length}
 use Rattle.std.specs.Io.KnownBytes.{IsAtEnd}
 use Rattle.wire_spec.specs.Causes.{raised, Rose}
-use Rattle.pcap_file.specs.Reading.{most_pieces as most_datagrams, most_bytes}
+use Rattle.pcap_file.specs.Reading.{most_records as most_datagrams, most_bytes}
 use Rattle.pcap_file.specs.Told.{bytes_in}
 use Rattle.ipe_io.specs.Told.{InputTold}
 use Rattle.plan_spec.specs.Plan.{PlanFields}

@@ -1,5 +1,5 @@
 //! A recording -> the datagrams that it delivers, of all services in one order, offered under another plan.
-ghost use Rattle.std.specs.Prelude.{◌≡◌, ◌×◌, [], IfOk, IsErrOf};
+ghost use Rattle.std.specs.Prelude.{◌≡◌, [], IfOk, IsErrOf};
 ghost use Rattle.plan.specs.PlanView.{plan_fields};
 ghost use Rattle.datagram_routing.specs.Offering.{IsUnderPlan};
 ghost use Rattle.recording_reception.specs.Reception.{HasBegun};
@@ -49,8 +49,8 @@ fn gather_pieces<I: Source, P: OuterPlan>(
     mut gather: Gather<'_, P>,
 ) -> Result<Offered, GatherEnd>
     requires begun { HasBegun (plan_fields inner.now) reception.old.receiver reception.old.pieces }
-    requires gathered { HasGathered P.outer gather.entry [] }
-    requires fresh { (gather.entry.cause ≡ gather_fault.None) × (gather.entry.faults ≡ 0) }
+    requires gathered { HasGathered P.outer gather [] }
+    requires fresh { (gather.cause ≡ gather_fault.None) × (gather.faults ≡ 0) }
     ensures gathers { IfOk result (λ offered. GathersInto (plan_fields inner.now) P.outer (I.told input.old) (I.told input.new) offered × IsUnderPlan P.outer offered) }
     ensures source { IsErrOf result GatherEnd.Source → FailsToRead (plan_fields inner.now) (I.told input.old) (I.told input.new) }
     ensures too_long { IsErrOf result GatherEnd.TooLong → HasTooMany (plan_fields inner.now) (I.told input.old) (I.told input.new) }
