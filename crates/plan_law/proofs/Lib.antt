@@ -5,3 +5,4 @@ pub mod Windows
 pub mod Rules
 pub mod Alone
 pub mod Versions
+pub mod Plans

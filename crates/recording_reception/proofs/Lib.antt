@@ -1,4 +1,3 @@
 pub mod Begun
 pub mod NextPiece
 pub mod Received
-pub mod Plans

@@ -5,7 +5,7 @@ use Rattle.plan.specs.Parts.{service_seen}
 use Rattle.plan.specs.PlanView.{plan_fields}
 use Rattle.capture_files.specs.Faults.{fault_of_reading, fault_of_adding}
 use Rattle.capture_files.proofs.CameUp.{comes_up}
-use Rattle.recording_reception.proofs.Plans.{changes_right, services_count}
+use Rattle.plan_law.proofs.Plans.{changes_right, services_count}
 use Rattle.receive_command.proofs.Captured.{sized, heads_stopped, captured_part, captured_whole, captured_in_flush}
 use Rattle.receive_command.proofs.captures.write_captures.Goals as goal
 

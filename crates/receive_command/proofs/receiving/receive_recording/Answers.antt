@@ -2,7 +2,7 @@ use Rattle.std.proofs.Common.{◌≡◌, refl}
 use Rattle.plan.specs.PlanView.{plan_fields}
 use Rattle.capture_files.specs.declared.faults.ReceiveFault.TheVariants as fault
 use Rattle.capture_files.proofs.CameUp.{comes_up}
-use Rattle.recording_reception.proofs.Plans.{services_count}
+use Rattle.plan_law.proofs.Plans.{services_count}
 use Rattle.receive_command.proofs.Received.{lacks_all}
 use Rattle.receive_command.proofs.receiving.receive_recording.Goals as goal
 

@@ -3,7 +3,7 @@ use Rattle.std.proofs.lemmas.List.{length-map}
 use Rattle.capture_files.proofs.CameUp.{comes_up}
 use Rattle.plan.specs.Parts.{service_seen}
 use Rattle.plan.specs.PlanView.{plan_fields}
-use Rattle.recording_reception.proofs.Plans.{services_count, services_named}
+use Rattle.plan_law.proofs.Plans.{services_count, services_named}
 use Rattle.receive_command.proofs.Received.{captures_fail, reported}
 use Rattle.receive_command.proofs.receiving.write_and_report.Goals as goal
 

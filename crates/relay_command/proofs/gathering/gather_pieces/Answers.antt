@@ -2,7 +2,7 @@ use Rattle.std.proofs.Common.{sym, subst, ◌∙◌}
 use Rattle.ipe_io.specs.Told.{InputTold}
 use Rattle.plan_spec.specs.Plan.{PlanFields}
 use Rattle.plan.specs.PlanView.{plan_fields}
-use Rattle.recording_reception.proofs.Plans.{services_count}
+use Rattle.plan_law.proofs.Plans.{services_count}
 use Rattle.datagram_routing.specs.declared.offered.Offered.{Offered}
 use Rattle.datagram_routing.specs.Offering.{IsUnderPlan}
 use Rattle.relay_command.specs.Relaying.{GathersInto, at_datagram}
