@@ -72,8 +72,10 @@ module _ (reader now_reader : ReaderState) (input mid now : InputTold) (TookMid 
       ends_in_input reader.form (record_size reader.form) input mid now TookMid pieces given Stopped bytes (omega (arith, few, has_read.stands.count)) short
       takes.bytes_are takes.rose going rose
 
-  pub packets_most : (Stopped : List Record → Type 0) → reader.count ≡ 2 ^ 32 → Reads (Err fault.TooLong) reader.form (record_size reader.form) input mid TookMid Stopped
-  packets_most Stopped full = ends_at_limit reader.form (record_size reader.form) input mid TookMid Stopped pieces given (some_size reader.form) (sym has_read.stands.count ∙ full)
+  pub packets_most : (Stopped : List Record → Type 0) → reader.count ≡ 2 ^ 32 → now ≡ mid → Reads (Err fault.TooLong) reader.form (record_size reader.form) input now TookMid Stopped
+  packets_most Stopped full same =
+      subst (λ (t : InputTold). Reads (Err fault.TooLong) reader.form (record_size reader.form) input t TookMid Stopped) (sym same)
+      (ends_at_limit reader.form (record_size reader.form) input mid TookMid Stopped pieces given (some_size reader.form) (sym has_read.stands.count ∙ full))
 
 -- Frames.
 
@@ -113,8 +115,10 @@ module _ (reader now_reader : FrameReaderState) (input mid now : InputTold) (Too
       ends_in_input plain reader.size input mid now TookMid frames given Stopped bytes (omega (arith, few, has_read.stands.count)) short
       takes.bytes_are takes.rose going rose
 
-  pub frames_most : (Stopped : List Record → Type 0) → reader.count ≡ 2 ^ 32 → Reads (Err fault.TooLong) plain reader.size input mid TookMid Stopped
-  frames_most Stopped full = ends_at_limit plain reader.size input mid TookMid Stopped frames given has_read.some (sym has_read.stands.count ∙ full)
+  pub frames_most : (Stopped : List Record → Type 0) → reader.count ≡ 2 ^ 32 → now ≡ mid → Reads (Err fault.TooLong) plain reader.size input now TookMid Stopped
+  frames_most Stopped full same =
+      subst (λ (t : InputTold). Reads (Err fault.TooLong) plain reader.size input t TookMid Stopped) (sym same)
+      (ends_at_limit plain reader.size input mid TookMid Stopped frames given has_read.some (sym has_read.stands.count ∙ full))
 
 -- none was lent, and all is as it was
 pub still_frames : (reader now_reader : FrameReaderState) (told now_told : InputTold) (frames : List (List ℕ)) (lent : Option (Bor (List ℕ))) → lent ≡ None
@@ -160,3 +164,23 @@ pub reads_still : (reader now_reader : ReaderState) (result : Result ℕ ReadFau
     → Reads result now_reader.form (record_size now_reader.form) input now Took Stopped → Reads result reader.form (record_size reader.form) input now Took Stopped
 reads_still reader now_reader result input now Took Stopped same reads =
     subst (λ (r : ReaderState). Reads result r.form (record_size r.form) input now Took Stopped) same reads
+
+-- where no record was lent, the reader has read what it had, and the taker has taken it
+pub packets_on : (reader now_reader : ReaderState) (input told now_told : InputTold) (Took : List Record → Type 0) (pieces : List (List ℕ)) (lent : Option LentRecord) → lent ≡ None
+    → LendsRecord reader now_reader told now_told pieces (option_map lent_seen lent) → HasReadPackets reader pieces → HasTaken reader.form (record_size reader.form) input told Took pieces
+    → (now_reader ≡ reader) × HasReadPackets now_reader pieces × HasTaken now_reader.form (record_size now_reader.form) input now_told Took pieces
+packets_on reader now_reader input told now_told Took pieces lent none lends has_read given =
+    let same = still reader now_reader told now_told pieces lent none lends in
+    (same.0, has_still reader now_reader pieces same.0 has_read, taken_still reader now_reader input told now_told Took pieces same.0 same.1 given)
+
+-- the same of frames
+pub frames_on : (reader now_reader : FrameReaderState) (input told now_told : InputTold) (Took : List Record → Type 0) (frames : List (List ℕ)) (lent : Option (Bor (List ℕ))) → lent ≡ None
+    → LendsFrame reader now_reader told now_told frames (option_copied lent) → HasReadFrames reader frames → HasTaken plain reader.size input told Took frames
+    → (now_reader ≡ reader) × HasReadFrames now_reader frames × HasTaken plain now_reader.size input now_told Took frames
+frames_on reader now_reader input told now_told Took frames lent none lends has_read given =
+    let same = still_frames reader now_reader told now_told frames lent none lends in
+    (same.0, has_frames_still reader now_reader frames same.0 has_read, taken_frames_still reader now_reader input told now_told Took frames same.0 same.1 given)
+
+-- one piece more was counted
+pub one_more : (count now_count : ℕ) (pieces : List (List ℕ)) (piece : List ℕ) → count ≡ length pieces → now_count ≡ length (pieces ++ piece ∷ []) → now_count ≡ count + 1
+one_more count now_count pieces piece before after = omega (arith, length_push pieces piece)
