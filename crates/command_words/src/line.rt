@@ -1,6 +1,6 @@
 //! The command line as it is described to `clap`: ten subcommands, each with one required value, `relay` with two.
-ghost use Rattle.std.specs.Prelude.{◌≡◌, false, IfOk, map, string_bytes, IfErr};
-ghost use Rattle.clap.specs.Words.{app_of, takes};
+ghost use Rattle.std.specs.Prelude.{◌≡◌, false, IfOk, IsOkAnd, map, string_bytes, IfErr};
+ghost use Rattle.clap.specs.Words.{app_of, takes, with_subcommand};
 ghost use Rattle.clap.specs.declared.Command.{out-Command as fields_of};
 ghost use Rattle.command_words.specs.Line.{and_command, bare_line, command_line, valued, valued_twice};
 
@@ -28,10 +28,11 @@ fn with_two_values<'a>(
     ensures app { IfOk result (λ c. app_of c ≡ valued_twice name.entry.now first.entry.now second.entry.now) }
     ensures local { IfOk result (λ c. (fields_of c).has_globals ≡ false) }
 {
+    let command = with_value(alloc, name, first)?;
     let arg = Arg::new(alloc, second)
         .required(true)
         .action(ArgAction::Set);
-    with_value(alloc, name, first)?.arg(arg)
+    command.arg(arg)
 }
 
 /// The line with no subcommand yet: no help, no version, and words that are read as they stand.
@@ -46,6 +47,17 @@ fn empty_line<'a>(alloc: Global) -> Command<'a>
         .subcommand_required(true)
 }
 
+/// The line with one more subcommand, where there was memory for that.
+fn and_made<'a>(
+    line: Command<'a>,
+    made: Result<Command<'a>, OutOfMemory>,
+) -> Result<Command<'a>, OutOfMemory>
+    requires { IfOk made (λ m. (fields_of m).has_globals ≡ false) }
+    ensures { IfOk result (λ c. IsOkAnd made.entry (λ m. app_of c ≡ with_subcommand (app_of line.entry) (app_of m).top)) }
+{
+    line.subcommand(made?)
+}
+
 /// The line with one more subcommand, of one required value.
 fn and_command<'a>(
     alloc: Global,
@@ -55,25 +67,28 @@ fn and_command<'a>(
 ) -> Result<Command<'a>, OutOfMemory>
     ensures { IfOk result (λ c. app_of c ≡ and_command (app_of line.entry) name.entry.now value.entry.now) }
 {
-    let command = with_value(alloc, name, value)?;
-    line.subcommand(command)
+    and_made(line, with_value(alloc, name, value))
 }
 
 /// The whole command line.
 fn whole_line<'a>(alloc: Global) -> Result<Command<'a>, OutOfMemory>
     ensures { IfOk result (λ c. app_of c ≡ command_line) }
 {
-    let send = and_command(alloc, empty_line(alloc), "send", "SETTINGS")?;
-    let receive = and_command(alloc, send, "receive", "SETTINGS")?;
-    let ule = and_command(alloc, receive, "ule", "PID")?;
-    let check = and_command(alloc, ule, "check", "SETTINGS")?;
-    let sample = and_command(alloc, check, "sample", "NUMBER")?;
-    let tables = and_command(alloc, sample, "tables", "SETTINGS")?;
-    let find = and_command(alloc, tables, "find", "PID")?;
-    let bridge = and_command(alloc, find, "bridge", "CARRIER")?;
-    let unbridge = and_command(alloc, bridge, "unbridge", "CARRIER")?;
-    let relay = with_two_values(alloc, "relay", "IN", "OUT")?;
-    unbridge.subcommand(relay)
+    let mut line = empty_line(alloc);
+    for (name, value) in [
+        ("send", "SETTINGS"),
+        ("receive", "SETTINGS"),
+        ("ule", "PID"),
+        ("check", "SETTINGS"),
+        ("sample", "NUMBER"),
+        ("tables", "SETTINGS"),
+        ("find", "PID"),
+        ("bridge", "CARRIER"),
+        ("unbridge", "CARRIER"),
+    ] {
+        line = and_command(alloc, line, name, value)?;
+    }
+    and_made(line, with_two_values(alloc, "relay", "IN", "OUT"))
 }
 
 /// Asks `clap`: Usage only where it does not take the words.
