@@ -1,7 +1,7 @@
 -- Bytes put after others in a buffer.
 use Rattle.std.proofs.Common.{◌≡◌, ℕ, ◌+◌, ◌-◌, ◌≤◌, min, true, List, [], ◌∷◌, ◌++◌, length, take, drop, replicate, append_assoc, length-drop, ap, sym, ◌∙◌, arith}
 use Rattle.std.proofs.Math.ListN.{set}
-use Rattle.std.proofs.lemmas.List.{append-nil, length-set, length-take-le, take_min, take_at, take_more_set, drop_at, drop_all, take_all}
+use Rattle.std.proofs.lemmas.List.{append-nil, length-set, length-take-le, take_min, take_at, take_more_set, drop_at, drop_all, drop-drop, take_all}
 use Rattle.std.proofs.lemmas.Slice.{take-put_mid, take-put_mid_below}
 use Rattle.std.proofs.Math.Seq.{take-append-add}
 use borrow.Rule.Slice.PartMut.{put_mid, mid_of}
@@ -51,3 +51,9 @@ around_pointer packet put bytes pointer size k whole within end put_is size_is =
     ∙ ap (λ (n : ℕ). take 5 (set packet 4 pointer) ++ (bytes ++ replicate n 0xFF)) left
     ∙ ap (λ (t : List ℕ). t ++ (bytes ++ replicate (183 - length bytes) 0xFF)) (take_more_set packet 4 pointer (omega (arith, whole)))
     ∙ append_assoc (take 4 packet) (pointer ∷ []) (bytes ++ replicate (183 - length bytes) 0xFF)
+
+-- bytes put to a place of a packet stand there
+pub put_is : (packet put bytes : List ℕ) (from k : ℕ) → put ≡ bytes → length bytes ≡ k → put_mid from k packet put ≡ with_bytes from bytes packet
+put_is packet put bytes from k same size_is =
+    ap (λ (t : List ℕ). take from packet ++ (t ++ drop k (drop from packet))) same
+    ∙ ap (λ (t : List ℕ). take from packet ++ (bytes ++ t)) (drop-drop k from packet ∙ ap (λ (n : ℕ). drop (from + n) packet) (sym size_is))
