@@ -2,6 +2,7 @@
 //!
 //! S, E, LT and GSE Length in bytes 0 and 1, then by S and E Frag ID, Total Length, Protocol Type and label.
 ghost use Rattle.std.specs.Prelude.{◌≡◌, ◌+◌, ◌≤◌, length};
+ghost use Rattle.wire_spec.specs.Bytes.{u16_at, u32_at};
 ghost use Rattle.gse_spec.specs.Packet.{has_start as is_start, has_end as is_end, label_type as type_of_label, label_size, label_at, label_of, fields_size, gse_length};
 
 use addr_rules::Label;
@@ -78,6 +79,22 @@ pub(crate) fn length_of(bytes: &[u8]) -> usize
     ensures read { result ≡ gse_length bytes.now }
 {
     (usize::from(bytes[0]) * 256 + usize::from(bytes[1])) % LENGTH_VALUES
+}
+
+/// The number in two bytes: Total Length, or Protocol Type.
+pub(crate) fn number_at(bytes: &[u8], at: usize) -> u16
+    requires { at + 2 ≤ length bytes.now }
+    ensures read { result ≡ u16_at bytes.now at }
+{
+    u16::from(bytes[at]) * 256 + u16::from(bytes[at + 1])
+}
+
+/// The CRC-32 at a place.
+pub(crate) fn crc_at(bytes: &[u8], at: usize) -> u32
+    requires { at + 4 ≤ length bytes.now }
+    ensures read { result ≡ u32_at bytes.now at }
+{
+    u32::from_be_bytes([bytes[at], bytes[at + 1], bytes[at + 2], bytes[at + 3]])
 }
 
 /// The label bytes that stand in the packet: 6, 3 or 0.

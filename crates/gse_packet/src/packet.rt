@@ -4,8 +4,8 @@ ghost use Rattle.gse_spec.specs.Packet.{is_cut, is_short, packet_at_front, readi
 ghost use Rattle.gse_packet.specs.Views.{packet_in, reading_in, HoldsPacket};
 
 use crate::fields::{
-    CRC, FRAG_ID, HEAD, PROTOCOL_TYPE, REUSED, TOTAL_LENGTH, has_end, has_start, label_type,
-    length_of, read_label, size_of_fields, size_of_label,
+    CRC, FRAG_ID, HEAD, PROTOCOL_TYPE, REUSED, TOTAL_LENGTH, crc_at, has_end, has_start,
+    label_type, length_of, number_at, read_label, size_of_fields, size_of_label,
 };
 use addr_rules::Label;
 
@@ -105,14 +105,14 @@ fn fields_of(before: Option<Label>, bytes: &[u8]) -> Gse<'_>
     let end = HEAD + length_of(bytes);
     match (has_start(bytes), has_end(bytes)) {
         (true, true) => Gse::Complete {
-            protocol: u16::from(bytes[HEAD]) * 256 + u16::from(bytes[HEAD + 1]),
+            protocol: number_at(bytes, HEAD),
             label: read_label(before, bytes, COMPLETE_LABEL),
             pdu: &bytes[COMPLETE_LABEL + usize::from(size_of_label(bytes))..end],
         },
         (true, false) => Gse::Start {
             id: bytes[HEAD],
-            total: u16::from(bytes[AFTER_ID]) * 256 + u16::from(bytes[AFTER_ID + 1]),
-            protocol: u16::from(bytes[FIRST_PROTOCOL]) * 256 + u16::from(bytes[FIRST_PROTOCOL + 1]),
+            total: number_at(bytes, AFTER_ID),
+            protocol: number_at(bytes, FIRST_PROTOCOL),
             label: read_label(before, bytes, FIRST_LABEL),
             written: size_of_label(bytes),
             pdu: &bytes[FIRST_LABEL + usize::from(size_of_label(bytes))..end],
@@ -120,12 +120,7 @@ fn fields_of(before: Option<Label>, bytes: &[u8]) -> Gse<'_>
         (false, true) => Gse::End {
             id: bytes[HEAD],
             pdu: &bytes[AFTER_ID..end - CRC],
-            crc: u32::from_be_bytes([
-                bytes[end - CRC],
-                bytes[end - CRC + 1],
-                bytes[end - CRC + 2],
-                bytes[end - CRC + 3],
-            ]),
+            crc: crc_at(bytes, end - CRC),
         },
         (false, false) => Gse::Middle {
             id: bytes[HEAD],
