@@ -15,6 +15,3 @@ mod table;
 
 pub use register8::crc8;
 pub use register32::{crc32, crc32_step, ends_with_crc};
-
-#[cfg(test)]
-mod tests;

@@ -1,4 +1,4 @@
-//! Tests of the crates of MPE-FEC frames and time slicing, over rows, tables, sections and bursts by hand.
+//! Tests of the crates of MPE-FEC frames and time slicing, over elements, rows, tables, sections and bursts by hand.
 //!
 //! Tests alone. They stand apart from the crates that they test, so that a change of a test proves none of them anew.
 #![tactic(auto)]
@@ -13,6 +13,8 @@ mod frame_encoding;
 mod frame_units_tests;
 #[cfg(test)]
 mod frame_walk_tests;
+#[cfg(test)]
+mod gf256_tests;
 #[cfg(test)]
 mod lines;
 #[cfg(test)]

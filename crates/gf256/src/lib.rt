@@ -10,8 +10,6 @@ mod factor;
 mod halves;
 mod kernels;
 mod plain;
-#[cfg(test)]
-mod tests;
 
 pub use element::Gf;
 pub use kernels::{horner_columns, horner_step, mul_add};

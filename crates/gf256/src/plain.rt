@@ -1,44 +1,8 @@
-//! The product bit by bit, as it was before that by halves, and the kernels byte by byte, as they were before those by lanes: the tests run
-//! both.
-ghost use Rattle.std.specs.Prelude.{◌==◌, ◌≡◌, ◌<◌, ℕ, if◌then◌else◌, length, slice_index};
-ghost use Rattle.division_law.specs.Registers.{register_step};
+//! The kernels byte by byte: those by lanes end with them, where fewer bytes than lanes are left.
+ghost use Rattle.std.specs.Prelude.{◌≡◌, ◌<◌, ℕ, length, slice_index};
 ghost use Rattle.fec_spec.specs.Field.{field_product, field_sum};
 
 use crate::element::Gf;
-
-/// What x^8 is: x^4+x^3+x^2+1 (EN 301 192 clause 9).
-const POLYNOMIAL: u8 = 0x1D;
-
-/// x times the element.
-fn doubled(value: u8) -> u8
-    ensures { result ≡ register_step 7 0x1D value }
-{
-    if value < 0x80 {
-        value * 2
-    } else {
-        (value << 1) ^ POLYNOMIAL
-    }
-}
-
-/// The value where the bit is 1, otherwise 0.
-fn chosen(bit: u8, value: u8) -> u8
-    ensures { result ≡ (if bit == 1 then value else 0) }
-{
-    if bit == 1 { value } else { 0 }
-}
-
-/// The product of the polynomials, modulo x^8+x^4+x^3+x^2+1.
-pub(crate) fn mul(one: Gf, other: Gf) -> Gf
-    ensures { result.0 ≡ field_product one.0 other.0 }
-{
-    let mut sum = 0u8;
-    let mut shifted = other.0;
-    for place in 0..8u32 {
-        sum ^= chosen((one.0 >> place) & 1, shifted);
-        shifted = doubled(shifted);
-    }
-    Gf(sum)
-}
 
 /// Adds `c` times each byte of `source` to the byte of `target` at its place.
 pub(crate) fn mul_add(c: Gf, source: &[u8], target: &mut [u8])

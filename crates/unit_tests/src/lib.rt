@@ -1,5 +1,5 @@
-//! Tests of units and tables: bytes and texts by hand -> [ip_datagram, addr_rules, ts_packet, unit_stream, section_codec, mpe_section,
-//! ule_unit, ule_extension, int_table, psi_tables, loss_report] -> fields, bytes, lines and faults.
+//! Tests of units and tables: bytes and texts by hand -> [ip_datagram, addr_rules, crc_unit, ts_packet, unit_stream, section_codec,
+//! mpe_section, ule_unit, ule_extension, int_table, psi_tables, loss_report] -> check sums, fields, bytes, lines and faults.
 //!
 //! Tests alone. They stand apart from the crates that they test, so that each of these is proved once. Begin with `cases`.
 #![tactic(auto)]
@@ -8,6 +8,8 @@
 mod addr_rules_tests;
 #[cfg(test)]
 mod cases;
+#[cfg(test)]
+mod crc_unit_tests;
 #[cfg(test)]
 mod int_table_tests;
 #[cfg(test)]
