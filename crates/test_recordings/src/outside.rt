@@ -142,14 +142,24 @@ fn rack_of(alloc: Global, given: &Given<'_>) -> Result<MemRack, OutOfMemory> {
     MemRack::new(alloc, 2, given.room.max(10_000), &fails)
 }
 
+/// The output of a run, and what takes its line.
+fn sinks_of(alloc: Global, given: &Given<'_>) -> Result<(MemSink, MemSink), OutOfMemory> {
+    let output = output_of(alloc, given)?;
+    Ok((output, MemSink::new(alloc, 200, &[])?))
+}
+
+/// The objects of a run that have files.
+fn files_of(alloc: Global, given: &Given<'_>) -> Result<(MemShelf, MemRack), OutOfMemory> {
+    let shelf = shelf_of(alloc, given)?;
+    Ok((shelf, rack_of(alloc, given)?))
+}
+
 impl Outside {
     /// The objects that a run is given.
     pub fn new(alloc: Global, given: &Given<'_>) -> Result<Outside, OutOfMemory> {
-        let shelf = shelf_of(alloc, given)?;
         let input = input_of(alloc, given)?;
-        let output = output_of(alloc, given)?;
-        let rack = rack_of(alloc, given)?;
-        let complaints = MemSink::new(alloc, 200, &[])?;
+        let (output, complaints) = sinks_of(alloc, given)?;
+        let (shelf, rack) = files_of(alloc, given)?;
         Ok(Outside {
             shelf,
             input,
