@@ -18,8 +18,9 @@ use Rattle.capture_files.proofs.Adding.{adds_none}
 use Rattle.relay_core.specs.Gathering.{FitsCapture}
 use Rattle.relay_command.specs.Gathered.{FailsToRead, HasTooMany, at_most, within, after as after_end}
 use Rattle.relay_command.specs.Relaying.{RelayLacksMemory, Receives, Relays}
+use Rattle.relay_command.specs.declared.ends.RelayEnd.{RelayEnd}
 use Rattle.relay_command.specs.declared.ends.RelayEnd.TheVariants as ends
-use Rattle.ipencap_engine.specs.Statuses.{status_line}
+use Rattle.ipencap_engine.specs.Statuses.{status_line, status_of, outcome_line, outcome_of_relay}
 use Rattle.ipencap_engine.specs.World.{World, world, Object, the_shelf, the_input, the_output, the_rack}
 use Rattle.ipencap_engine.specs.Jobs.{to_relay, may_use, IsPlanOf}
 use Rattle.ipencap_engine.specs.Settings.{GivesPlan, GivesOuter, IsRefusedBy, in_first, in_outer}
@@ -120,7 +121,7 @@ module _ (first second : List ℕ) (inner outer : PlanFields) (whole : is_whole_
             );
       }
 
-  pub relay_done : (tally : Tally) → Relays (ends.Done tally) inner outer input taken output held Silent
+  relay_done : (tally : Tally) → Relays (ends.Done tally) inner outer input taken output held Silent
       → Runs (to_relay first second) Done (tally_line tally) before after same
   relay_done tally all =
       let sends = all.stands in
@@ -140,7 +141,7 @@ module _ (first second : List ℕ) (inner outer : PlanFields) (whole : is_whole_
       }))
       (λ plan is e. absurd (cc)) (tally, refl)
 
-  pub relay_sink_fault : Relays ends.SinkFault inner outer input taken output held Silent
+  relay_sink_fault : Relays ends.SinkFault inner outer input taken output held Silent
       → Runs (to_relay first second) SinkFault (status_line SinkFault) before after same
   relay_sink_fault all =
       let sends = all.stands in
@@ -163,7 +164,7 @@ module _ (first second : List ℕ) (inner outer : PlanFields) (whole : is_whole_
   silent (inl e) = absurd (cc)
   silent (inr is) = is
 
-  pub relay_source_fault : Relays ends.SourceFault inner outer input taken output held Silent
+  relay_source_fault : Relays ends.SourceFault inner outer input taken output held Silent
       → Runs (to_relay first second) SourceFault (status_line SourceFault) before after same
   relay_source_fault all =
       without_files (to_relay first second) SourceFault (status_line SourceFault) before after same refl refl
@@ -176,7 +177,7 @@ module _ (first second : List ℕ) (inner outer : PlanFields) (whole : is_whole_
       (λ plan bytes is told. subst (λ (q : PlanFields). FailsToRead q input taken) (one_inner plan is) all.stands)
       (λ plan is e. absurd (cc)) refl
 
-  pub relay_too_long : Relays ends.TooLong inner outer input taken output held Silent
+  relay_too_long : Relays ends.TooLong inner outer input taken output held Silent
       → Runs (to_relay first second) TooLong (status_line TooLong) before after same
   relay_too_long all =
       without_files (to_relay first second) TooLong (status_line TooLong) before after same refl refl
@@ -187,7 +188,7 @@ module _ (first second : List ℕ) (inner outer : PlanFields) (whole : is_whole_
       (λ plan bytes is told. subst (λ (q : PlanFields). HasTooMany q input taken) (one_inner plan is) all.stands)
       (λ plan is e. absurd (cc)) refl
 
-  pub relay_lacking : Relays ends.OutOfMemory inner outer input taken output held Silent
+  relay_lacking : Relays ends.OutOfMemory inner outer input taken output held Silent
       → Runs (to_relay first second) OutOfMemory (status_line OutOfMemory) before after same
   relay_lacking all =
       without_files (to_relay first second) OutOfMemory (status_line OutOfMemory) before after same refl refl
@@ -197,3 +198,11 @@ module _ (first second : List ℕ) (inner outer : PlanFields) (whole : is_whole_
       tt
       (λ plan bytes is told. subst (λ (q : PlanFields). RelayLacksMemory q input taken) (one_inner plan is) all.stands)
       (λ plan is e. in_memory (λ files. absurd (cc)) refl (stays-refl rack.files)) refl
+
+  pub relay_ends : (end : RelayEnd) → Relays end inner outer input taken output held Silent
+      → Runs (to_relay first second) (status_of (outcome_of_relay end)) (outcome_line (outcome_of_relay end)) before after same
+  relay_ends (ends.Done tally) all = relay_done tally all
+  relay_ends ends.SourceFault all = relay_source_fault all
+  relay_ends ends.SinkFault all = relay_sink_fault all
+  relay_ends ends.TooLong all = relay_too_long all
+  relay_ends ends.OutOfMemory all = relay_lacking all

@@ -6,9 +6,9 @@ ghost use Rattle.ipencap_engine.specs.Jobs.{to_relay};
 ghost use Rattle.ipencap_engine.specs.Statuses.{outcome_line, status_of};
 ghost use Rattle.ipencap_engine.specs.Runs.{Runs};
 
-use crate::status::{Outcome, Status, outcome_of};
+use crate::status::{Outcome, outcome_of};
 use ipe_io::{Shelf, Sink, Source};
-use relay_command::{RelayEnd, relay};
+use relay_command::relay;
 use settings_load::load_plan;
 use std::alloc::Global;
 
@@ -33,11 +33,5 @@ pub fn relay_recording<S: Shelf, I: Source, O: Sink>(
         Ok(plan) => plan,
         Err(error) => return outcome_of(error),
     };
-    match relay(alloc, &received, &sent, input, output) {
-        RelayEnd::Done(tally) => Outcome::Sent(tally),
-        RelayEnd::SourceFault => Outcome::Ended(Status::SourceFault),
-        RelayEnd::SinkFault => Outcome::Ended(Status::SinkFault),
-        RelayEnd::TooLong => Outcome::Ended(Status::TooLong),
-        RelayEnd::OutOfMemory => Outcome::Ended(Status::OutOfMemory),
-    }
+    Outcome::from(relay(alloc, &received, &sent, input, output))
 }

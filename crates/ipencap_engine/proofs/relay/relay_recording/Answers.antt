@@ -4,7 +4,7 @@ use Rattle.settings_load.specs.declared.fault.SettingsError.TheVariants.{ShelfFa
 use Rattle.ipencap_engine.specs.Jobs.{to_relay}
 use Rattle.ipencap_engine.proofs.Plans.{IsFileOf, RefusesNone, told_name}
 use Rattle.ipencap_engine.proofs.Settings.{runs_unsettled, outer_unsettled, runs_by, keeps}
-use Rattle.ipencap_engine.proofs.Relayed.{relay_done, relay_sink_fault, relay_source_fault, relay_too_long, relay_lacking}
+use Rattle.ipencap_engine.proofs.Relayed.{relay_ends}
 use Rattle.ipencap_engine.proofs.relay.relay_recording.Goals as goal
 
 pub returns-in-Err : goal.returns-in-Err
@@ -27,62 +27,15 @@ returns-in-Err-load_plan g c = λ rack.
     c.in-Err-load_plan.error (λ f. e.cause (ap (λ x. Err x) f)) (λ n. e.kept (λ f. n (let same : c.in-Err-load_plan.error ≡ ShelfFault = cc in same)))
     e.refused (λ plan given. e.only given.bytes plan (o.unchanged c.args.outer.now ∙ told_name _ c.args.outer.now (g.S.Shelf.told c.args.shelf.now) given.bytes refl given.told) given.gives))
 
-pub returns-in-Done : goal.returns-in-Done
-returns-in-Done g c = λ rack.
-    let o = c.in-Ok.ensures in
-    let t = c.in-Ok-load_plan.ensures in
-    relay_done c.args.inner.now c.args.outer.now (plan_fields c.in-Ok.plan) (plan_fields c.in-Ok-load_plan.plan) c.in-Ok.plan.whole (g.S.Shelf.told c.args.shelf.now) (g.S.Shelf.told c.load_plan-2.new.shelf)
-    (g.I.Source.told c.args.input.now) (g.I.Source.told c.relay.new.input) (g.O.Sink.told c.args.output.now) (g.O.Sink.told c.relay.new.output) rack _
-    (keeps (to_relay c.args.inner.now c.args.outer.now) (g.S.Shelf.told c.args.shelf.now) (g.S.Shelf.told c.load_plan-2.new.shelf) (λ n. t.unchanged n ∙ o.unchanged n)
-    (λ n. omega (arith, o.later n, t.later n)) (λ n. t.kept (λ f. absurd (cc)) n ∙ o.kept (λ f. absurd (cc)) n))
-    o.read o.fails (subst (λ (f : Option (List ℕ)). IsFileOf f (plan_fields c.in-Ok-load_plan.plan)) (o.unchanged c.args.outer.now) t.read)
-    (subst (λ (f : Option (List ℕ)). RefusesNone f) (o.unchanged c.args.outer.now) t.fails)
-    tt (c.relay.new.output ≡ c.args.output.now) (λ same. same) c.in-Done.tally c.in-Done.ensures.relays
-
-pub returns-in-SourceFault : goal.returns-in-SourceFault
-returns-in-SourceFault g c = λ rack.
-    let o = c.in-Ok.ensures in
-    let t = c.in-Ok-load_plan.ensures in
-    relay_source_fault c.args.inner.now c.args.outer.now (plan_fields c.in-Ok.plan) (plan_fields c.in-Ok-load_plan.plan) c.in-Ok.plan.whole (g.S.Shelf.told c.args.shelf.now) (g.S.Shelf.told c.load_plan-2.new.shelf)
-    (g.I.Source.told c.args.input.now) (g.I.Source.told c.relay.new.input) (g.O.Sink.told c.args.output.now) (g.O.Sink.told c.relay.new.output) rack _
-    (keeps (to_relay c.args.inner.now c.args.outer.now) (g.S.Shelf.told c.args.shelf.now) (g.S.Shelf.told c.load_plan-2.new.shelf) (λ n. t.unchanged n ∙ o.unchanged n)
-    (λ n. omega (arith, o.later n, t.later n)) (λ n. t.kept (λ f. absurd (cc)) n ∙ o.kept (λ f. absurd (cc)) n))
-    o.read o.fails (subst (λ (f : Option (List ℕ)). IsFileOf f (plan_fields c.in-Ok-load_plan.plan)) (o.unchanged c.args.outer.now) t.read)
-    (subst (λ (f : Option (List ℕ)). RefusesNone f) (o.unchanged c.args.outer.now) t.fails)
-    tt (c.relay.new.output ≡ c.args.output.now) (λ same. same) c.in-SourceFault.ensures.relays
-
-pub returns-in-SinkFault : goal.returns-in-SinkFault
-returns-in-SinkFault g c = λ rack.
-    let o = c.in-Ok.ensures in
-    let t = c.in-Ok-load_plan.ensures in
-    relay_sink_fault c.args.inner.now c.args.outer.now (plan_fields c.in-Ok.plan) (plan_fields c.in-Ok-load_plan.plan) c.in-Ok.plan.whole (g.S.Shelf.told c.args.shelf.now) (g.S.Shelf.told c.load_plan-2.new.shelf)
-    (g.I.Source.told c.args.input.now) (g.I.Source.told c.relay.new.input) (g.O.Sink.told c.args.output.now) (g.O.Sink.told c.relay.new.output) rack _
-    (keeps (to_relay c.args.inner.now c.args.outer.now) (g.S.Shelf.told c.args.shelf.now) (g.S.Shelf.told c.load_plan-2.new.shelf) (λ n. t.unchanged n ∙ o.unchanged n)
-    (λ n. omega (arith, o.later n, t.later n)) (λ n. t.kept (λ f. absurd (cc)) n ∙ o.kept (λ f. absurd (cc)) n))
-    o.read o.fails (subst (λ (f : Option (List ℕ)). IsFileOf f (plan_fields c.in-Ok-load_plan.plan)) (o.unchanged c.args.outer.now) t.read)
-    (subst (λ (f : Option (List ℕ)). RefusesNone f) (o.unchanged c.args.outer.now) t.fails)
-    tt (c.relay.new.output ≡ c.args.output.now) (λ same. same) c.in-SinkFault.ensures.relays
-
-pub returns-in-TooLong : goal.returns-in-TooLong
-returns-in-TooLong g c = λ rack.
-    let o = c.in-Ok.ensures in
-    let t = c.in-Ok-load_plan.ensures in
-    relay_too_long c.args.inner.now c.args.outer.now (plan_fields c.in-Ok.plan) (plan_fields c.in-Ok-load_plan.plan) c.in-Ok.plan.whole (g.S.Shelf.told c.args.shelf.now) (g.S.Shelf.told c.load_plan-2.new.shelf)
-    (g.I.Source.told c.args.input.now) (g.I.Source.told c.relay.new.input) (g.O.Sink.told c.args.output.now) (g.O.Sink.told c.relay.new.output) rack _
-    (keeps (to_relay c.args.inner.now c.args.outer.now) (g.S.Shelf.told c.args.shelf.now) (g.S.Shelf.told c.load_plan-2.new.shelf) (λ n. t.unchanged n ∙ o.unchanged n)
-    (λ n. omega (arith, o.later n, t.later n)) (λ n. t.kept (λ f. absurd (cc)) n ∙ o.kept (λ f. absurd (cc)) n))
-    o.read o.fails (subst (λ (f : Option (List ℕ)). IsFileOf f (plan_fields c.in-Ok-load_plan.plan)) (o.unchanged c.args.outer.now) t.read)
-    (subst (λ (f : Option (List ℕ)). RefusesNone f) (o.unchanged c.args.outer.now) t.fails)
-    tt (c.relay.new.output ≡ c.args.output.now) (λ same. same) c.in-TooLong.ensures.relays
-
 pub returns : goal.returns
 returns g c = λ rack.
     let o = c.in-Ok.ensures in
     let t = c.in-Ok-load_plan.ensures in
-    relay_lacking c.args.inner.now c.args.outer.now (plan_fields c.in-Ok.plan) (plan_fields c.in-Ok-load_plan.plan) c.in-Ok.plan.whole (g.S.Shelf.told c.args.shelf.now) (g.S.Shelf.told c.load_plan-2.new.shelf)
+    runs_by (to_relay c.args.inner.now c.args.outer.now) c.from.result _ _ _ _ c.from.ensures
+    (relay_ends c.args.inner.now c.args.outer.now (plan_fields c.in-Ok.plan) (plan_fields c.in-Ok-load_plan.plan) c.in-Ok.plan.whole (g.S.Shelf.told c.args.shelf.now) (g.S.Shelf.told c.load_plan-2.new.shelf)
     (g.I.Source.told c.args.input.now) (g.I.Source.told c.relay.new.input) (g.O.Sink.told c.args.output.now) (g.O.Sink.told c.relay.new.output) rack _
     (keeps (to_relay c.args.inner.now c.args.outer.now) (g.S.Shelf.told c.args.shelf.now) (g.S.Shelf.told c.load_plan-2.new.shelf) (λ n. t.unchanged n ∙ o.unchanged n)
     (λ n. omega (arith, o.later n, t.later n)) (λ n. t.kept (λ f. absurd (cc)) n ∙ o.kept (λ f. absurd (cc)) n))
     o.read o.fails (subst (λ (f : Option (List ℕ)). IsFileOf f (plan_fields c.in-Ok-load_plan.plan)) (o.unchanged c.args.outer.now) t.read)
     (subst (λ (f : Option (List ℕ)). RefusesNone f) (o.unchanged c.args.outer.now) t.fails)
-    tt (c.relay.new.output ≡ c.args.output.now) (λ same. same) c.in-OutOfMemory.ensures.relays
+    tt (c.relay.new.output ≡ c.args.output.now) (λ same. same) c.relay.result c.relay.ensures.relays)
