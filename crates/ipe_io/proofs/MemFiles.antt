@@ -1,8 +1,8 @@
 -- One file of a rack in memory that changes.
-use Rattle.std.proofs.Common.{◌≡◌, ℕ, ◌<◌, List, length, take, get_or, set, ap, sym, ◌∙◌, arith}
-use Rattle.std.proofs.lemmas.List.{map-set, get_or-map, length-map, length-take, get_or-take}
-use Rattle.std.proofs.Math.Seq.{take-set-lt}
-use Rattle.wire_spec.specs.Content.{File, no_file}
+use Rattle.std.proofs.Common.{◌≡◌, ℕ, ◌+◌, ◌<◌, ◌≤◌, List, [], ◌∷◌, ◌++◌, length, take, get_or, set, ap, sym, ◌∙◌, add-one, arith}
+use Rattle.std.proofs.lemmas.List.{map-append, map-set, get_or-map, length-map, length-take, get_or-take}
+use Rattle.std.proofs.Math.Seq.{take-set-lt, take-suc-set}
+use Rattle.wire_spec.specs.Content.{File, no_file, empty_file}
 use Rattle.ipe_io.specs.Memory.{Stored, files_of}
 
 -- a place of a file that is seen is one of a stored file
@@ -32,3 +32,18 @@ one_changed files seen used at change before after is lt read changed =
     ∙ map-set (λ (s : Stored). s.file) front at after
     ∙ ap (λ s. set s at after.file) is
     ∙ ap (set seen at) (changed ∙ ap change (sym (file_there files seen used at before is lt read)))
+
+-- as many files are seen as are used
+pub seen_are_used : (files : List Stored) (seen : List File) (used : ℕ) → files_of (take used files) ≡ seen → used ≤ length files → length seen ≡ used
+seen_are_used files seen used is le = omega (arith, ap length is, length-map (take used files) (λ (s : Stored). s.file), length-take used files)
+
+-- a file that begins at the first unused place follows those that are seen
+pub one_added : (files : List Stored) (seen : List File) (used : ℕ) (name given : List ℕ) (after : Stored)
+    → files_of (take used files) ≡ seen → used < length files → after.file ≡ empty_file given → given ≡ name
+    → files_of (take (used + 1) (set files used after)) ≡ seen ++ empty_file name ∷ []
+one_added files seen used name given after is lt begun same =
+    ap (λ k. files_of (take k (set files used after))) (add-one used)
+    ∙ ap files_of (take-suc-set files used after lt)
+    ∙ map-append (λ (s : Stored). s.file) (take used files) (after ∷ [])
+    ∙ ap (λ s. s ++ after.file ∷ []) is
+    ∙ ap (λ f. seen ++ f ∷ []) (begun ∙ ap empty_file same)

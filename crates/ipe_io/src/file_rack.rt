@@ -1,5 +1,5 @@
 //! A rack over the files of the current folder.
-ghost use Rattle.std.specs.Prelude.{◌≡◌, ◌<◌, ◌≤◌, ℕ, length, vec_len, IfOk, OnOk, OnErr};
+ghost use Rattle.std.specs.Prelude.{◌≡◌, ◌+◌, ◌<◌, ◌≤◌, ℕ, length, vec_len, is_ok, if◌then◌else◌, IfOk, OnOk, OnErr};
 ghost use Rattle.wire_spec.specs.Causes.{RoseBy};
 
 use crate::outside::BUFFER;
@@ -52,6 +52,21 @@ impl<R: Files + Drop> FileRack<R> {
         self.faults = self.faults.saturating_add(failed);
         if failed == 0 { Ok(()) } else { Err(Failed) }
     }
+
+    // Adds a file, and counts no fault.
+    fn open(&mut self, alloc: Global, name: &str) -> Result<u32, AddFault>
+        ensures place { IfOk result (λ at. at ≡ self.old.count) }
+        ensures count { self.new.count ≡ (if is_ok result then self.old.count + 1 else self.old.count) }
+        ensures kept { self.new.faults ≡ self.old.faults }
+    {
+        let Ok(place) = u32::try_from(self.files.len()) else {
+            return Err(AddFault::Failed);
+        };
+        self.files.reserve(1)?;
+        let file = create_behind(&self.system, alloc, name)?;
+        self.files.push_reserved(file);
+        Ok(place)
+    }
 }
 
 // Flushes each file, and answers how many flushes failed.
@@ -74,6 +89,26 @@ fn zeros(alloc: Global, size: usize) -> Result<Vec<u8>, OutOfMemory>
     vec![in alloc; 0; size]
 }
 
+// Takes the memory of a buffer, and creates the file behind it.
+fn create_behind<R: Files>(
+    system: &R,
+    alloc: Global,
+    name: &str,
+) -> Result<WriteBehind<R::File>, AddFault> {
+    let buffer = zeros(alloc, BUFFER)?;
+    let file = create(system, name)?;
+    Ok(WriteBehind::over(file, buffer))
+}
+
+// Creates a file, or empties it.
+fn create<R: Files>(system: &R, name: &str) -> Result<R::File, AddFault> {
+    match fs::create(system, name) {
+        Ok(file) => Ok(file),
+        Err(e) if e.kind() == ErrorKind::OutOfMemory => Err(AddFault::OutOfMemory),
+        Err(_) => Err(AddFault::Failed),
+    }
+}
+
 impl<R: Files + Drop> Rack for FileRack<R> {
     ghost use Rattle.std.specs.Prelude.{None};
 
@@ -81,26 +116,13 @@ impl<R: Files + Drop> Rack for FileRack<R> {
 
     /// Takes all memory first, and then creates the file, or empties it.
     fn add(&mut self, alloc: Global, name: &str) -> Result<u32, AddFault> {
-        let Ok(place) = u32::try_from(self.files.len()) else {
-            self.faults = self.faults.saturating_add(1);
-            return Err(AddFault::Failed);
-        };
-        let Ok(buffer) = zeros(alloc, BUFFER) else {
-            return Err(AddFault::OutOfMemory);
-        };
-        if self.files.reserve(1).is_err() {
-            return Err(AddFault::OutOfMemory);
-        }
-        let file = match fs::create(&self.system, name) {
-            Ok(file) => file,
-            Err(e) if e.kind() == ErrorKind::OutOfMemory => return Err(AddFault::OutOfMemory),
-            Err(_) => {
+        match self.open(alloc, name) {
+            Err(AddFault::Failed) => {
                 self.faults = self.faults.saturating_add(1);
-                return Err(AddFault::Failed);
+                Err(AddFault::Failed)
             }
-        };
-        self.files.push_reserved(WriteBehind::over(file, buffer));
-        Ok(place)
+            added => added,
+        }
     }
 
     fn write(&mut self, at: u32, piece: &[u8]) -> Result<usize, Failed> {

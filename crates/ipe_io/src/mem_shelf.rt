@@ -83,6 +83,25 @@ impl MemShelf {
         }
     }
 
+    // A file's bytes, unless the call is to fail. It counts no fault.
+    fn read(&self, alloc: Global, name: &str, fails: bool) -> Result<Vec<u8>, LoadFault>
+        ensures read { IfOk result (λ bytes. bytes_of self.now name.now ≡ Some bytes.items) }
+        ensures short { IfOk result (λ bytes. length bytes.items ≤ longest_file) }
+        ensures failed { IsErrOf result LoadFault.Failed ↔ (IsTrue fails ⊎ (file_of self.now name.now ≡ None)) }
+        ensures too_long { IsErrOf result LoadFault.TooLong → IfSome (bytes_of self.now name.now) (λ told. longest_file < length told) }
+    {
+        let Some(file) = self.find(name) else {
+            return Err(LoadFault::Failed);
+        };
+        if fails {
+            return Err(LoadFault::Failed);
+        }
+        if file.bytes().len() > LONGEST_FILE {
+            return Err(LoadFault::TooLong);
+        }
+        Ok(Vec::from_slice(alloc, file.bytes())?)
+    }
+
     // Counts one fault of a name.
     fn fail(&mut self, name: &str)
         ensures failed { self.new ≡ failed_for name.now self.old }
@@ -121,20 +140,12 @@ impl Shelf for MemShelf {
         ensures no_fault { (IsErrOf result LoadFault.Failed → ⊥) → self.new ≡ called self.old }
     {
         let listed = self.calls.count();
-        let Some(file) = self.find(name) else {
-            self.fail(name);
-            return Err(LoadFault::Failed);
-        };
-        if listed {
-            self.fail(name);
-            return Err(LoadFault::Failed);
-        }
-        if file.bytes().len() > LONGEST_FILE {
-            return Err(LoadFault::TooLong);
-        }
-        match Vec::from_slice(alloc, file.bytes()) {
-            Ok(bytes) => Ok(bytes),
-            Err(_) => Err(LoadFault::OutOfMemory),
+        match self.read(alloc, name, listed) {
+            Err(LoadFault::Failed) => {
+                self.fail(name);
+                Err(LoadFault::Failed)
+            }
+            loaded => loaded,
         }
     }
 }
