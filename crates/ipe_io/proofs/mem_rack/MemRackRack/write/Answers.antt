@@ -1,4 +1,4 @@
-use Rattle.std.proofs.Common.{◌≡◌, ◌∙◌, ap, sym, take, length, ◌<◌}
+use Rattle.std.proofs.Common.{◌≡◌, ◌∙◌, ap, sym, take, length, ◌<◌, arith}
 use Rattle.wire_spec.specs.Content.{File, grown}
 use Rattle.ipe_io.specs.Memory.{fitting}
 use Rattle.ipe_io.proofs.MemFiles.{one_changed, file_there, seen_is_stored}
@@ -19,3 +19,13 @@ returns-clause-count c =
     c.append.ensures.count
     ∙ ap (λ room. fitting room there.file.bytes c.args.piece.now) room_is
     ∙ ap (λ (f : File). fitting c.args.self.now.room f.bytes c.args.piece.now) (sym file_is)
+
+pub index-requires : goal.index-requires
+index-requires c =
+    let within : c.args.at < length c.self.inside.files.items = seen_is_stored c.self.inside.files.items c.args.self.now.files c.self.inside.used c.args.at (ap (λ s. s.files) c.self.view_is) c.requires in
+    omega arith
+
+pub index_mut-requires : goal.index_mut-requires
+index_mut-requires c =
+    let within : c.args.at < length c.self.inside.files.items = seen_is_stored c.self.inside.files.items c.args.self.now.files c.self.inside.used c.args.at (ap (λ s. s.files) c.self.view_is) c.requires in
+    omega arith
