@@ -1,11 +1,12 @@
 -- What is wrong at a key, by what stands there.
-use Rattle.std.proofs.Common.{◌≡◌, ◌≤◌, le-leb, bytes_eq, ℕ, ℤ, Bool, true, false, List, [], Option, Some, None, refl, ap, sym, not, if◌then◌else◌}
+use Rattle.std.proofs.Common.{◌≡◌, ◌≤◌, le-leb, bytes_eq, ℕ, ℤ, Bool, true, false, ◌||◌, List, [], ◌∷◌, map, Option, Some, None, refl, ap, sym, not, if◌then◌else◌}
 use Rattle.addr_rules.specs.Texts.{mac_of_text}
 use Rattle.toml.specs.Data.{Data, Members, get_member, as_str, as_integer, as_bool, as_table}
 use Rattle.settings_spec.specs.Keys.{SettingsFault, missing, wrong_type, out_of_range, KeyRule, has_type, in_range, key_fault, first_of, text_or, number_or, flag_or, address_or, natural, as_natural, holds, table_at, Values, range, required, optional, value_fault, number_at}
 use Rattle.plan_spec.specs.Checks.{is_between}
 use Rattle.std.proofs.lemmas.Slice.Eq.{bytes_eq-Decides}
 use Rattle.settings_spec.specs.Keys.{items_at}
+use Rattle.std.specs.List.{list_any}
 use Rattle.std.specs.Option.{option_and_then, unwrap_or}
 use Rattle.settings_keys.specs.Reading.{within}
 
@@ -80,6 +81,18 @@ first_later a b c none later = rw none later
 -- a test of what is there
 pub held : {X : Type 0} (test : X → Bool) (o : Option X) (x : X) (b : Bool) → Some x ≡ o → b ≡ test x → holds test o ≡ b
 held test o x b there is = rw (← there) (sym is)
+
+-- one of some words passes a test
+pub any_mapped : {X : Type 0} (test : List ℕ → Bool) (text : X → List ℕ) (xs : List X) → list_any (λ x. test (text x)) xs ≡ list_any test (map text xs)
+any_mapped test text [] = refl
+any_mapped test text (x ∷ xs) = rw (any_mapped test text xs)
+
+pub any_of_three : (test : List ℕ → Bool) (a b c : List ℕ) → list_any test (a ∷ b ∷ c ∷ []) ≡ (test a || (test b || test c))
+any_of_three test a b c = ap (λ last. test a || (test b || last)) (last (test c))
+  where
+    last : (passed : Bool) → (passed || false) ≡ passed
+    last true = refl
+    last false = refl
 
 -- a number there, within its range or not
 within_number : (test : ℕ → Bool) (m n : ℕ) (b : Bool) → test m ≡ b → Some n ≡ (if b then Some m else None) → (Some n ≡ Some m) × (test m ≡ true)

@@ -9,7 +9,7 @@ use Rattle.addr_rules.specs.Texts.{IsRuleText, mac_of_text}
 use Rattle.addr_rules.specs.declared.rules.Rule.{Rule}
 use Rattle.plan_spec.specs.Checks.{is_between}
 use Rattle.std.specs.Option.{option_and_then, option_map, unwrap_or}
-use Rattle.settings_spec.specs.Keys.{SettingsFault, wrong_type, out_of_range, list_of, as_list, holds, is_address, is_text, has_type, texts, required, value_fault, key_fault, items_at, texts_if_any}
+use Rattle.settings_spec.specs.Keys.{SettingsFault, wrong_type, out_of_range, list_of, as_list, holds, is_address, is_text, texts, required, value_fault, key_fault, items_at, texts_if_any}
 use Rattle.settings_spec.specs.Refusal.{AreRules}
 use Rattle.settings_keys.specs.Lists.{views, texts_of, macs_of}
 use Rattle.settings_keys.specs.Reading.{items_where}
@@ -146,21 +146,35 @@ texts_end s i past = rw (drop_all i s past)
 abbrev pub is_address_item : Data → Bool
 is_address_item d = holds is_address (as_str d)
 
-pub address_more : (s : List Value) (i : ℕ) (v : Value) (text mac : List ℕ) → i < length s → v ≡ get_or s i v → Some text ≡ as_str (view v)
-    → Some mac ≡ mac_of_text text → list_all is_address_item (views (drop i s)) ≡ list_all is_address_item (views (drop (i + 1) s))
-address_more s i v text mac within is text_is read = rw (drop_more s i v within, ← is, ← text_is, ← read)
+-- the rest of the items decide whether all are addresses, and theirs go after those so far
+abbrev pub AddressesSoFar : List Data → List Data → List (List ℕ) → Type 0
+AddressesSoFar all rest list = (list_all is_address_item all ≡ list_all is_address_item rest) × (macs_of all ≡ list ++ macs_of rest)
 
-pub macs_more : (s : List Value) (i : ℕ) (v : Value) (text mac : List ℕ) → i < length s → v ≡ get_or s i v → Some text ≡ as_str (view v)
-    → Some mac ≡ mac_of_text text → macs_of (views (drop i s)) ≡ mac ∷ macs_of (views (drop (i + 1) s))
-macs_more s i v text mac within is text_is read = rw (drop_more s i v within, ← is, ← text_is, ← read)
+-- the text of an item that is an address
+address_text : (o : Option (List ℕ)) (mac : List ℕ) → Some mac ≡ option_and_then mac_of_text o → (text : List ℕ) × (Some text ≡ o) × (Some mac ≡ mac_of_text text)
+address_text None mac read = absurd (let h = read in cc)
+address_text (Some text) mac read = (text, refl, read)
 
-pub no_address_text : (s : List Value) (i : ℕ) (v : Value) → i < length s → v ≡ get_or s i v → None ≡ as_str (view v)
-    → list_all is_address_item (views (drop i s)) ≡ false
-no_address_text s i v within is none = rw (drop_more s i v within, ← is, ← none)
+no_address : (o : Option (List ℕ)) → None ≡ option_and_then mac_of_text o → holds is_address o ≡ false
+no_address None read = refl
+no_address (Some text) read = rw (← read)
 
-pub no_address_there : (s : List Value) (i : ℕ) (v : Value) (text : List ℕ) → i < length s → v ≡ get_or s i v → Some text ≡ as_str (view v)
-    → None ≡ mac_of_text text → list_all is_address_item (views (drop i s)) ≡ false
-no_address_there s i v text within is text_is none = rw (drop_more s i v within, ← is, ← text_is, ← none)
+pub one_address_more : (all : List Data) (s : List Value) (i : ℕ) (v : Value) (mac : List ℕ) (list : List (List ℕ)) → AddressesSoFar all (views (drop i s)) list
+    → i < length s → v ≡ get_or s i v → Some mac ≡ option_and_then mac_of_text (as_str (view v)) → AddressesSoFar all (views (drop (i + 1) s)) (list ++ mac ∷ [])
+one_address_more all s i v mac list far within is read =
+    let there = address_text (as_str (view v)) mac read in (
+      far.0 ∙ rw (drop_more s i v within, ← is, ← there.1, ← there.2) refl,
+      far.1 ∙ rw (drop_more s i v within, ← is, ← there.1, ← there.2) (sym (append_assoc list (mac ∷ []) (macs_of (views (drop (i + 1) s))))),
+    )
+
+pub no_address_there : (all : List Data) (s : List Value) (i : ℕ) (v : Value) (list : List (List ℕ)) → AddressesSoFar all (views (drop i s)) list
+    → i < length s → v ≡ get_or s i v → None ≡ option_and_then mac_of_text (as_str (view v)) → list_all is_address_item all ≡ false
+no_address_there all s i v list far within is read = far.0 ∙ rw (drop_more s i v within, ← is, no_address (as_str (view v)) read) refl
+
+pub all_addresses : (all : List Data) (s : List Value) (i : ℕ) (list : List (List ℕ)) → AddressesSoFar all (views (drop i s)) list → length s ≤ i
+    → (list_all is_address_item all ≡ true) × (list ≡ macs_of all)
+all_addresses all s i list far past =
+    let far = rw (drop_all i s past) at far in (far.0, sym (far.1 ∙ append-nil list))
 
 -- how many items there are
 pub counted : (most : ℕ) (d : Data) (s : List Value) (b : Bool) → as_list d ≡ Some (views s) → b ≡ is_between 1 most (length s)

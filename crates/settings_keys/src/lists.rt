@@ -1,8 +1,10 @@
 //! The lists of settings: rules, filters, services, changes.
 ghost use Rattle.std.specs.Prelude.{◌≡◌, ℕ, ◌≤◌, Bool, true, false, List, codes, length, Some, None, IfOk, IfErr, MatchOption, option_map};
 ghost use Rattle.std.specs.List.{list_all};
+ghost use Rattle.std.specs.Option.{option_and_then};
 ghost use Rattle.toml.specs.Data.{as_str, get_member};
 ghost use Rattle.toml.specs.View.{view, table_view};
+ghost use Rattle.addr_rules.specs.Texts.{mac_of_text};
 ghost use Rattle.addr_rules.specs.declared.rules.Rule.{Rule};
 ghost use Rattle.plan_spec.specs.Checks.{is_between};
 ghost use Rattle.settings_spec.specs.Keys.{as_list, is_text, is_table, is_address, holds, texts, tables, items_at, texts_if_any, key_fault};
@@ -165,17 +167,23 @@ pub fn rules(alloc: Global, items: &[Value]) -> Result<(RuleList, bool), OutOfMe
     Ok((list, true))
 }
 
+/// The MAC address that an item is.
+fn address(item: &Value) -> Option<[u8; 6]>
+    ensures read { result ≡ option_and_then mac_of_text (as_str (view item.now)) }
+{
+    match item.as_str() {
+        Some(text) => parse_mac(text),
+        None => None,
+    }
+}
+
 /// The MAC addresses that the items are, or None where one is none.
 pub fn addresses(alloc: Global, items: &[Value]) -> Result<Option<MacList>, OutOfMemory>
     ensures read { IfOk result (λ r. MatchOption r (list_all (λ v. holds is_address (as_str v)) (views items.now) ≡ false) (λ list. (list_all (λ v. holds is_address (as_str v)) (views items.now) ≡ true) × (list ≡ macs_of (views items.now)))) }
 {
     let mut list = MacList::new(alloc);
     for item in items {
-        let text = match item.as_str() {
-            Some(text) => text,
-            None => return Ok(None),
-        };
-        match parse_mac(text) {
+        match address(item) {
             Some(mac) => list.push(mac)?,
             None => return Ok(None),
         }

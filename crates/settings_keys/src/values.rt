@@ -1,5 +1,5 @@
 //! The value of one key of a table: the table and the key come in, the value or what is wrong with it goes out.
-ghost use Rattle.std.specs.Prelude.{◌≡◌, ℕ, ◌≤◌, Bool, true, false, [], ◌∷◌, length, codes, Some, None, IfOk, IfSome, is_none, option_map, unwrap_or, bytes_eq};
+ghost use Rattle.std.specs.Prelude.{◌≡◌, ℕ, ◌≤◌, Bool, true, false, [], ◌∷◌, length, map, codes, Some, None, IfOk, IfSome, is_none, option_map, unwrap_or, bytes_eq};
 ghost use Rattle.std.specs.List.{list_all, list_any};
 ghost use Rattle.toml.specs.Data.{get_member};
 ghost use Rattle.toml.specs.View.{view, table_view};
@@ -132,17 +132,31 @@ pub fn flag(table: &Table, key: Key) -> Result<bool, PlanFault>
     }
 }
 
+/// The words that a key may hold.
+fn words(key: Key) -> &'static [&'static str]
+    ensures read { map (λ word. word.now) result.now ≡ words_of key }
+{
+    match key {
+        Key::Carrier => &["ts", "bb"],
+        Key::Recording => &["plain", "stamped", "m2ts"],
+        Key::Kind => &["ule", "mpe", "fec", "gse"],
+        Key::Mode => &["indexed", "sliced"],
+        _ => &[],
+    }
+}
+
+/// Whether a text is one of the words.
+fn has_word(words: &[&str], text: &str) -> bool
+    ensures read { result ≡ list_any (λ word. bytes_eq text.now word.now) words.now }
+{
+    words.iter().any(|word| text == *word)
+}
+
 /// Whether a key may hold a word.
 fn is_word(key: Key, text: &str) -> bool
     ensures read { result ≡ list_any (bytes_eq text.now) (words_of key) }
 {
-    match key {
-        Key::Carrier => text == "ts" || text == "bb",
-        Key::Recording => text == "plain" || text == "stamped" || text == "m2ts",
-        Key::Kind => text == "ule" || text == "mpe" || text == "fec" || text == "gse",
-        Key::Mode => text == "indexed" || text == "sliced",
-        _ => false,
-    }
+    has_word(words(key), text)
 }
 
 /// One of the words of a key, or the default.
@@ -201,7 +215,7 @@ fn has_name_characters(text: &str) -> bool
 fn is_reserved(text: &str) -> bool
     ensures read { result ≡ is_reserved_name text.now }
 {
-    text == "stream" || text == "table" || text == "rule"
+    has_word(&["stream", "table", "rule"], text)
 }
 
 /// Whether a service may have this name.
