@@ -1,34 +1,55 @@
 //! What no clause says: that with ample memory words are read so.
 
+use crate::cases::assert_cases;
 use command_words::{Carrier, Command, WordsFault, parse_words};
-use std::alloc::Global;
+use std::alloc::{AllocError, Global};
 use std::test::Fail;
 
-/// What words are read as; no words where the text is empty.
-fn read_of(alloc: Global, text: &str) -> Result<String, Fail> {
+/// The words of a text with a slash between two; none where the text is empty.
+fn words_of(alloc: Global, text: &str) -> Result<Vec<String>, Fail> {
     let mut words = Vec::new(alloc);
     if !text.is_empty() {
         for word in text.split('/') {
             words.push(word.to_string(alloc)?)?;
         }
     }
-    let read = match parse_words(alloc, &words) {
-        Ok(Command::Send(name)) => format!(in alloc; "send {name}")?,
-        Ok(Command::Receive(name)) => format!(in alloc; "receive {name}")?,
-        Ok(Command::Check(name)) => format!(in alloc; "check {name}")?,
-        Ok(Command::Ule(pid)) => format!(in alloc; "ule {pid}")?,
-        Ok(Command::Sample(number)) => format!(in alloc; "sample {number}")?,
-        Ok(Command::Tables(name)) => format!(in alloc; "tables {name}")?,
-        Ok(Command::Find(pid)) => format!(in alloc; "find {pid}")?,
-        Ok(Command::Bridge(Carrier::Ule(pid))) => format!(in alloc; "bridge PID {pid}")?,
-        Ok(Command::Bridge(Carrier::Gse(isi))) => format!(in alloc; "bridge ISI {isi}")?,
-        Ok(Command::Unbridge(Carrier::Ule(pid))) => format!(in alloc; "unbridge PID {pid}")?,
-        Ok(Command::Unbridge(Carrier::Gse(isi))) => format!(in alloc; "unbridge ISI {isi}")?,
-        Ok(Command::Relay(inner, outer)) => format!(in alloc; "relay {inner} {outer}")?,
-        Err(WordsFault::Usage) => "usage".to_string(alloc)?,
-        Err(WordsFault::OutOfMemory) => "out of memory".to_string(alloc)?,
-    };
-    Ok(read)
+    Ok(words)
+}
+
+/// Writes a job and its carrier.
+fn put_carrier(text: &mut String, job: &str, carrier: Carrier) -> Result<(), AllocError> {
+    match carrier {
+        Carrier::Ule(pid) => write!(text, "{job} PID {pid}"),
+        Carrier::Gse(isi) => write!(text, "{job} ISI {isi}"),
+    }
+}
+
+/// Writes a command.
+fn put_command(text: &mut String, command: &Command<'_>) -> Result<(), AllocError> {
+    match command {
+        Command::Send(name) => write!(text, "send {name}"),
+        Command::Receive(name) => write!(text, "receive {name}"),
+        Command::Check(name) => write!(text, "check {name}"),
+        Command::Ule(pid) => write!(text, "ule {pid}"),
+        Command::Sample(number) => write!(text, "sample {number}"),
+        Command::Tables(name) => write!(text, "tables {name}"),
+        Command::Find(pid) => write!(text, "find {pid}"),
+        Command::Bridge(carrier) => put_carrier(text, "bridge", *carrier),
+        Command::Unbridge(carrier) => put_carrier(text, "unbridge", *carrier),
+        Command::Relay(inner, outer) => write!(text, "relay {inner} {outer}"),
+    }
+}
+
+/// What words are read as.
+fn read_of(alloc: Global, given: &str) -> Result<String, Fail> {
+    let words = words_of(alloc, given)?;
+    let mut text = String::new(alloc);
+    match parse_words(alloc, &words) {
+        Ok(command) => put_command(&mut text, &command),
+        Err(WordsFault::Usage) => text.push_str("usage"),
+        Err(WordsFault::OutOfMemory) => text.push_str("out of memory"),
+    }?;
+    Ok(text)
 }
 
 /// Words, with a slash between two, and what they are read as.
@@ -112,11 +133,5 @@ relay/a/-b|usage";
 
 #[test]
 fn words_are_read_so(rt: HostRuntime) -> Result<(), Fail> {
-    let alloc = rt.alloc();
-    for line in LINES.lines() {
-        let (words, want) = line.split_once('|').ok_or("no bar")?;
-        let read = read_of(alloc, words)?;
-        assert_eq!(rt; read.as_str(), want, "{words}");
-    }
-    Ok(())
+    assert_cases(&rt, rt.alloc(), read_of, LINES)
 }

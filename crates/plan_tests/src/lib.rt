@@ -1,9 +1,11 @@
 //! Tests of what an operator gives: words and settings by hand -> [command_words, service_plan, settings_load] -> commands, plans and
 //! faults.
 //!
-//! Tests alone. They stand apart from the crates that they test, so that a change of a test proves none of them anew.
+//! Tests alone. They stand apart from the crates that they test, so that a change of a test proves none of them anew. Begin with `cases`.
 #![tactic(auto)]
 
+#[cfg(test)]
+mod cases;
 #[cfg(test)]
 mod command_words_tests;
 #[cfg(test)]

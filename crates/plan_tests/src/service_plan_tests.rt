@@ -1,11 +1,12 @@
 //! Settings by hand: those of a realistic run, and each fault beside neighbours that are accepted.
 
+use crate::cases::{assert_cases, assert_text};
 use ip_datagram::IpAddress;
 use service_plan::{
-    Kind, Plan, PlanError, longest, pid_in, read_plan, route, route_in, sample_plan, ule_plan,
-    version_at,
+    Change, Kind, Plan, PlanError, Service, longest, pid_in, read_plan, route, route_in,
+    sample_plan, ule_plan, version_at,
 };
-use std::alloc::Global;
+use std::alloc::{AllocError, Global};
 use std::test::Fail;
 
 /// An INT.
@@ -85,50 +86,44 @@ fn lines_of(word: &str) -> &str {
 }
 
 /// A line of a key with so many rules.
-fn push_rules(text: &mut String, key: &str, count: u16) -> Result<(), Fail> {
+fn put_rules(text: &mut String, key: &str, count: u16) -> Result<(), AllocError> {
     write!(text, "{key} = [")?;
     for _ in 0..count {
         text.push_str("'10.0.0.0/8', ")?;
     }
-    text.push(']')?;
+    text.push_str("]\n")
+}
+
+/// What a word stands for: a piece by its name, a line of TOML without spaces, and `rules*N` or `urgent*N` for N rules.
+fn put_word(text: &mut String, word: &str) -> Result<(), Fail> {
+    match word.split_once('*') {
+        Some((key, count)) => put_rules(text, key, count.parse()?)?,
+        None => write!(text, "{}\n", lines_of(word))?,
+    }
     Ok(())
 }
 
-/// The settings of words: names of pieces, lines of TOML without spaces, and `rules*N` or `urgent*N` for N rules.
+/// The settings of words.
 fn settings_of(alloc: Global, words: &str) -> Result<String, Fail> {
     let mut text = String::new(alloc);
     for word in words.split_whitespace() {
-        match word.split_once('*') {
-            Some((key, count)) => push_rules(&mut text, key, count.parse()?)?,
-            None => text.push_str(lines_of(word))?,
-        }
-        text.push('\n')?;
+        put_word(&mut text, word)?;
     }
     Ok(text)
 }
 
-/// What settings are refused for, or `accepted`.
-fn fault_of(alloc: Global, text: &[u8]) -> Result<String, Fail> {
-    let outcome = match read_plan(alloc, text) {
-        Ok(_) => "accepted".to_string(alloc)?,
-        Err(PlanError::Fault(fault)) => format!(in alloc; "{fault:?}")?,
-        Err(PlanError::OutOfMemory) => "out of memory".to_string(alloc)?,
-    };
-    Ok(outcome)
+/// What bytes are refused for, or `accepted`.
+fn fault_in(alloc: Global, bytes: &[u8]) -> Result<String, Fail> {
+    match read_plan(alloc, bytes).err() {
+        None => Ok("accepted".to_string(alloc)?),
+        Some(PlanError::Fault(fault)) => Ok(format!(in alloc; "{fault:?}")?),
+        Some(PlanError::OutOfMemory) => Ok("out of memory".to_string(alloc)?),
+    }
 }
 
-/// The lines of a table that are wrong, each with what comes out. A line is settings in words, `|` and what they are refused for.
-fn wrong_lines(alloc: Global, table: &str) -> Result<String, Fail> {
-    let mut wrong = String::new(alloc);
-    for line in table.lines() {
-        let (words, want) = line.split_once('|').ok_or("no bar")?;
-        let text = settings_of(alloc, words)?;
-        let fault = fault_of(alloc, text.as_bytes())?;
-        if fault.as_str() != want {
-            write!(wrong, "{line}: it is {fault}\n")?;
-        }
-    }
-    Ok(wrong)
+/// What the settings of words are refused for, or `accepted`.
+fn fault_of(alloc: Global, words: &str) -> Result<String, Fail> {
+    fault_in(alloc, settings_of(alloc, words)?.as_bytes())
 }
 
 /// The checks over the whole, each beside neighbours that are accepted.
@@ -244,23 +239,22 @@ INT FILES MOVE rules=['10.0.0.1/8']|Rules";
 
 #[test]
 fn each_fault_is_named(rt: HostRuntime) -> Result<(), Fail> {
-    let alloc = rt.alloc();
-    for table in [WHOLES, KEYS, URGENT, CHANGES, CHANGE_KEYS, VERSIONS] {
-        assert_eq!(rt; wrong_lines(alloc, table)?.as_str(), "");
+    for table in &[WHOLES, KEYS, URGENT, CHANGES, CHANGE_KEYS, VERSIONS] {
+        assert_cases(&rt, rt.alloc(), fault_of, table)?;
     }
-    assert_eq!(rt; fault_of(alloc, &[0xFF])?.as_str(), "Text");
+    assert_text(&rt, fault_in(rt.alloc(), &[0xFF])?, "Text");
     Ok(())
 }
 
 /// A kind and its values; of urgent rules how many there are.
-fn push_kind(text: &mut String, kind: &Kind) -> Result<(), Fail> {
+fn put_kind(text: &mut String, kind: &Kind) -> Result<(), AllocError> {
     match kind {
         Kind::Ule {
             pid,
             address,
             packing,
-        } => write!(text, "Ule pid {pid}, address {address}, packing {packing}")?,
-        Kind::Mpe { pid } => write!(text, "Mpe pid {pid}")?,
+        } => write!(text, "Ule pid {pid}, address {address}, packing {packing}"),
+        Kind::Mpe { pid } => write!(text, "Mpe pid {pid}"),
         Kind::Fec {
             pid,
             rows,
@@ -269,7 +263,7 @@ fn push_kind(text: &mut String, kind: &Kind) -> Result<(), Fail> {
         } => write!(
             text,
             "Fec pid {pid}, rows {rows}, parity {parity}, window {window:?}"
-        )?,
+        ),
         Kind::Gse {
             isi,
             address,
@@ -278,72 +272,83 @@ fn push_kind(text: &mut String, kind: &Kind) -> Result<(), Fail> {
             text,
             "Gse isi {isi}, address {address}, urgent {}",
             urgent.len()
-        )?,
+        ),
     }
-    Ok(())
 }
 
-/// A line for each service.
-fn push_services(text: &mut String, plan: &Plan) -> Result<(), Fail> {
-    for service in plan.services.items() {
-        write!(text, "{} ", service.name.text())?;
-        push_kind(text, &service.kind)?;
-        write!(text, " up to {} bytes", longest(&service.kind))?;
-        write!(text, ", unicast {:?}", service.unicast)?;
-        write!(text, ", service_id {}", service.service_id)?;
-        write!(text, ", component_tag {}\n", service.component_tag)?;
-    }
-    Ok(())
+/// A line for a service.
+fn put_service(text: &mut String, service: &Service) -> Result<(), AllocError> {
+    write!(text, "{} ", service.name.text())?;
+    put_kind(text, &service.kind)?;
+    write!(
+        text,
+        " up to {} bytes, unicast {:?}, service_id {}, component_tag {}\n",
+        longest(&service.kind),
+        service.unicast,
+        service.service_id,
+        service.component_tag
+    )
 }
 
-/// A line for each change: its record, and for each service that it moves the place, the PID and the number of rules.
-fn push_changes(text: &mut String, plan: &Plan) -> Result<(), Fail> {
-    for change in plan.changes.items() {
-        write!(text, "from {} on:", change.at)?;
-        for moved in change.moved.items() {
-            write!(text, " {} to {}", moved.service, moved.pid)?;
-            write!(text, " with rules: {};", moved.rules.len())?;
-        }
-        text.push('\n')?;
+/// A line for a change: its record, and for each service that it moves the place, the PID and the number of rules.
+fn put_change(text: &mut String, change: &Change) -> Result<(), AllocError> {
+    write!(text, "from {} on:", change.at)?;
+    for moved in change.moved.items() {
+        write!(
+            text,
+            " {} to {} with rules: {};",
+            moved.service,
+            moved.pid,
+            moved.rules.len()
+        )?;
     }
-    Ok(())
-}
-
-/// A line for a record: its version, the PIDs of the first two services in it, and which service takes 10.0.0.9 and 239.2.2.2.
-fn push_version(text: &mut String, plan: &Plan, at: u32) -> Result<(), Fail> {
-    let version = version_at(plan, at);
-    if usize::from(version) > plan.changes.len() || plan.services.len() < 2 {
-        return Ok(());
-    }
-    write!(text, "record {at}: version {version}")?;
-    write!(text, ", PID {:?}", pid_in(plan, version, 0))?;
-    write!(text, " and {:?}", pid_in(plan, version, 1))?;
-    let moved = route_in(plan, version, &IpAddress::V4([10, 0, 0, 9]));
-    write!(text, ", 10.0.0.9 to {moved:?}")?;
-    let first = route_in(plan, version, &IpAddress::V4([239, 2, 2, 2]));
-    write!(text, ", 239.2.2.2 to {first:?}\n")?;
-    Ok(())
+    text.push('\n')
 }
 
 /// The values of a plan.
-fn text_of(alloc: Global, plan: &Plan) -> Result<String, Fail> {
-    let mut text = String::new(alloc);
+fn put_plan(text: &mut String, plan: &Plan) -> Result<(), AllocError> {
     write!(
         text,
-        "{:?}, packet_rate {}",
-        plan.recording, plan.packet_rate
-    )?;
-    write!(
-        text,
-        ", cycle {}, frame_bytes {:?}\n",
-        plan.cycle, plan.frame_bytes
+        "{:?}, packet_rate {}, cycle {}, frame_bytes {:?}\n",
+        plan.recording, plan.packet_rate, plan.cycle, plan.frame_bytes
     )?;
     for address in [[10, 0, 0, 9], [239, 1, 1, 1], [239, 2, 2, 2]] {
         let service = route(plan, &IpAddress::V4(address));
         write!(text, "{address:?} to {service:?}\n")?;
     }
-    push_services(&mut text, plan)?;
-    push_changes(&mut text, plan)?;
+    for service in plan.services.items() {
+        put_service(text, service)?;
+    }
+    for change in plan.changes.items() {
+        put_change(text, change)?;
+    }
+    Ok(())
+}
+
+/// A line for a record: its version, the PIDs of the first two services in it, and which service takes 10.0.0.9 and 239.2.2.2.
+fn put_version(text: &mut String, plan: &Plan, at: u32) -> Result<(), AllocError> {
+    let version = version_at(plan, at);
+    if usize::from(version) > plan.changes.len() || plan.services.len() < 2 {
+        return Ok(());
+    }
+    let first = pid_in(plan, version, 0);
+    let second = pid_in(plan, version, 1);
+    let unicast = route_in(plan, version, &IpAddress::V4([10, 0, 0, 9]));
+    let multicast = route_in(plan, version, &IpAddress::V4([239, 2, 2, 2]));
+    write!(
+        text,
+        "record {at}: version {version}, PID {first:?} and {second:?}"
+    )?;
+    write!(
+        text,
+        ", 10.0.0.9 to {unicast:?}, 239.2.2.2 to {multicast:?}\n"
+    )
+}
+
+/// The values of a plan.
+fn text_of(alloc: Global, plan: &Plan) -> Result<String, AllocError> {
+    let mut text = String::new(alloc);
+    put_plan(&mut text, plan)?;
     Ok(text)
 }
 
@@ -370,14 +375,21 @@ record 4: version 1, PID Some(515) and Some(514), 10.0.0.9 to Some(1), 239.2.2.2
 record 5: version 2, PID Some(516) and Some(514), 10.0.0.9 to Some(1), 239.2.2.2 to None
 ";
 
-/// The values of the plan of words, and some versions of it.
+/// The values of a plan and of some of its records.
+fn put_records(text: &mut String, plan: &Plan, records: &[u32]) -> Result<(), AllocError> {
+    put_plan(text, plan)?;
+    for at in records {
+        put_version(text, plan, *at)?;
+    }
+    Ok(())
+}
+
+/// The values of the plan of words, and of some of its records.
 fn read_of(alloc: Global, words: &str, records: &[u32]) -> Result<String, Fail> {
     let settings = settings_of(alloc, words)?;
     let plan = read_plan(alloc, settings.as_bytes())?;
-    let mut text = text_of(alloc, &plan)?;
-    for at in records {
-        push_version(&mut text, &plan, *at)?;
-    }
+    let mut text = String::new(alloc);
+    put_records(&mut text, &plan, records)?;
     Ok(text)
 }
 
@@ -385,11 +397,11 @@ fn read_of(alloc: Global, words: &str, records: &[u32]) -> Result<String, Fail> 
 fn plans_are_read(rt: HostRuntime) -> Result<(), Fail> {
     let alloc = rt.alloc();
     let run = "recording='stamped' INT LECTURE window_start=100 window_length=1500 FILES";
-    assert_eq!(rt; read_of(alloc, run, &[])?.as_str(), RUN);
+    assert_text(&rt, read_of(alloc, run, &[])?, RUN);
     let changing = "INT OTHER FILES
 [[change]] at=3 [[change.service]] name='files' pid=514 rules=['10.0.0.0/8']
 [[change]] at=5 [[change.service]] name='files' [[change.service]] name='other' pid=516";
-    assert_eq!(rt; read_of(alloc, changing, &[2, 4, 5])?.as_str(), CHANGING);
+    assert_text(&rt, read_of(alloc, changing, &[2, 4, 5])?, CHANGING);
     Ok(())
 }
 
@@ -414,9 +426,7 @@ files Ule pid 513, address true, packing true up to 32757 bytes, unicast [255, 2
 #[test]
 fn plans_without_settings_are_made(rt: HostRuntime) -> Result<(), Fail> {
     let alloc = rt.alloc();
-    let one = ule_plan(alloc, 17)?;
-    assert_eq!(rt; text_of(alloc, &one)?.as_str(), ONE_PID);
-    let sample = sample_plan(alloc)?;
-    assert_eq!(rt; text_of(alloc, &sample)?.as_str(), SAMPLE);
+    assert_text(&rt, text_of(alloc, &ule_plan(alloc, 17)?)?, ONE_PID);
+    assert_text(&rt, text_of(alloc, &sample_plan(alloc)?)?, SAMPLE);
     Ok(())
 }

@@ -1,7 +1,8 @@
 //! What no clause says: that with ample memory settings files are loaded so; and lines by hand.
 
+use crate::cases::assert_text;
 use ipe_io::{MemShelf, MemSink};
-use service_plan::{Key, PlanFault};
+use service_plan::{Key, Plan, PlanFault};
 use settings_load::{FileFault, list_services, load_plan, put_fault};
 use std::alloc::Global;
 use std::test::Fail;
@@ -20,32 +21,32 @@ isi = 255
 rules = ['11.0.0.0/8']
 ";
 
+/// The lines of the services of a plan, and how many bytes were flushed.
+fn lines_of(alloc: Global, plan: &Plan) -> Result<String, Fail> {
+    let mut output = MemSink::new(alloc, 100, &[])?;
+    list_services(plan, &mut output)?;
+    let text = std::str::from_utf8(output.bytes())?;
+    Ok(format!(in alloc; "{text}{} bytes flushed", output.flushed())?)
+}
+
 /// The lines of the services in a settings file, or the fault, from a shelf that has the file `a` and whose calls of some numbers fail.
 fn listed(alloc: Global, name: &str, file: &str, fails: &[u32]) -> Result<String, Fail> {
     let mut shelf = MemShelf::new(alloc, "a", file.as_bytes(), fails)?;
-    let plan = match load_plan(alloc, name, &mut shelf) {
-        Ok(plan) => plan,
-        Err(error) => return Ok(format!(in alloc; "{error:?}")?),
-    };
-    let mut output = MemSink::new(alloc, 100, &[])?;
-    list_services(&plan, &mut output)?;
-    let text = std::str::from_utf8(output.bytes())?;
-    Ok(format!(in alloc; "{text}{} bytes flushed", output.flushed())?)
+    match load_plan(alloc, name, &mut shelf) {
+        Ok(plan) => lines_of(alloc, &plan),
+        Err(error) => Ok(format!(in alloc; "{error:?}")?),
+    }
 }
 
 #[test]
 fn files_are_loaded_and_listed(rt: HostRuntime) -> Result<(), Fail> {
     let alloc = rt.alloc();
-    assert_eq!(rt;
-        listed(alloc, "a", FRAMES, &[])?.as_str(),
-        "a gse 0\nb-2 gse 255\n20 bytes flushed"
-    );
-    assert_eq!(rt; listed(alloc, "b", FRAMES, &[])?.as_str(), "ShelfFault");
-    assert_eq!(rt; listed(alloc, "a", FRAMES, &[0])?.as_str(), "ShelfFault");
-    assert_eq!(rt;
-        listed(alloc, "a", "", &[])?.as_str(),
-        "File(Plan(Missing(Service)))"
-    );
+    let lines = "a gse 0\nb-2 gse 255\n20 bytes flushed";
+    assert_text(&rt, listed(alloc, "a", FRAMES, &[])?, lines);
+    assert_text(&rt, listed(alloc, "b", FRAMES, &[])?, "ShelfFault");
+    assert_text(&rt, listed(alloc, "a", FRAMES, &[0])?, "ShelfFault");
+    let fault = "File(Plan(Missing(Service)))";
+    assert_text(&rt, listed(alloc, "a", "", &[])?, fault);
     Ok(())
 }
 
@@ -56,27 +57,28 @@ fn told(alloc: Global, fault: FileFault) -> Result<String, Fail> {
     Ok(std::str::from_utf8(complaints.bytes())?.to_string(alloc)?)
 }
 
+/// Faults and their lines.
+const FAULTS: [(FileFault, &str); 5] = [
+    (FileFault::TooLong, "ipencap: settings too long\n"),
+    (FileFault::Plan(PlanFault::Text), "ipencap: settings 1\n"),
+    (
+        FileFault::Plan(PlanFault::Missing(Key::OriginalNetworkId)),
+        "ipencap: settings 2 original_network_id\n",
+    ),
+    (
+        FileFault::Plan(PlanFault::Type_(Key::Pid)),
+        "ipencap: settings 3 pid\n",
+    ),
+    (
+        FileFault::Plan(PlanFault::Unknown),
+        "ipencap: settings 13\n",
+    ),
+];
+
 #[test]
 fn faults_have_their_lines(rt: HostRuntime) -> Result<(), Fail> {
-    let alloc = rt.alloc();
-    let cases = [
-        (FileFault::TooLong, "ipencap: settings too long\n"),
-        (FileFault::Plan(PlanFault::Text), "ipencap: settings 1\n"),
-        (
-            FileFault::Plan(PlanFault::Missing(Key::OriginalNetworkId)),
-            "ipencap: settings 2 original_network_id\n",
-        ),
-        (
-            FileFault::Plan(PlanFault::Type_(Key::Pid)),
-            "ipencap: settings 3 pid\n",
-        ),
-        (
-            FileFault::Plan(PlanFault::Unknown),
-            "ipencap: settings 13\n",
-        ),
-    ];
-    for (fault, want) in cases {
-        assert_eq!(rt; told(alloc, fault)?.as_str(), want);
+    for (fault, want) in &FAULTS {
+        assert_text(&rt, told(rt.alloc(), *fault)?, want);
     }
     Ok(())
 }
