@@ -142,15 +142,18 @@ fn bits_and_labels_are_compared(rt: HostRuntime) -> Result<(), Fail> {
 }
 
 #[test]
-fn lists_have_what_was_pushed(rt: HostRuntime) -> Result<(), Fail> {
+fn rule_lists_have_what_was_pushed(rt: HostRuntime) -> Result<(), Fail> {
     let rule = parse_rule("239.1.128.0/17").ok_or("no rule")?;
     let mut rules = RuleList::new(rt.alloc());
     rules.push(rule)?;
-    assert_eq!(rt; rules.len(), 1);
-    assert_eq!(rt; *rules.at(0), rule);
+    assert_eq!(rt; (rules.len(), *rules.at(0)), (1, rule));
+    Ok(())
+}
+
+#[test]
+fn filters_have_what_was_pushed(rt: HostRuntime) -> Result<(), Fail> {
     let mut filter = MacList::new(rt.alloc());
     filter.push([2; 6])?;
-    assert_eq!(rt; filter.len(), 1);
-    assert_eq!(rt; *filter.at(0), [2; 6]);
+    assert_eq!(rt; (filter.len(), *filter.at(0)), (1, [2; 6]));
     Ok(())
 }

@@ -3,6 +3,7 @@ ghost use Rattle.std.specs.Prelude.{◌≡◌, true, IfOk};
 ghost use Rattle.std.specs.List.{list_all};
 ghost use Rattle.int_spec.specs.Descriptors.{has_right_slash};
 
+use crate::cases::{assert_cases, assert_text};
 use addr_rules::{Rule, RuleList};
 use int_table::{IntEntry, IntFault, IntReadFault, IntTable, version_of};
 use ip_datagram::IpAddress;
@@ -122,24 +123,37 @@ fn entries_of(alloc: Global, table: &IntTable) -> Result<String, Fail> {
 
 /// The number of entries that are read of a section, or the fault.
 fn read_of(alloc: Global, section: &[u8]) -> Result<String, Fail> {
-    let text = match IntTable::read(alloc, section) {
-        Ok(table) => format!(in alloc; "{}", table.len())?,
-        Err(IntReadFault::Fault(fault)) => format!(in alloc; "{fault:?}")?,
-        Err(IntReadFault::OutOfMemory) => "out of memory".to_string(alloc)?,
-    };
-    Ok(text)
+    match IntTable::read(alloc, section) {
+        Ok(table) => Ok(format!(in alloc; "{}", table.len())?),
+        Err(IntReadFault::Fault(fault)) => Ok(format!(in alloc; "{fault:?}")?),
+        Err(IntReadFault::OutOfMemory) => Err("out of memory".into()),
+    }
+}
+
+/// The same of the section of a body.
+fn read_of_body(alloc: Global, body: &str) -> Result<String, Fail> {
+    read_of(alloc, &section_of(alloc, body)?)
+}
+
+/// The table of two streams.
+fn two_streams(alloc: Global) -> Result<IntTable, Fail> {
+    let mut table = IntTable::new(alloc, 0, 1, 2, 3, 4);
+    push(
+        &mut table,
+        same_rules(alloc, 1, 1)?,
+        1,
+        Some([0xBB, 7, 0x70]),
+    )?;
+    push(&mut table, same_rules(alloc, 2, 1)?, 2, None)?;
+    Ok(table)
 }
 
 /// EN 301 192 clause 8.4, byte for byte.
 #[test]
 fn a_table_is_written(rt: HostRuntime) -> Result<(), Fail> {
     let alloc = rt.alloc();
-    let mut table = IntTable::new(alloc, 0, 1, 2, 3, 4);
-    let first = same_rules(alloc, 1, 1)?;
-    push(&mut table, first, 1, Some([0xBB, 7, 0x70]))?;
-    let second = same_rules(alloc, 2, 1)?;
-    push(&mut table, second, 2, None)?;
-    assert_eq!(rt; written(alloc, &table)?, bytes_of(alloc, TWO_STREAMS)?);
+    let section = written(alloc, &two_streams(alloc)?)?;
+    assert_eq!(rt; section, bytes_of(alloc, TWO_STREAMS)?);
     Ok(())
 }
 
@@ -147,11 +161,11 @@ fn a_table_is_written(rt: HostRuntime) -> Result<(), Fail> {
 fn a_table_is_read(rt: HostRuntime) -> Result<(), Fail> {
     let alloc = rt.alloc();
     let section = bytes_of(alloc, TWO_STREAMS)?;
+    let versions = [version_of(&section, 1), version_of(&section, 2)];
+    assert_eq!(rt; versions, [Some(0), None]);
     let table = IntTable::read(alloc, &section).map_err(|_| "no table")?;
-    assert_eq!(rt; entries_of(alloc, &table)?.as_str(), ENTRIES);
+    assert_text(&rt, entries_of(alloc, &table)?, ENTRIES, "the two streams");
     assert_eq!(rt; written(alloc, &table)?, section);
-    assert_eq!(rt; version_of(&section, 1), Some(0));
-    assert_eq!(rt; version_of(&section, 2), None);
     Ok(())
 }
 
@@ -178,15 +192,9 @@ HEAD TARGET F00B LOCATION TARGET F00B 1309 0002 0003 0005 000A 01|Descriptor|two
 
 #[test]
 fn each_fault_is_named(rt: HostRuntime) -> Result<(), Fail> {
-    let alloc = rt.alloc();
-    for line in BODIES.lines() {
-        let (body, outcome) = line.split_once('|').ok_or("no bar")?;
-        let (want, case) = outcome.split_once('|').ok_or("one bar")?;
-        let section = section_of(alloc, body)?;
-        assert_eq!(rt; read_of(alloc, &section)?.as_str(), want, "{case}");
-    }
-    let section = bytes_of(alloc, WRONG_HASH)?;
-    assert_eq!(rt; read_of(alloc, &section)?.as_str(), "Hash");
+    assert_cases(&rt, rt.alloc(), read_of_body, BODIES)?;
+    let section = bytes_of(rt.alloc(), WRONG_HASH)?;
+    assert_text(&rt, read_of(rt.alloc(), &section)?, "Hash", "a wrong hash");
     Ok(())
 }
 
@@ -206,10 +214,8 @@ fn holds(alloc: Global, section: &[u8], line: &str) -> Result<bool, Fail> {
     Ok(rest.starts_with(&bytes))
 }
 
-/// A descriptor has at most 255 bytes: 51 rules of IPv4, 15 of IPv6. A section has at most 4,096.
-#[test]
-fn rules_share_descriptors(rt: HostRuntime) -> Result<(), Fail> {
-    let alloc = rt.alloc();
+/// A table of 52 rules of IPv4 and one of IPv6 for one stream.
+fn many_rules(alloc: Global) -> Result<IntTable, Fail> {
     let mut rules = same_rules(alloc, 1, 52)?;
     rules.push(Rule {
         address: IpAddress::V6([0; 16]),
@@ -217,6 +223,14 @@ fn rules_share_descriptors(rt: HostRuntime) -> Result<(), Fail> {
     })?;
     let mut table = IntTable::new(alloc, 31, 0xFF_FFFF, 0, 0, 0);
     push(&mut table, rules, 1, None)?;
+    Ok(table)
+}
+
+/// A descriptor has at most 255 bytes: 51 rules of IPv4, 15 of IPv6. A section has at most 4,096.
+#[test]
+fn rules_share_descriptors(rt: HostRuntime) -> Result<(), Fail> {
+    let alloc = rt.alloc();
+    let mut table = many_rules(alloc)?;
     let section = written(alloc, &table)?;
     // 18 of the section, 4 of two loops, 257 + 7 + 19 of three descriptors, 11 of the location
     assert_eq!(rt; section.len(), 316);

@@ -3,7 +3,8 @@
 use addr_rules::{Rule, parse_rule};
 use ip_datagram::IpAddress;
 use loss_report::{Report, ServiceCounts, StreamCounts};
-use std::alloc::Global;
+use std::alloc::{AllocError, Global};
+use std::process::Abort;
 use std::test::Fail;
 
 /// Two services, a table and a version: an MPE-FEC service of which 56 packets were lost in a row, and a ULE service that lost none.
@@ -77,6 +78,15 @@ const NOTHING: ServiceCounts = ServiceCounts {
     datagrams: 0,
 };
 
+/// Counts of a stream of no record.
+const EMPTY: StreamCounts = StreamCounts {
+    records: 0,
+    tail_bytes: 0,
+    unreadable: 0,
+    without_payload: 0,
+    other: 0,
+};
+
 fn v4(address: [u8; 4], slash: u8) -> Rule {
     Rule {
         address: IpAddress::V4(address),
@@ -91,41 +101,68 @@ fn v6(address: [u8; 16], slash: u8) -> Rule {
     }
 }
 
+/// Asserts that a report is printed so.
+fn assert_printed(
+    rt: &impl Abort,
+    alloc: Global,
+    report: &Report,
+    want: &[u8],
+) -> Result<(), Fail> {
+    let text = report.text(alloc)?;
+    assert_eq!(rt; text.as_slice(), want);
+    Ok(())
+}
+
+/// The service that lost packets.
+const LECTURE: ServiceCounts = ServiceCounts {
+    heard: 1046,
+    gaps: 1,
+    units: 155,
+    delimited: 1,
+    frames: 1,
+    rows_mended: 1024,
+    datagrams: 100,
+    ..NOTHING
+};
+
+/// The service that lost none.
+const FILES: ServiceCounts = ServiceCounts {
+    heard: 770,
+    units: 100,
+    datagrams: 100,
+    ..NOTHING
+};
+
+/// Adds the two services, the table and its rules.
+fn add_all(report: &mut Report) -> Result<(), AllocError> {
+    report.add_service("lecture", LECTURE)?;
+    report.add_service("files", FILES)?;
+    report.add_table(1, 0)?;
+    report.add_version(31)?;
+    report.add_rule(&v4([239, 1, 0, 0], 16), 1)?;
+    report.add_rule(&v4([239, 2, 0, 0], 16), 2)
+}
+
 #[test]
 fn a_whole_report_is_printed(rt: HostRuntime) -> Result<(), Fail> {
     let stream = StreamCounts {
         records: 1817,
-        tail_bytes: 0,
-        unreadable: 0,
-        without_payload: 0,
-        other: 0,
-    };
-    let lecture = ServiceCounts {
-        heard: 1046,
-        gaps: 1,
-        units: 155,
-        delimited: 1,
-        frames: 1,
-        rows_mended: 1024,
-        datagrams: 100,
-        ..NOTHING
-    };
-    let files = ServiceCounts {
-        heard: 770,
-        units: 100,
-        datagrams: 100,
-        ..NOTHING
+        ..EMPTY
     };
     let mut report = Report::new(rt.alloc(), stream);
-    report.add_service("lecture", lecture)?;
-    report.add_service("files", files)?;
-    report.add_table(1, 0)?;
-    report.add_version(31)?;
-    report.add_rule(&v4([239, 1, 0, 0], 16), 1)?;
-    report.add_rule(&v4([239, 2, 0, 0], 16), 2)?;
-    let text = report.text(rt.alloc())?;
-    assert_eq!(rt; text.as_slice(), REALISTIC);
-    Ok(())
+    add_all(&mut report)?;
+    assert_printed(&rt, rt.alloc(), &report, REALISTIC)
+}
+
+/// Adds a table, and rules of both versions.
+fn add_rules(report: &mut Report) -> Result<(), AllocError> {
+    let documented = [
+        0x20, 1, 0x0D, 0xB8, 0, 0, 0, 0, 0, 0xAB, 0xCD, 0xEF, 0, 0, 0, 1,
+    ];
+    report.add_table(3, 255)?;
+    report.add_rule(&v6(documented, 128), 0)?;
+    report.add_rule(&v6([0; 16], 0), 255)?;
+    report.add_rule(&v4([10, 0, 255, 99], 32), 10)
 }
 
 #[test]
@@ -137,29 +174,14 @@ fn rules_of_both_versions_are_printed(rt: HostRuntime) -> Result<(), Fail> {
         without_payload: 9,
         other: 1,
     };
-    let documented = [
-        0x20, 1, 0x0D, 0xB8, 0, 0, 0, 0, 0, 0xAB, 0xCD, 0xEF, 0, 0, 0, 1,
-    ];
     let mut report = Report::new(rt.alloc(), stream);
-    report.add_table(3, 255)?;
-    report.add_rule(&v6(documented, 128), 0)?;
-    report.add_rule(&v6([0; 16], 0), 255)?;
-    report.add_rule(&v4([10, 0, 255, 99], 32), 10)?;
-    let text = report.text(rt.alloc())?;
-    assert_eq!(rt; text.as_slice(), RULES);
-    Ok(())
+    add_rules(&mut report)?;
+    assert_printed(&rt, rt.alloc(), &report, RULES)
 }
 
 /// What is read of the rule in the last line of a report.
 fn read_again(alloc: Global, rule: &Rule) -> Result<Option<Rule>, Fail> {
-    let stream = StreamCounts {
-        records: 0,
-        tail_bytes: 0,
-        unreadable: 0,
-        without_payload: 0,
-        other: 0,
-    };
-    let mut report = Report::new(alloc, stream);
+    let mut report = Report::new(alloc, EMPTY);
     report.add_rule(rule, 1)?;
     let bytes = report.text(alloc)?;
     let text = std::str::from_utf8(&bytes)?;

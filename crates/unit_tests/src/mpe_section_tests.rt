@@ -1,5 +1,5 @@
 //! Sections by the syntax of EN 301 192, written by hand; an independent program gave their CRC_32.
-use crate::cases::assert_cases;
+use crate::cases::{assert_cases, assert_digits};
 use hex::FromHex;
 use mpe_section::{Fec, RealTime, read_fec, read_mpe, write_fec, write_mpe, write_mpe_around};
 use section_codec::SectionRef;
@@ -70,28 +70,21 @@ fn datagrams_are_written(rt: HostRuntime) -> Result<(), Fail> {
     let alloc = rt.alloc();
     let datagram = <[u8; 20]>::from_hex(DATAGRAM)?;
     let mut into = [0xEE; 37];
-    let end = write_mpe(MAC, None, &datagram, &mut into);
-    assert_eq!(rt; end, 36);
+    assert_eq!(rt; write_mpe(MAC, None, &datagram, &mut into), 36);
     let want = "3eb0210302c10000015e00014500001400000000401100000a000001ef010203599a2733ee";
-    assert_eq!(rt; hex::encode(alloc, into)?.as_str(), want);
+    assert_digits(&rt, alloc, &into, want)?;
     let mut around = [0; 16];
-    let head = write_mpe_around(MAC, &datagram, &mut around);
-    assert_eq!(rt; head, 12);
-    assert_eq!(rt;
-        hex::encode(alloc, around)?.as_str(),
-        "3eb0210302c10000015e0001599a2733"
-    );
+    assert_eq!(rt; write_mpe_around(MAC, &datagram, &mut around), 12);
+    assert_digits(&rt, alloc, &around, "3eb0210302c10000015e0001599a2733")?;
     let real_time = RealTime {
         delta: 200,
         table_boundary: true,
         frame_boundary: false,
         address: 6720,
     };
-    let end = write_mpe(MAC, Some(real_time), &datagram, &mut into);
-    assert_eq!(rt; end, 36);
+    assert_eq!(rt; write_mpe(MAC, Some(real_time), &datagram, &mut into), 36);
     let want = "3eb0210302c100000c881a404500001400000000401100000a000001ef0102033a8978beee";
-    assert_eq!(rt; hex::encode(alloc, into)?.as_str(), want);
-    Ok(())
+    assert_digits(&rt, alloc, &into, want)
 }
 
 /// EN 301 192 clause 7: the longest datagram fills a section of 4,096 bytes.

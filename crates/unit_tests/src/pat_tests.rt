@@ -1,4 +1,5 @@
 //! PATs by hand, each with its CRC_32 by an independent program, and sections with one fault or two.
+use crate::cases::assert_cases;
 use psi_tables::{Pat, PatReadFault, Program, read_pat, write_pat};
 use std::alloc::Global;
 use std::test::Fail;
@@ -46,8 +47,8 @@ fn text_of(alloc: Global, pat: &Pat) -> Result<String, Fail> {
 }
 
 /// What is read of a section, or the fault.
-fn read_of(alloc: Global, section: &[u8]) -> Result<String, Fail> {
-    match read_pat(alloc, section) {
+fn read_of(alloc: Global, section: &str) -> Result<String, Fail> {
+    match read_pat(alloc, &bytes_of(alloc, section)?) {
         Ok(pat) => text_of(alloc, &pat),
         Err(PatReadFault::Fault(fault)) => Ok(format!(in alloc; "{fault:?}")?),
         Err(PatReadFault::OutOfMemory) => Err("out of memory".into()),
@@ -56,14 +57,7 @@ fn read_of(alloc: Global, section: &[u8]) -> Result<String, Fail> {
 
 #[test]
 fn a_pat_is_read_or_its_first_fault_is_named(rt: HostRuntime) -> Result<(), Fail> {
-    let alloc = rt.alloc();
-    for line in SECTIONS.lines() {
-        let (section, rest) = line.split_once('|').ok_or("no bar")?;
-        let (want, case) = rest.split_once('|').ok_or("one bar")?;
-        let section = bytes_of(alloc, section)?;
-        assert_eq!(rt; read_of(alloc, &section)?.as_str(), want, "{case}");
-    }
-    Ok(())
+    assert_cases(&rt, rt.alloc(), read_of, SECTIONS)
 }
 
 /// Two programs, byte for byte, and the byte after the section.

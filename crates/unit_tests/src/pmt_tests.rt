@@ -1,4 +1,5 @@
 //! PMTs by hand, each with its CRC_32 by an independent program, and sections with one fault or two.
+use crate::cases::assert_cases;
 use psi_tables::{Pmt, PmtReadFault, Stream, read_pmt, write_pmt};
 use std::alloc::Global;
 use std::test::Fail;
@@ -67,8 +68,8 @@ fn text_of(alloc: Global, pmt: &Pmt) -> Result<String, Fail> {
 }
 
 /// What is read of a section, or the fault.
-fn read_of(alloc: Global, section: &[u8]) -> Result<String, Fail> {
-    match read_pmt(alloc, section) {
+fn read_of(alloc: Global, section: &str) -> Result<String, Fail> {
+    match read_pmt(alloc, &bytes_of(alloc, section)?) {
         Ok(pmt) => text_of(alloc, &pmt),
         Err(PmtReadFault::Fault(fault)) => Ok(format!(in alloc; "{fault:?}")?),
         Err(PmtReadFault::OutOfMemory) => Err("out of memory".into()),
@@ -77,14 +78,7 @@ fn read_of(alloc: Global, section: &[u8]) -> Result<String, Fail> {
 
 #[test]
 fn a_pmt_is_read_or_its_first_fault_is_named(rt: HostRuntime) -> Result<(), Fail> {
-    let alloc = rt.alloc();
-    for line in SECTIONS.lines() {
-        let (section, rest) = line.split_once('|').ok_or("no bar")?;
-        let (want, case) = rest.split_once('|').ok_or("one bar")?;
-        let section = bytes_of(alloc, section)?;
-        assert_eq!(rt; read_of(alloc, &section)?.as_str(), want, "{case}");
-    }
-    Ok(())
+    assert_cases(&rt, rt.alloc(), read_of, SECTIONS)
 }
 
 /// A stream with component_tag 1 and one without, byte for byte, and the byte after the section.

@@ -1,5 +1,5 @@
 //! A section from outside: a program association section, whose CRC_32 an independent program gave.
-use crate::cases::assert_cases;
+use crate::cases::{assert_cases, assert_digits};
 use hex::FromHex;
 use section_codec::{SectionForm, parse, write, write_around};
 use std::alloc::Global;
@@ -40,16 +40,17 @@ fn fields_are_read_and_each_fault_is_named(rt: HostRuntime) -> Result<(), Fail> 
 fn the_same_bytes_are_written(rt: HostRuntime) -> Result<(), Fail> {
     let body = <[u8; 9]>::from_hex("0001c100000001f000")?;
     let mut into = [0xEE; 20];
-    let end = write(0, 0xB0, &body, &mut into);
-    assert_eq!(rt; end, 16);
-    let text = hex::encode(rt.alloc(), into)?;
-    assert_eq!(rt; text.as_str(), "00b00d0001c100000001f0002ab104b2eeeeeeee");
+    assert_eq!(rt; write(0, 0xB0, &body, &mut into), 16);
+    assert_digits(
+        &rt,
+        rt.alloc(),
+        &into,
+        "00b00d0001c100000001f0002ab104b2eeeeeeee",
+    )?;
     let mut around = [0; 12];
     let head = write_around(0, 0xB0, &body[..5], &body[5..], &mut around);
     assert_eq!(rt; head, 8);
-    let text = hex::encode(rt.alloc(), around)?;
-    assert_eq!(rt; text.as_str(), "00b00d0001c100002ab104b2");
-    Ok(())
+    assert_digits(&rt, rt.alloc(), &around, "00b00d0001c100002ab104b2")
 }
 
 /// What bytes tell of the section that begins with them.

@@ -1,7 +1,8 @@
 //! Packets by hand, after ISO/IEC 13818-1 clause 2.4.3.2.
-use crate::cases::assert_cases;
+use crate::cases::{assert_cases, assert_text};
 use hex::FromHex;
 use std::alloc::Global;
+use std::process::Abort;
 use std::test::Fail;
 use ts_packet::{Continuity, parse, write_header, write_null, write_packet};
 
@@ -76,8 +77,14 @@ fn packets_follow_by_counter_and_bytes(rt: HostRuntime) -> Result<(), Fail> {
     for line in FOLLOWING.lines() {
         let (given, want) = line.split_once('|').ok_or("no bar")?;
         let link = link_of(rt.alloc(), &mut continuity, given)?;
-        assert_eq!(rt; link.as_str(), want, "of {given}");
+        assert_text(&rt, link, want, given);
     }
+    Ok(())
+}
+
+/// Asserts that a packet begins with 6 bytes, and has FF after them.
+fn assert_packet(rt: &impl Abort, bytes: &[u8; 188], digits: &str) -> Result<(), Fail> {
+    assert!(rt; *bytes == packet_of(digits)?, "{digits}");
     Ok(())
 }
 
@@ -88,15 +95,14 @@ fn packets_are_written(rt: HostRuntime) -> Result<(), Fail> {
     payload[1] = 0x42;
     let mut bytes = [0; 188];
     write_packet(&mut bytes, 0x0011, true, 0, &payload);
-    assert!(rt; bytes == packet_of("474011100042")?);
+    assert_packet(&rt, &bytes, "474011100042")?;
     write_packet(&mut bytes, 0x0100, false, 15, &payload);
-    assert!(rt; bytes == packet_of("4701001f0042")?);
+    assert_packet(&rt, &bytes, "4701001f0042")?;
     write_packet(&mut bytes, 0x1FFF, true, 3, &payload);
-    assert!(rt; bytes == packet_of("475fff130042")?);
+    assert_packet(&rt, &bytes, "475fff130042")?;
     // a header alone: the payload of the last packet stays
     write_header(&mut bytes, 0x0100, false, 1);
-    assert!(rt; bytes == packet_of("470100110042")?);
+    assert_packet(&rt, &bytes, "470100110042")?;
     write_null(&mut bytes);
-    assert!(rt; bytes == packet_of("471fff10ffff")?);
-    Ok(())
+    assert_packet(&rt, &bytes, "471fff10ffff")
 }

@@ -1,5 +1,5 @@
 //! SNDUs from outside: the example of RFC 4326 appendix B, and one whose CRC-32 an independent program gave.
-use crate::cases::assert_cases;
+use crate::cases::{assert_cases, assert_digits};
 use hex::FromHex;
 use std::alloc::Global;
 use std::test::Fail;
@@ -66,15 +66,11 @@ fn an_sndu_with_an_address_is_written(rt: HostRuntime) -> Result<(), Fail> {
     assert_eq!(rt; end, 67);
     let want =
         "003f86dd00010203040560000000000d3a4020010db830081965000000000000000120010db825091962000000000000000280009d8c0638000400000000007c171763ee";
-    assert_eq!(rt; hex::encode(alloc, into)?.as_str(), want);
+    assert_digits(&rt, alloc, &into, want)?;
     let mut around = [0; 14];
     let head = write_around(Some([0, 1, 2, 3, 4, 5]), 0x86DD, &datagram, &mut around);
     assert_eq!(rt; head, 10);
-    assert_eq!(rt;
-        hex::encode(alloc, around)?.as_str(),
-        "003f86dd0001020304057c171763"
-    );
-    Ok(())
+    assert_digits(&rt, alloc, &around, "003f86dd0001020304057c171763")
 }
 
 #[test]
@@ -84,8 +80,7 @@ fn an_sndu_without_an_address_is_written(rt: HostRuntime) -> Result<(), Fail> {
     let end = write(None, 0x0800, &datagram, &mut into);
     assert_eq!(rt; end, 28);
     let want = "801808004500001400000000401100000a000001ef01020364aee84aeeeeeeeeeeee";
-    assert_eq!(rt; hex::encode(rt.alloc(), into)?.as_str(), want);
-    Ok(())
+    assert_digits(&rt, rt.alloc(), &into, want)
 }
 
 /// What bytes tell of the SNDU that begins with them.

@@ -1,7 +1,8 @@
 //! Packets by hand and the events that they give; units by hand and the packets that they fill.
-use crate::cases::assert_cases;
+use crate::cases::{assert_cases, assert_text};
 use crate::small_form::SmallForm;
 use std::alloc::{AllocError, Global};
+use std::process::Abort;
 use std::test::Fail;
 use test_recordings::bytes_of;
 use ts_packet::{Link, Packet};
@@ -144,19 +145,29 @@ Next 1 00 06 07|
 Next 0 07 07|
 Next 0 08 08 09|unit 17 [6, 7, 7, 7, 8, 8];";
 
+/// Asserts that a joiner gives the events of a line, and that another one tells them to a listener.
+fn assert_events(
+    rt: &impl Abort,
+    alloc: Global,
+    joiner: &mut Joiner<SmallForm, Global>,
+    telling: &mut Joiner<SmallForm, Global>,
+    line: &str,
+    moment: u64,
+) -> Result<(), Fail> {
+    let (given, want) = line.split_once('|').ok_or("no bar")?;
+    let step = Step::of(alloc, given)?;
+    assert_text(rt, events_of(alloc, joiner, &step, moment)?, want, line);
+    assert_text(rt, heard_events(alloc, telling, &step, moment)?, want, line);
+    Ok(())
+}
+
 #[test]
 fn packets_give_their_events_in_order(rt: HostRuntime) -> Result<(), Fail> {
     let alloc = rt.alloc();
     let mut joiner = Joiner::<SmallForm, Global>::over(vec![in alloc; 0u8; SmallForm::LONGEST]?);
     let mut telling = Joiner::<SmallForm, Global>::over(vec![in alloc; 0u8; SmallForm::LONGEST]?);
     for (place, line) in STEPS.lines().enumerate() {
-        let (given, want) = line.split_once('|').ok_or("no bar")?;
-        let step = Step::of(alloc, given)?;
-        let moment = place as u64;
-        let events = events_of(alloc, &mut joiner, &step, moment)?;
-        assert_eq!(rt; events.as_str(), want, "in packet {moment}");
-        let heard = heard_events(alloc, &mut telling, &step, moment)?;
-        assert_eq!(rt; heard.as_str(), want, "heard in packet {moment}");
+        assert_events(&rt, alloc, &mut joiner, &mut telling, line, place as u64)?;
     }
     Ok(())
 }
