@@ -1,35 +1,12 @@
 //! Frames of 300 bytes with urgent datagrams, by hand; the CRC-8 of their headers is not looked at.
-ghost use Rattle.std.specs.Prelude.{IfOk};
-ghost use Rattle.gse_pack.specs.Offered.{IsShortDatagram};
-
+use crate::datagrams::datagram;
 use crate::texts::bytes_of;
 use addr_rules::{RuleList, parse_rule};
 use gse_classes::{is_urgent, pack_classes};
 use gse_pack::Frames;
-use ip_datagram::{DatagramList, front};
+use ip_datagram::DatagramList;
 use std::alloc::Global;
 use std::test::Fail;
-
-/// An IPv4 datagram of this many bytes to an address of the group 239.1.0.0/16 or 239.2.0.0/16.
-fn datagram(alloc: Global, size: u16, group: u8) -> Result<Vec<u8>, Fail>
-    ensures { IfOk result (λ bytes. IsShortDatagram bytes.items) }
-{
-    let length = size.to_be_bytes();
-    let mut bytes = Vec::from_slice(alloc, &[0x45, 0, length[0], length[1]])?;
-    bytes.extend_from_slice(&[0, 0, 0, 0, 64, 17, 0, 0, 10, 0, 0, 1, 239, group, 2, 3])?;
-    for _ in bytes.len()..usize::from(size) {
-        bytes.push(0)?;
-    }
-    match front(&bytes) {
-        Ok(length) => {
-            if length != bytes.len() || length > 65_527 {
-                return Err(Fail::new("a datagram of another length"));
-            }
-            Ok(bytes)
-        }
-        Err(_) => Err(Fail::new("no datagram")),
-    }
-}
 
 /// The rule of the group 239.2.0.0/16.
 fn second_group(alloc: Global) -> Result<RuleList, Fail> {
@@ -59,40 +36,46 @@ const PIECES: &str = "0 4|09 10
 3 4|00 40
 3 10|70 06 00";
 
+/// Whether there are four frames, and the one that a line names has these bytes at this place.
+fn has_piece(alloc: Global, frames: &Frames, line: &str) -> Result<bool, Fail> {
+    let (place, piece) = line.split_once('|').ok_or("no bar")?;
+    let (frame, at) = place.split_once(' ').ok_or("no place")?;
+    let frame = frame.parse::<usize>()?;
+    let at = at.parse::<usize>()?;
+    if frames.count() != 4 || frame >= 4 || at > frames.frame(frame).len() {
+        return Ok(false);
+    }
+    Ok(frames.frame(frame)[at..].starts_with(&bytes_of(alloc, piece)?))
+}
+
 #[test]
 fn an_urgent_datagram_goes_before_the_rest_of_another(rt: HostRuntime) -> Result<(), Fail> {
     let alloc = rt.alloc();
     let frames = frames_of_two(alloc)?;
-    assert_eq!(rt; frames.count(), 4);
     for line in PIECES.lines() {
-        let (place, piece) = line.split_once('|').ok_or("no bar")?;
-        let (frame, at) = place.split_once(' ').ok_or("no place")?;
-        let frame = frame.parse::<usize>()?;
-        let at = at.parse::<usize>()?;
-        if frame >= frames.count() || at > frames.frame(frame).len() {
-            return Err(Fail::new("no such place"));
-        }
-        assert!(rt;
-            frames.frame(frame)[at..].starts_with(&bytes_of(alloc, piece)?),
-            "{line}"
-        );
+        assert!(rt; has_piece(alloc, &frames, line)?, "{line}");
     }
     Ok(())
 }
 
-/// A datagram by its size and group, and whether it is urgent.
+/// Sizes and groups of datagrams, and whether they are urgent.
+const URGENT: [(u16, u8, bool); 4] = [
+    (1500, 2, true),
+    (1501, 2, false),
+    (40, 2, true),
+    (40, 1, false),
+];
+
+/// Whether a datagram of this size to this group is urgent.
+fn is_sent_first(alloc: Global, size: u16, group: u8) -> Result<bool, Fail> {
+    let datagram = datagram(alloc, size, group)?;
+    Ok(is_urgent(&datagram, &second_group(alloc)?))
+}
+
 #[test]
 fn short_datagrams_of_the_rules_are_urgent(rt: HostRuntime) -> Result<(), Fail> {
-    let alloc = rt.alloc();
-    let rules = second_group(alloc)?;
-    let cases: [(u16, u8, bool); 4] = [
-        (1500, 2, true),
-        (1501, 2, false),
-        (40, 2, true),
-        (40, 1, false),
-    ];
-    for (size, group, want) in cases {
-        assert_eq!(rt; is_urgent(&datagram(alloc, size, group)?, &rules), want);
+    for (size, group, want) in URGENT {
+        assert_eq!(rt; is_sent_first(rt.alloc(), size, group)?, want);
     }
     Ok(())
 }
