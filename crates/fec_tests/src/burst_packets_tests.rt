@@ -1,5 +1,5 @@
 //! Bursts of one datagram each, by hand from EN 301 192 clause 9 and ISO/IEC 13818-1 clause 2.4.4.
-use crate::lines::difference_of;
+use crate::lines::{expect, expect_bytes};
 use crate::sendable::{HOST, UNICAST, list_of};
 use burst_packets::{BurstPackets, Shape, Timing};
 use fec_units::burst_ends;
@@ -45,6 +45,17 @@ fn put_burst(
     Ok(())
 }
 
+/// Puts the packets of the next window, and how many packets there are before it and whether there are more to come.
+fn put_window(
+    bytes: &mut Vec<u8>,
+    ends: &mut Vec<usize>,
+    bursts: &mut BurstPackets<'_>,
+    text: &mut String,
+) -> Result<(), Fail> {
+    write!(text, "; {} {}", ends.len(), bursts.has_next())?;
+    put_burst(bytes, ends, bursts)
+}
+
 /// Puts the packets of four windows one after another, for two datagrams of 1,000 bytes, and where each packet ends.
 ///
 /// Answers where the bursts end in the list of datagrams, and before each window how many packets there are and whether there are more to
@@ -55,8 +66,7 @@ fn put_windows(alloc: Global, bytes: &mut Vec<u8>, ends: &mut Vec<usize>) -> Res
     let mut bursts = BurstPackets::new(alloc, SHAPE, TIMING, &list, &datagrams, 300, 14)?;
     let mut text = format!(in alloc; "{:?}", datagrams.as_slice())?;
     for _ in 0..4 {
-        write!(&mut text, "; {} {}", ends.len(), bursts.has_next())?;
-        put_burst(bytes, ends, &mut bursts)?;
+        put_window(bytes, ends, &mut bursts, &mut text)?;
     }
     Ok(text)
 }
@@ -79,11 +89,7 @@ fn bursts_announce_the_next_window(rt: HostRuntime) -> Result<(), Fail> {
     let mut bytes = Vec::new(alloc);
     let mut ends = Vec::new(alloc);
     let windows = put_windows(alloc, &mut bytes, &mut ends)?;
-    assert_eq!(rt;
-        windows.as_str(),
-        "[1, 2]; 0 true; 8 true; 16 false; 16 false"
-    );
-    let difference = difference_of(alloc, &bytes, &ends, PACKETS)?;
-    assert_eq!(rt; difference.as_str(), "");
-    Ok(())
+    let due = "[1, 2]; 0 true; 8 true; 16 false; 16 false";
+    expect("the windows", &windows, due)?;
+    expect_bytes(alloc, &bytes, &ends, PACKETS)
 }

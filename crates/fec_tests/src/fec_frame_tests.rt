@@ -1,11 +1,11 @@
 //! Frames of 256 rows: what becomes of their sections, and how many of their rows are corrected.
 ghost use Rattle.std.specs.Prelude.{◌≡◌};
 
-use crate::lines::numbers_of;
+use crate::lines::{expect, numbers_of};
 use crate::outside_parity::PARITY;
 use crate::tables::empty_table;
 use fec_frame::{Table, TableAnswer, padding_of};
-use std::alloc::Global;
+use std::alloc::{AllocError as OutOfMemory, Global};
 use std::test::Fail;
 
 /// The bytes of an application data table whose bytes in column j are j.
@@ -58,11 +58,21 @@ fn state_of(table: &Table<Global>, data: &[u8]) -> &'static str
 }
 
 /// What becomes of a frame.
-fn solved(alloc: Global, data: &[u8], words: &str) -> Result<String, Fail> {
-    let numbers = numbers_of(alloc, words)?;
-    let [lost, bytes, columns] = *numbers.as_slice() else {
-        return Err(Fail::new("three numbers"));
-    };
+fn solved(alloc: Global, table: &mut Table<Global>, data: &[u8]) -> Result<String, OutOfMemory>
+    requires rows { table.old.rows ≡ 256 }
+{
+    let counts = table.solve();
+    let state = state_of(table, data);
+    format!(in alloc;
+        "{} corrected, {} left, {state}",
+        counts.mended, counts.left
+    )
+}
+
+/// Solves the frame of a line.
+fn solve(alloc: Global, data: &[u8], line: &str) -> Result<(), Fail> {
+    let (words, due) = line.split_once('|').ok_or("no bar")?;
+    let [lost, bytes, columns] = numbers_of::<3>(words)?;
     if lost > 190 || bytes > 255 || columns > 64 {
         return Err(Fail::new("no such frame"));
     }
@@ -70,12 +80,7 @@ fn solved(alloc: Global, data: &[u8], words: &str) -> Result<String, Fail> {
     if !place_frame(&mut table, data, (lost * 256 + bytes) as u32, columns as u8) {
         return Err(Fail::new("not placed"));
     }
-    let counts = table.solve();
-    let state = state_of(&table, data);
-    Ok(format!(in alloc;
-        "{} corrected, {} left, {state}",
-        counts.mended, counts.left
-    )?)
+    expect(words, &solved(alloc, &mut table, data)?, due)
 }
 
 #[test]
@@ -83,8 +88,7 @@ fn rows_are_corrected_up_to_sixty_four_unknown_bytes(rt: HostRuntime) -> Result<
     let alloc = rt.alloc();
     let data = data_of(alloc)?;
     for line in LOST.lines() {
-        let (words, want) = line.split_once('|').ok_or("no bar")?;
-        assert_eq!(rt; solved(alloc, &data, words)?.as_str(), want, "{words}");
+        solve(alloc, &data, line)?;
     }
     Ok(())
 }
@@ -137,20 +141,28 @@ fn answer_of(table: &mut Table<Global>, words: &str) -> Result<&'static str, Fai
     }
 }
 
+/// Makes the call of a line.
+fn call(table: &mut Table<Global>, line: &str) -> Result<(), Fail> {
+    let (words, due) = line.split_once('|').ok_or("no bar")?;
+    expect(words, answer_of(table, words)?, due)
+}
+
 #[test]
 fn sections_are_placed_until_the_next_frame(rt: HostRuntime) -> Result<(), Fail> {
-    let alloc = rt.alloc();
-    let mut table = empty_table(alloc)?;
+    let mut table = empty_table(rt.alloc())?;
     for line in CALLS.lines() {
-        let (words, want) = line.split_once('|').ok_or("no bar")?;
-        assert_eq!(rt; answer_of(&mut table, words)?, want, "{words}");
+        call(&mut table, line)?;
     }
-    // 256 rows: a column that is begun is no padding column
+    Ok(())
+}
+
+/// 256 rows.
+#[test]
+fn a_column_that_is_begun_is_no_padding_column(rt: HostRuntime) {
     let padding = (
         padding_of(256, 1),
         padding_of(256, 256),
         padding_of(256, 257),
     );
     assert_eq!(rt; padding, (190, 190, 189));
-    Ok(())
 }

@@ -3,7 +3,7 @@ ghost use Rattle.std.specs.Prelude.{◌<◌, ◌≤◌, ◌^◌, length, IfOk};
 ghost use Rattle.fec_units.specs.Ends.{AreFrameEnds};
 ghost use Rattle.fec_sent_law.specs.Frames.{AreSendable};
 
-use crate::lines::{difference_of, hex_at};
+use crate::lines::{expect, expect_bytes, hex_at};
 use crate::sendable::{HOST, UNICAST, list_of};
 use burst_packets::{FramePackets, Shape};
 use fec_units::{BurstBuffer, FrameUnits, burst_ends, unit_ends};
@@ -47,6 +47,26 @@ fn payloads_of(
     Ok(bytes)
 }
 
+/// The bytes of the units of frames with 256 rows. Fails where the units end elsewhere than `ends`, or differ from the table.
+fn units_of(
+    alloc: Global,
+    list: &DatagramList,
+    columns: u8,
+    first: u32,
+    ends: &str,
+    table: &str,
+) -> Result<Vec<u8>, Fail>
+    requires columns { (1 ≤ columns) × (columns ≤ 64) }
+    requires sendable { AreSendable list.now }
+    requires few { length list.now < 2 ^ 32 }
+{
+    let units = unit_ends(alloc, list, 256, columns)?;
+    let bytes = payloads_of(alloc, list, &units, columns, first)?;
+    expect("the ends", &ends_of(alloc, &units)?, ends)?;
+    expect_bytes(alloc, &bytes, &units.ends, table)?;
+    Ok(bytes)
+}
+
 /// A unit and a byte of it, the bytes there, and what they are. The parity is an independent program's.
 const SMALL: &str = "0 0|3E B0 21|section_length 33
 0 3|03 02 C1 00 00|MAC_address_6 and 5 of 01:00:5E:01:02:03
@@ -61,12 +81,8 @@ const SMALL: &str = "0 0|3E B0 21|section_length 33
 fn a_small_datagram_is_a_frame_of_two_sections(rt: HostRuntime) -> Result<(), Fail> {
     let alloc = rt.alloc();
     let list = list_of(alloc, 1, 20, [239, 1, 2, 3])?;
-    let units = unit_ends(alloc, &list, 256, 1)?;
-    let bytes = payloads_of(alloc, &list, &units, 1, 5)?;
     // 12 bytes before the datagram and the CRC_32; 12 before the column of 256 bytes and the CRC_32
-    assert_eq!(rt; ends_of(alloc, &units)?.as_str(), "1: [36, 308]");
-    let difference = difference_of(alloc, &bytes, &units.ends, SMALL)?;
-    assert_eq!(rt; difference.as_str(), "");
+    let bytes = units_of(alloc, &list, 1, 5, "1: [36, 308]", SMALL)?;
     // rows of zeros have parity of zeros
     assert!(rt; bytes.get(68..304) == Some(&[0; 236][..]));
     Ok(())
@@ -89,11 +105,7 @@ const TWO_ENDS: &str =
 fn a_datagram_without_room_begins_the_next_frame(rt: HostRuntime) -> Result<(), Fail> {
     let alloc = rt.alloc();
     let list = list_of(alloc, 12, 4080, HOST)?;
-    let units = unit_ends(alloc, &list, 256, 2)?;
-    let bytes = payloads_of(alloc, &list, &units, 2, 4095)?;
-    assert_eq!(rt; ends_of(alloc, &units)?.as_str(), TWO_ENDS);
-    let difference = difference_of(alloc, &bytes, &units.ends, TWO_FRAMES)?;
-    assert_eq!(rt; difference.as_str(), "");
+    units_of(alloc, &list, 2, 4095, TWO_ENDS, TWO_FRAMES)?;
     Ok(())
 }
 
@@ -102,8 +114,18 @@ fn a_datagram_without_room_begins_the_next_frame(rt: HostRuntime) -> Result<(), 
 fn no_datagram_has_no_unit(rt: HostRuntime) -> Result<(), Fail> {
     let alloc = rt.alloc();
     let units = unit_ends(alloc, &DatagramList::new(alloc), 1024, 64)?;
-    assert_eq!(rt; ends_of(alloc, &units)?.as_str(), "0: []");
-    Ok(())
+    expect("the ends", &ends_of(alloc, &units)?, "0: []")
+}
+
+/// Where each unit of a burst ends, and its real_time_parameters.
+fn times_of(alloc: Global, buffer: &BurstBuffer) -> Result<String, Fail> {
+    let mut text = String::new(alloc);
+    for (number, end) in buffer.ends().iter().enumerate() {
+        let time = hex_at(alloc, buffer.bytes(), buffer.ends(), number, 8, 4)?;
+        let separator = if number == 0 { "" } else { "; " };
+        write!(&mut text, "{separator}{end}: {time}")?;
+    }
+    Ok(text)
 }
 
 /// The units of the burst of all datagrams of a list, in frames of 256 rows of whose RS data one column is sent: where each ends, and its
@@ -118,13 +140,7 @@ fn burst_of(alloc: Global, list: &DatagramList) -> Result<String, Fail>
     };
     let mut buffer = BurstBuffer::new(alloc, 256, 1)?;
     buffer.make(list, 0, end as usize, UNICAST, &[300, 299, 298]);
-    let mut text = String::new(alloc);
-    for (number, end) in buffer.ends().iter().enumerate() {
-        let time = hex_at(alloc, buffer.bytes(), buffer.ends(), number, 8, 4)?;
-        let separator = if number == 0 { "" } else { "; " };
-        write!(&mut text, "{separator}{end}: {time}")?;
-    }
-    Ok(text)
+    times_of(alloc, &buffer)
 }
 
 /// Number and bytes of the datagrams of a burst; after `|` where each of its sections ends, and its real_time_parameters. delta_t is 300 in
@@ -149,13 +165,17 @@ fn list_in(alloc: Global, words: &str) -> Result<DatagramList, Fail>
     list_of(alloc, count.parse::<u8>()?, size.parse::<u16>()?, HOST)
 }
 
+/// Makes the burst of a line.
+fn make(alloc: Global, line: &str) -> Result<(), Fail> {
+    let (words, due) = line.split_once('|').ok_or("no bar")?;
+    let list = list_in(alloc, words)?;
+    expect(words, &burst_of(alloc, &list)?, due)
+}
+
 #[test]
 fn sections_have_the_time_of_their_packet(rt: HostRuntime) -> Result<(), Fail> {
-    let alloc = rt.alloc();
     for line in BURSTS.lines() {
-        let (words, want) = line.split_once('|').ok_or("no bar")?;
-        let list = list_in(alloc, words)?;
-        assert_eq!(rt; burst_of(alloc, &list)?.as_str(), want, "{words}");
+        make(rt.alloc(), line)?;
     }
     Ok(())
 }
@@ -167,15 +187,22 @@ const WINDOWS: &str = "1|[1, 2, 3, 4, 5]
 4|[3, 5]
 100|[5]";
 
+/// Divides a list into the bursts of a line.
+fn divide(alloc: Global, list: &DatagramList, line: &str) -> Result<(), Fail>
+    requires sendable { AreSendable list.now }
+    requires few { length list.now < 2 ^ 32 }
+{
+    let (slots, due) = line.split_once('|').ok_or("no bar")?;
+    let ends = burst_ends(alloc, list, 256, 1, slots.parse::<u32>()?)?;
+    let ends = format!(in alloc; "{:?}", ends.as_slice())?;
+    expect(slots, &ends, due)
+}
+
 #[test]
 fn a_burst_takes_what_its_window_has_room_for(rt: HostRuntime) -> Result<(), Fail> {
-    let alloc = rt.alloc();
-    let list = list_of(alloc, 5, 100, HOST)?;
+    let list = list_of(rt.alloc(), 5, 100, HOST)?;
     for line in WINDOWS.lines() {
-        let (slots, want) = line.split_once('|').ok_or("no bar")?;
-        let ends = burst_ends(alloc, &list, 256, 1, slots.parse::<u32>()?)?;
-        let ends = format!(in alloc; "{:?}", ends.as_slice())?;
-        assert_eq!(rt; ends.as_str(), want, "{slots}");
+        divide(rt.alloc(), &list, line)?;
     }
     Ok(())
 }

@@ -1,6 +1,7 @@
 //! Datagrams found in frames of 256 rows, whether their sections came or not.
 ghost use Rattle.std.specs.Prelude.{◌≡◌};
 
+use crate::lines::expect;
 use crate::tables::empty_table;
 use fec_frame::{Table, TableAnswer};
 use frame_walk::Walk;
@@ -40,11 +41,11 @@ fn a_walk_goes_on_after_unknown_bytes(rt: HostRuntime) -> Result<(), Fail> {
     let mut pair = [0; 40];
     pair[..20].copy_from_slice(&DATAGRAM);
     pair[20..].copy_from_slice(&DATAGRAM);
-    assert!(rt; table.data(0, false, false, &DATAGRAM) == TableAnswer::Placed);
-    assert!(rt; table.data(40, true, false, &pair) == TableAnswer::Placed);
-    let found = found(alloc, &mut table)?;
-    assert_eq!(rt; found.as_str(), "0 corrected, 20 left, DDD.");
-    Ok(())
+    let placed = table.data(0, false, false, &DATAGRAM) == TableAnswer::Placed
+        && table.data(40, true, false, &pair) == TableAnswer::Placed;
+    assert!(rt; placed);
+    let due = "0 corrected, 20 left, DDD.";
+    expect("a walk", &found(alloc, &mut table)?, due)
 }
 
 /// EN 301 192 clause 9: of a frame of three datagrams only one column of parity came: column 0 and 63 of parity are unknown.
@@ -57,7 +58,6 @@ fn datagrams_come_back_without_their_sections(rt: HostRuntime) -> Result<(), Fai
     column[20..40].copy_from_slice(&PARITY);
     column[40..60].copy_from_slice(&PARITY);
     assert!(rt; table.parity(0, 190, 63, false, &column) == TableAnswer::Placed);
-    let found = found(alloc, &mut table)?;
-    assert_eq!(rt; found.as_str(), "256 corrected, 0 left, DDD.");
-    Ok(())
+    let due = "256 corrected, 0 left, DDD.";
+    expect("a walk", &found(alloc, &mut table)?, due)
 }

@@ -1,15 +1,27 @@
-//! What a line of a table says: numbers, and bytes as hex text.
+//! What a line of a table says: numbers, bytes as hex text, and what is due.
 use std::alloc::Global;
 use std::fmt::Write;
 use std::test::Fail;
 
-/// The numbers of a text, separated by spaces.
-pub(crate) fn numbers_of(alloc: Global, text: &str) -> Result<Vec<u64>, Fail> {
-    let mut numbers = Vec::new(alloc);
-    for word in text.split(' ') {
-        numbers.push(word.parse::<u64>()?)?;
+/// The numbers of a text, separated by spaces: as many as the caller takes.
+pub(crate) fn numbers_of<const N: usize>(text: &str) -> Result<[u64; N], Fail> {
+    let mut numbers = [0; N];
+    let mut words = text.split(' ');
+    for at in 0..N {
+        numbers[at] = words.next().ok_or("too few numbers")?.parse::<u64>()?;
     }
-    Ok(numbers)
+    match words.next() {
+        Some(_) => Err(Fail::new("too many numbers")),
+        None => Ok(numbers),
+    }
+}
+
+/// Fails where a line comes to another text than the one due.
+pub(crate) fn expect(line: &str, is: &str, due: &str) -> Result<(), Fail> {
+    if is != due {
+        return Err(Fail::new(format_args!("{line} and not {is}")));
+    }
+    Ok(())
 }
 
 /// Bytes as hex text.
@@ -45,25 +57,28 @@ pub(crate) fn hex_at(
     hex_of(alloc, &rest[..count.min(rest.len())])
 }
 
-/// The first line of a table that differs from the bytes, as it would have to be; an empty text if all agree.
+/// Fails where a line of a table differs from the bytes.
+fn expect_line(alloc: Global, bytes: &[u8], ends: &[usize], line: &str) -> Result<(), Fail> {
+    let (place, said) = line.split_once('|').ok_or("no place")?;
+    let (due, _) = said.split_once('|').ok_or("no bytes")?;
+    let (number, byte) = place.split_once(' ').ok_or("no byte")?;
+    let number = number.parse::<usize>()?;
+    let byte = byte.parse::<usize>()?;
+    let there = hex_at(alloc, bytes, ends, number, byte, due.split(' ').count())?;
+    expect(place, &there, due)
+}
+
+/// Fails where a table differs from the bytes.
 ///
 /// A line has the number of a piece and the number of a byte in it; after `|` the bytes there; after another `|` what they are.
-pub(crate) fn difference_of(
+pub(crate) fn expect_bytes(
     alloc: Global,
     bytes: &[u8],
     ends: &[usize],
     table: &str,
-) -> Result<String, Fail> {
+) -> Result<(), Fail> {
     for line in table.lines() {
-        let (place, said) = line.split_once('|').ok_or("no place")?;
-        let (want, _) = said.split_once('|').ok_or("no bytes")?;
-        let (number, byte) = place.split_once(' ').ok_or("no byte")?;
-        let number = number.parse::<usize>()?;
-        let byte = byte.parse::<usize>()?;
-        let there = hex_at(alloc, bytes, ends, number, byte, want.split(' ').count())?;
-        if there.as_str() != want {
-            return Ok(format!(in alloc; "{place}|{there}")?);
-        }
+        expect_line(alloc, bytes, ends, line)?;
     }
-    Ok(String::new(alloc))
+    Ok(())
 }

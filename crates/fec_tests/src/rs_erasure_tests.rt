@@ -4,7 +4,7 @@ ghost use Rattle.std.specs.List.{All};
 ghost use Rattle.std.specs.List.Sorted.{IsStrictlyIncreasing};
 ghost use Rattle.std.specs.Prelude.{◌-◌, ◌<◌, ◌≤◌, length};
 
-use crate::lines::numbers_of;
+use crate::lines::{expect, numbers_of};
 use crate::outside_parity::PARITY;
 use arrayvec::ArrayVec;
 use rs_erasure::{RowAnswer, decode_row, decode_run};
@@ -64,10 +64,7 @@ const ROWS_ALONE: &str = "64 0|Done, the codeword
 
 /// What becomes of a row.
 fn decoded(alloc: Global, words: &str) -> Result<String, Fail> {
-    let numbers = numbers_of(alloc, words)?;
-    let [lost, added] = *numbers.as_slice() else {
-        return Err(Fail::new("two numbers"));
-    };
+    let [lost, added] = numbers_of::<2>(words)?;
     let lost = u8::try_from(lost)?;
     let mut row = codeword();
     for place in 0..lost {
@@ -79,12 +76,16 @@ fn decoded(alloc: Global, words: &str) -> Result<String, Fail> {
     Ok(format!(in alloc; "{}, {}", name_of(answer), state_of(&before, &row))?)
 }
 
+/// Decodes the row of a line.
+fn decode(alloc: Global, line: &str) -> Result<(), Fail> {
+    let (words, due) = line.split_once('|').ok_or("no bar")?;
+    expect(words, &decoded(alloc, words)?, due)
+}
+
 #[test]
 fn sixty_four_places_are_filled_and_sixty_five_refused(rt: HostRuntime) -> Result<(), Fail> {
-    let alloc = rt.alloc();
     for line in ROWS_ALONE.lines() {
-        let (words, want) = line.split_once('|').ok_or("no bar")?;
-        assert_eq!(rt; decoded(alloc, words)?.as_str(), want, "{words}");
+        decode(rt.alloc(), line)?;
     }
     Ok(())
 }
@@ -173,10 +174,7 @@ fn rows_of(
 
 /// What becomes of a table.
 fn after_run(alloc: Global, words: &str) -> Result<String, Fail> {
-    let numbers = numbers_of(alloc, words)?;
-    let [from, to, first, end, changed] = *numbers.as_slice() else {
-        return Err(Fail::new("five numbers"));
-    };
+    let [from, to, first, end, changed] = numbers_of::<5>(words)?;
     let from = usize::try_from(from)?;
     let to = usize::try_from(to)?;
     let first = u8::try_from(first)?;
@@ -196,12 +194,16 @@ fn after_run(alloc: Global, words: &str) -> Result<String, Fail> {
     rows_of(alloc, &before, &table, &bad, from, to, &unknown)
 }
 
+/// Decodes the run of a line.
+fn decode_all(alloc: Global, line: &str) -> Result<(), Fail> {
+    let (words, due) = line.split_once('|').ok_or("no bar")?;
+    expect(words, &after_run(alloc, words)?, due)
+}
+
 #[test]
 fn a_run_does_what_single_rows_do(rt: HostRuntime) -> Result<(), Fail> {
-    let alloc = rt.alloc();
     for line in RUNS.lines() {
-        let (words, want) = line.split_once('|').ok_or("no bar")?;
-        assert_eq!(rt; after_run(alloc, words)?.as_str(), want, "{words}");
+        decode_all(rt.alloc(), line)?;
     }
     Ok(())
 }

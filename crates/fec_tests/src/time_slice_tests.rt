@@ -1,5 +1,5 @@
 //! Each public call, on numbers worked by hand.
-use crate::lines::numbers_of;
+use crate::lines::{expect, numbers_of};
 use mpe_section::RealTime;
 use std::alloc::Global;
 use std::test::Fail;
@@ -14,22 +14,23 @@ const DELTAS: &str = "0 9999 10000|0
 
 /// delta_t from a moment to the next one.
 fn delta_of(alloc: Global, words: &str) -> Result<String, Fail> {
-    let numbers = numbers_of(alloc, words)?;
-    let [now, next, ten] = *numbers.as_slice() else {
-        return Err(Fail::new("three numbers"));
-    };
+    let [now, next, ten] = numbers_of::<3>(words)?;
     if now > next || ten > 1_000_000 || next - now >= 4096 * ten {
         return Err(Fail::new("too far"));
     }
     Ok(format!(in alloc; "{}", delta(now, next, ten))?)
 }
 
+/// Works out delta_t of a line.
+fn work_out(alloc: Global, line: &str) -> Result<(), Fail> {
+    let (words, due) = line.split_once('|').ok_or("no bar")?;
+    expect(words, &delta_of(alloc, words)?, due)
+}
+
 #[test]
 fn delta_is_rounded_down(rt: HostRuntime) -> Result<(), Fail> {
-    let alloc = rt.alloc();
     for line in DELTAS.lines() {
-        let (words, want) = line.split_once('|').ok_or("no bar")?;
-        assert_eq!(rt; delta_of(alloc, words)?.as_str(), want, "{words}");
+        work_out(rt.alloc(), line)?;
     }
     Ok(())
 }
@@ -63,16 +64,9 @@ fn time(delta: u16) -> RealTime {
 }
 
 /// What a call answers.
-fn answer_of(
-    alloc: Global,
-    membership: &mut Membership,
-    words: &str,
-) -> Result<&'static str, Fail> {
+fn answer_of(membership: &mut Membership, words: &str) -> Result<&'static str, Fail> {
     let (call, numbers) = words.split_once(' ').ok_or("no number")?;
-    let numbers = numbers_of(alloc, numbers)?;
-    let [moment, delta] = *numbers.as_slice() else {
-        return Err(Fail::new("two numbers"));
-    };
+    let [moment, delta] = numbers_of::<2>(numbers)?;
     let time = time(u16::try_from(delta)?);
     match call {
         "see" => membership.see(moment, &time),
@@ -88,15 +82,18 @@ fn answer_of(
     Ok("")
 }
 
+/// Makes the call of a line.
+fn call(membership: &mut Membership, line: &str) -> Result<(), Fail> {
+    let (words, due) = line.split_once('|').ok_or("no bar")?;
+    expect(words, answer_of(membership, words)?, due)
+}
+
 #[test]
 fn a_section_belongs_to_the_frame_under_way(rt: HostRuntime) -> Result<(), Fail> {
-    let alloc = rt.alloc();
     for (sliced, calls) in [(true, SLICED), (false, NUMBERED)] {
         let mut membership = Membership::new(sliced, 10000);
         for line in calls.lines() {
-            let (words, want) = line.split_once('|').ok_or("no bar")?;
-            let answer = answer_of(alloc, &mut membership, words)?;
-            assert_eq!(rt; answer, want, "{words}");
+            call(&mut membership, line)?;
         }
     }
     Ok(())
@@ -110,9 +107,15 @@ const SLOTS: &str = "99|None
 106|Some((1, 4))
 107|None";
 
+/// Asks for the owner of the slot of a line.
+fn ask(alloc: Global, windows: &Windows<'_>, line: &str) -> Result<(), Fail> {
+    let (slot, due) = line.split_once('|').ok_or("no bar")?;
+    let owner = format!(in alloc; "{:?}", windows.owner(slot.parse::<u32>()?))?;
+    expect(slot, &owner, due)
+}
+
 #[test]
 fn each_slot_has_one_owner(rt: HostRuntime) -> Result<(), Fail> {
-    let alloc = rt.alloc();
     let list = [
         Window {
             service: 3,
@@ -127,9 +130,7 @@ fn each_slot_has_one_owner(rt: HostRuntime) -> Result<(), Fail> {
     ];
     let windows = Windows::over(&list);
     for line in SLOTS.lines() {
-        let (slot, want) = line.split_once('|').ok_or("no bar")?;
-        let owner = format!(in alloc; "{:?}", windows.owner(slot.parse::<u32>()?))?;
-        assert_eq!(rt; owner.as_str(), want, "{slot}");
+        ask(rt.alloc(), &windows, line)?;
     }
     Ok(())
 }
