@@ -5,6 +5,10 @@
 #![tactic(auto)]
 
 #[cfg(test)]
+mod lines;
+#[cfg(test)]
+mod plans;
+#[cfg(test)]
 mod relay_cases;
 #[cfg(test)]
 mod relay_gather_tests;

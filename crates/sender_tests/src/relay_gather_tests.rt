@@ -2,8 +2,8 @@
 ghost use Rattle.std.specs.Prelude.{◌≡◌};
 ghost use Rattle.plan.specs.PlanView.{plan_fields};
 
+use crate::plans::plan_of;
 use crate::relay_cases::SECTIONS;
-use crate::relay_tests::plan_of;
 use datagram_routing::Offered;
 use ipe_io::{OutOfMemory, Outlet};
 use relay_core::{Gather, GatherFault, OuterPlan};
@@ -32,21 +32,24 @@ fn offered_of(alloc: Global, plan: &Plan) -> Result<Offered, Fail> {
     offered_under::<Brand>(alloc, plan)
 }
 
+/// Whether one service is offered the datagram twice, and nothing else.
+fn is_twice(offered: &Offered) -> bool {
+    if offered.lists.versions() != 1 || offered.lists.services(0) != 1 {
+        return false;
+    }
+    let list = offered.lists.at(0, 0);
+    if list.len() != 2 {
+        return false;
+    }
+    list.at(0) == DATAGRAM.as_slice() && list.at(1) == DATAGRAM.as_slice()
+}
+
 #[test]
 fn datagrams_are_offered_in_the_order_of_their_delivery(rt: HostRuntime) -> Result<(), Fail> {
     let plan = plan_of(rt.alloc(), SECTIONS)?;
     let offered = offered_of(rt.alloc(), &plan)?;
-    assert_eq!(rt; offered.not_ip, 1);
-    assert_eq!(rt; offered.unrouted, 0);
-    if offered.lists.versions() != 1 || offered.lists.services(0) != 1 {
-        return Err(Fail::new("one service"));
-    }
-    let list = offered.lists.at(0, 0);
-    if list.len() != 2 {
-        return Err(Fail::new("two datagrams"));
-    }
-    assert_eq!(rt; list.at(0), DATAGRAM.as_slice());
-    assert_eq!(rt; list.at(1), DATAGRAM.as_slice());
+    assert!(rt; is_twice(&offered));
+    assert_eq!(rt; (offered.not_ip, offered.unrouted), (1, 0));
     Ok(())
 }
 
@@ -89,8 +92,7 @@ fn limits_of(alloc: Global, plan: &Plan) -> Result<([u32; 3], GatherFault), Fail
 #[test]
 fn as_much_is_gathered_as_a_capture_has(rt: HostRuntime) -> Result<(), Fail> {
     let plan = plan_of(rt.alloc(), SECTIONS)?;
-    let (counts, cause) = limits_of(rt.alloc(), &plan)?;
-    assert_eq!(rt; counts, [4_093, 1, 4_190_210]);
-    assert_eq!(rt; cause, GatherFault::Full);
+    let want = ([4_093, 1, 4_190_210], GatherFault::Full);
+    assert_eq!(rt; limits_of(rt.alloc(), &plan)?, want);
     Ok(())
 }

@@ -1,23 +1,15 @@
 //! Relays of small recordings: from SNDUs to datagram_sections, from MPE-FEC frames, of two services into one.
-use crate::relay_cases::{CASES, SECTIONS, SNDUS};
+use crate::plans::plan_of;
+use crate::relay_cases::{CASES, Case, SECTIONS, SNDUS};
 use capture_intake::CaptureEnd;
 use ipe_io::{MemSink, MemSource};
 use relay_command::{RelayEnd, relay};
 use send_command::send;
-use service_plan::{Plan, read_plan};
-use std::alloc::Global;
+use std::alloc::{AllocError as OutOfMemory, Global};
 use std::test::Fail;
 use test_recordings::settings::{FRAMES, ONE_AND_TWO};
 use test_recordings::units::{SECTION, SNDU};
-use test_recordings::{joined, on_pid, small_capture, start};
-
-/// The plan of these settings.
-pub fn plan_of(alloc: Global, settings: &str) -> Result<Plan, Fail> {
-    match read_plan(alloc, settings.as_bytes()) {
-        Ok(plan) => Ok(plan),
-        Err(_) => Err(Fail::new("settings")),
-    }
-}
+use test_recordings::{filled, joined, on_pid, small_capture, start};
 
 /// How a relay of a recording ends, and what it wrote. A read gives 100 bytes at most.
 fn relayed(
@@ -48,35 +40,48 @@ fn stream_of(alloc: Global, outer: &str, count: usize) -> Result<MemSink, Fail> 
     }
 }
 
+/// The recording of a case.
+fn recording_of(alloc: Global, case: &Case<'_>) -> Result<Vec<u8>, OutOfMemory> {
+    let mut recording = Vec::new(alloc);
+    for counter in case.counters {
+        recording.extend_from_slice(&start(*counter, 0, &SNDU))?;
+    }
+    recording.extend_from_slice(&filled(alloc, 0x47, case.tail)?)?;
+    Ok(recording)
+}
+
+/// Whether the relay of a case ends as it says, and has written so much of this packet.
+fn is_relayed_so(alloc: Global, case: &Case<'_>, packet: &[u8]) -> Result<bool, Fail> {
+    let recording = recording_of(alloc, case)?;
+    let (end, output) = relayed(
+        alloc,
+        SNDUS,
+        SECTIONS,
+        &recording,
+        case.input_fails,
+        case.output_fails,
+    )?;
+    Ok(
+        end == case.end
+            && Some(output.bytes()) == packet.get(..case.written)
+            && output.flushed() == case.flushed,
+    )
+}
+
 /// The packet with the datagram_section of the datagram, pointer_field 0 and bytes FF after it.
 #[test]
 fn a_datagram_comes_again_in_a_section(rt: HostRuntime) -> Result<(), Fail> {
     let packet = on_pid(start(0, 0, &SECTION), 300);
     for case in &CASES {
-        let mut recording = Vec::new(rt.alloc());
-        for counter in case.counters {
-            recording.extend_from_slice(&start(*counter, 0, &SNDU))?;
-        }
-        for _ in 0..case.tail {
-            recording.push(0x47)?;
-        }
-        let (end, output) = relayed(
-            rt.alloc(),
-            SNDUS,
-            SECTIONS,
-            &recording,
-            case.input_fails,
-            case.output_fails,
-        )?;
-        assert_eq!(rt; end, case.end, "{}", case.name);
-        assert!(rt;
-            Some(output.bytes()) == packet.get(..case.written),
-            "{}",
-            case.name
-        );
-        assert_eq!(rt; output.flushed(), case.flushed, "{}", case.name);
+        assert!(rt; is_relayed_so(rt.alloc(), case, &packet)?, "{}", case.name);
     }
     Ok(())
+}
+
+/// Whether a recording is relayed to its end, and these bytes are written.
+fn is_relayed_to(alloc: Global, inner: &str, recording: &[u8], want: &[u8]) -> Result<bool, Fail> {
+    let (end, output) = relayed(alloc, inner, SECTIONS, recording, &[], &[])?;
+    Ok(matches!(end, RelayEnd::Done(_)) && output.bytes() == want)
 }
 
 /// Two services in, one out: what is relayed of three packets is what is sent of a capture of three datagrams.
@@ -86,10 +91,8 @@ fn two_services_are_merged(rt: HostRuntime) -> Result<(), Fail> {
     let second = on_pid(start(0, 0, &SNDU), 257);
     let third = start(1, 0, &SNDU);
     let recording = joined(rt.alloc(), &[&first, &second, &third])?;
-    let (end, output) = relayed(rt.alloc(), ONE_AND_TWO, SECTIONS, &recording, &[], &[])?;
     let want = stream_of(rt.alloc(), SECTIONS, 3)?;
-    assert!(rt; matches!(end, RelayEnd::Done(_)));
-    assert!(rt; output.bytes() == want.bytes());
+    assert!(rt; is_relayed_to(rt.alloc(), ONE_AND_TWO, &recording, want.bytes())?);
     Ok(())
 }
 
@@ -104,9 +107,7 @@ const OF_FRAME: [u8; 36] = [
 #[test]
 fn a_frame_gives_its_datagram_at_the_end(rt: HostRuntime) -> Result<(), Fail> {
     let recording = on_pid(start(0, 0, &OF_FRAME), 512);
-    let (end, output) = relayed(rt.alloc(), FRAMES, SECTIONS, &recording, &[], &[])?;
-    assert!(rt; matches!(end, RelayEnd::Done(_)));
     let packet = on_pid(start(0, 0, &SECTION), 300);
-    assert!(rt; output.bytes() == packet.as_slice());
+    assert!(rt; is_relayed_to(rt.alloc(), FRAMES, &recording, &packet)?);
     Ok(())
 }

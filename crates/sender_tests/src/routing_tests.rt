@@ -1,10 +1,11 @@
 //! What services are offered of captures, counted by hand.
+use crate::plans::plan_in;
 use datagram_routing::Offered;
 use ip_datagram::DatagramList;
-use service_plan::{Plan, read_plan};
+use service_plan::Plan;
 use std::alloc::Global;
 use std::test::Fail;
-use test_recordings::settings::{FILES, LECTURE, settings_of};
+use test_recordings::settings::{FILES, LECTURE};
 use test_recordings::{Datagram, datagram_of};
 
 /// Files in SNDUs for the whole of 239.0.0.0/8.
@@ -160,18 +161,25 @@ fn has_sizes(list: &DatagramList, sizes: &[u16]) -> bool {
     true
 }
 
+/// Whether this is what becomes of the datagrams of a case.
+fn is_of(offered: &Offered, case: &Case<'_>) -> bool {
+    are_sizes(offered, case.sizes)
+        && offered.not_ip == 1
+        && offered.unrouted == case.unrouted
+        && offered.too_long == case.too_long
+}
+
+/// Whether the datagrams of a case are routed as it says.
+fn is_routed(alloc: Global, case: &Case<'_>) -> Result<bool, Fail> {
+    let plan = plan_in(alloc, case.settings)?;
+    let offered = offered_of(alloc, &plan, case.datagrams)?;
+    Ok(is_of(&offered, case))
+}
+
 #[test]
 fn the_first_service_with_a_rule_takes_what_fits_it(rt: HostRuntime) -> Result<(), Fail> {
     for case in &CASES {
-        let settings = settings_of(rt.alloc(), case.settings)?;
-        let Ok(plan) = read_plan(rt.alloc(), settings.as_bytes()) else {
-            return Err(Fail::new("settings"));
-        };
-        let offered = offered_of(rt.alloc(), &plan, case.datagrams)?;
-        assert!(rt; are_sizes(&offered, case.sizes), "{}", case.name);
-        assert_eq!(rt; offered.not_ip, 1, "{}", case.name);
-        assert_eq!(rt; offered.unrouted, case.unrouted, "{}", case.name);
-        assert_eq!(rt; offered.too_long, case.too_long, "{}", case.name);
+        assert!(rt; is_routed(rt.alloc(), case)?, "{}", case.name);
     }
     Ok(())
 }

@@ -1,9 +1,9 @@
 //! Small captures, and the streams that are sent of them; packets by hand from RFC 4326 and ISO/IEC 13818-1.
+use crate::plans::plan_of;
 use capture_intake::CaptureEnd;
-use ipe_io::{MemSink, MemSource};
+use ipe_io::{Failed, MemSink, MemSource};
 use pcap_file::CaptureFault;
 use send_command::{Tally, send, tell_fault, tell_tally};
-use service_plan::{Plan, read_plan};
 use std::alloc::Global;
 use std::test::Fail;
 use test_recordings::settings::FILES;
@@ -16,9 +16,7 @@ fn sent(
     source_fails: &[u32],
     sink_fails: &[u32],
 ) -> Result<(CaptureEnd<Tally>, MemSink), Fail> {
-    let Ok(plan) = read_plan(alloc, FILES.as_bytes()) else {
-        return Err(Fail::new("settings"));
-    };
+    let plan = plan_of(alloc, FILES)?;
     let mut input = MemSource::new(alloc, bytes, 7, source_fails)?;
     let mut output = MemSink::new(alloc, 1000, sink_fails)?;
     let end = send(alloc, &plan, &mut input, &mut output);
@@ -159,40 +157,44 @@ static CASES: [Case; 11] = [
     },
 ];
 
+/// Whether the send of a case ends as it says, and has written so much of its packet.
+fn is_sent(alloc: Global, case: &Case<'_>) -> Result<bool, Fail> {
+    let packet = packet_of_files(alloc, case.datagrams)?;
+    let capture = capture_of_files(alloc, case.datagrams)?;
+    let bytes = capture.get(..case.bytes).ok_or("no such front")?;
+    let (end, output) = sent(alloc, bytes, case.input_fails, case.output_fails)?;
+    Ok(
+        end == case.end
+            && Some(output.bytes()) == packet.get(..case.written)
+            && output.flushed() == case.flushed,
+    )
+}
+
 #[test]
 fn a_capture_is_sent_up_to_a_fault(rt: HostRuntime) -> Result<(), Fail> {
     for case in &CASES {
-        let capture = capture_of_files(rt.alloc(), case.datagrams)?;
-        let packet = packet_of_files(rt.alloc(), case.datagrams)?;
-        let bytes = capture.get(..case.bytes).ok_or("no such front")?;
-        let (end, output) = sent(rt.alloc(), bytes, case.input_fails, case.output_fails)?;
-        assert_eq!(rt; end, case.end, "{}", case.name);
-        assert!(rt;
-            Some(output.bytes()) == packet.get(..case.written),
-            "{}",
-            case.name
-        );
-        assert_eq!(rt; output.flushed(), case.flushed, "{}", case.name);
+        assert!(rt; is_sent(rt.alloc(), case)?, "{}", case.name);
     }
     Ok(())
 }
 
-/// The lines that are reported, with the least and the largest numbers.
-#[test]
-fn lines_are_reported(rt: HostRuntime) -> Result<(), Fail> {
-    let mut sink = MemSink::new(rt.alloc(), 1000, &[])?;
+/// Reports a tally and two faults, with the least and the largest numbers.
+fn report(sink: &mut MemSink) -> Result<(), Failed> {
     let tally = Tally {
         offered: 1,
         not_ip: 0,
         unrouted: 4_294_967_295,
         too_long: 20,
     };
-    assert_eq!(rt; tell_tally(&tally, &mut sink), Ok(()));
-    assert_eq!(rt; tell_fault(CaptureFault::Empty, 0, &mut sink), Ok(()));
-    assert_eq!(rt;
-        tell_fault(CaptureFault::TooLong, 4_194_305, &mut sink),
-        Ok(())
-    );
+    tell_tally(&tally, sink)?;
+    tell_fault(CaptureFault::Empty, 0, sink)?;
+    tell_fault(CaptureFault::TooLong, 4_194_305, sink)
+}
+
+#[test]
+fn lines_are_reported(rt: HostRuntime) -> Result<(), Fail> {
+    let mut sink = MemSink::new(rt.alloc(), 1000, &[])?;
+    assert_eq!(rt; report(&mut sink), Ok(()));
     let want = "ipencap: offered 1, not IP 0, unrouted 4294967295, too long 20
 ipencap: capture 1 at record 0
 ipencap: capture 9 at record 4194305

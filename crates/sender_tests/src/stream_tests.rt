@@ -1,10 +1,11 @@
 //! Small streams, packet by packet and frame by frame by hand.
+use crate::plans::plan_in;
 use ipe_io::MemSink;
 use mux_core::{MuxFault, Offered, Sent, stream};
-use service_plan::{Plan, read_plan};
+use service_plan::Plan;
 use std::alloc::Global;
 use std::test::Fail;
-use test_recordings::settings::{FILES, FRAMES, INT, LECTURE, STAMPED, settings_of};
+use test_recordings::settings::{FILES, FRAMES, INT, LECTURE, STAMPED};
 use test_recordings::{Datagram, datagram_of, is_piece};
 
 /// Cycles of 100 slots.
@@ -434,25 +435,36 @@ static CASES: [Case; 12] = [
     },
 ];
 
+/// Fails where the bytes of a sink are not those of the case.
+fn expect_bytes(case: &Case<'_>, bytes: &[u8]) -> Result<(), Fail> {
+    let name = case.name;
+    if bytes.len() != case.bytes {
+        let count = bytes.len();
+        return Err(Fail::new(format_args!("{name}: {count} bytes")));
+    }
+    for piece in case.pieces {
+        let place = piece.place;
+        if !is_piece(bytes, place, piece.bytes) {
+            return Err(Fail::new(format_args!("{name} at {place}")));
+        }
+    }
+    Ok(())
+}
+
+/// Sends the datagrams of a case.
+fn send_case(alloc: Global, case: &Case<'_>) -> Result<(), Fail> {
+    let plan = plan_in(alloc, case.settings)?;
+    let mut sink = MemSink::new(alloc, case.room, &[])?;
+    if send(alloc, &plan, case.datagrams, &mut sink)? != case.sent {
+        return Err(Fail::new(case.name));
+    }
+    expect_bytes(case, sink.bytes())
+}
+
 #[test]
 fn streams_are_these_packets(rt: HostRuntime) -> Result<(), Fail> {
     for case in &CASES {
-        let settings = settings_of(rt.alloc(), case.settings)?;
-        let Ok(plan) = read_plan(rt.alloc(), settings.as_bytes()) else {
-            return Err(Fail::new("settings"));
-        };
-        let mut sink = MemSink::new(rt.alloc(), case.room, &[])?;
-        let sent = send(rt.alloc(), &plan, case.datagrams, &mut sink)?;
-        assert_eq!(rt; sent, case.sent, "{}", case.name);
-        assert_eq!(rt; sink.bytes().len(), case.bytes, "{}", case.name);
-        for piece in case.pieces {
-            assert!(rt;
-                is_piece(sink.bytes(), piece.place, piece.bytes),
-                "{} at {}",
-                case.name,
-                piece.place
-            );
-        }
+        send_case(rt.alloc(), case)?;
     }
     Ok(())
 }
