@@ -1,7 +1,9 @@
 -- One file of a rack in memory that changes.
-use Rattle.std.proofs.Common.{◌≡◌, ℕ, ◌+◌, ◌<◌, ◌≤◌, List, [], ◌∷◌, ◌++◌, length, take, get_or, set, ap, sym, ◌∙◌, add-one, arith}
+use Rattle.std.proofs.Common.{◌≡◌, ℕ, ◌+◌, ◌^◌, ◌<◌, ◌≤◌, List, [], ◌∷◌, ◌++◌, length, take, get_or, set, ap, sym, ◌∙◌, add-one, arith}
 use Rattle.std.proofs.lemmas.List.{map-append, map-set, get_or-map, length-map, length-take, get_or-take}
 use Rattle.std.proofs.Math.Seq.{take-set-lt, take-suc-set}
+use Rattle.std.proofs.lemmas.Grind.{common_steps}
+use Rattle.std.specs.Prelude.{All}
 use Rattle.wire_spec.specs.Content.{File, no_file, empty_file}
 use Rattle.ipe_io.specs.Memory.{Stored, files_of}
 
@@ -47,3 +49,13 @@ one_added files seen used name given after is lt begun same =
     ∙ map-append (λ (s : Stored). s.file) (take used files) (after ∷ [])
     ∙ ap (λ s. s ++ after.file ∷ []) is
     ∙ ap (λ f. seen ++ f ∷ []) (begun ∙ ap empty_file same)
+
+-- where one stored file changes and keeps the room of all, all have it
+all_room : (files : List Stored) (at room : ℕ) (after : Stored) → All (λ (f : Stored). f.room ≡ room) files → after.room ≡ room
+    → All (λ (f : Stored). f.room ≡ room) (set files at after)
+all_room files at room after all one = grind (arith, common_steps, all, one)
+
+pub same_room : (files : List Stored) (used at room : ℕ) (after : Stored) → used ≤ length files → length files < 2 ^ 32 → All (λ (f : Stored). f.room ≡ room) files
+    → after.room ≡ room
+    → (used ≤ length (set files at after)) × (length (set files at after) < 2 ^ 32) × All (λ (f : Stored). f.room ≡ room) (set files at after)
+same_room files used at room after most fits all one = (grind (arith, common_steps, most), grind (arith, common_steps, fits), all_room files at room after all one)

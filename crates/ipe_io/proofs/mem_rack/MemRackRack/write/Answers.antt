@@ -1,7 +1,7 @@
 use Rattle.std.proofs.Common.{◌≡◌, ◌∙◌, ap, sym, take, length, ◌<◌, arith}
 use Rattle.wire_spec.specs.Content.{File, grown}
 use Rattle.ipe_io.specs.Memory.{fitting}
-use Rattle.ipe_io.proofs.MemFiles.{one_changed, file_there, seen_is_stored}
+use Rattle.ipe_io.proofs.MemFiles.{one_changed, file_there, seen_is_stored, same_room}
 use Rattle.ipe_io.proofs.mem_rack.MemRackRack.write.Goals as goal
 
 pub returns-clause-written : goal.returns-clause-written
@@ -29,3 +29,10 @@ pub index_mut-requires : goal.index_mut-requires
 index_mut-requires c =
     let within : c.args.at < length c.self.inside.files.items = seen_is_stored c.self.inside.files.items c.args.self.now.files c.self.inside.used c.args.at (ap (λ s. s.files) c.self.view_is) c.requires in
     omega arith
+
+pub invariant_of-self-2 : goal.invariant_of-self-2
+invariant_of-self-2 c =
+    let there = c.index_mut.result.now in
+    let within : c.args.at < length c.self.inside.files.items = seen_is_stored c.self.inside.files.items c.args.self.now.files c.self.inside.used c.args.at (ap (λ s. s.files) c.self.view_is) c.requires in
+    same_room c.self.inside.files.items c.self.inside.used c.args.at c.self.inside.room c.append.new.self c.self.invariant.0 c.self.invariant.1 c.self.invariant.2
+    (c.append.ensures.room ∙ ap (λ s. s.room) c.index_mut.ensures.value ∙ c.self.invariant.2 c.args.at there within)
