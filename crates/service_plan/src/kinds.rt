@@ -177,7 +177,7 @@ fn window(table: &Table, sliced: bool) -> Result<Option<(u32, u32)>, PlanFault>
 }
 
 /// Reads a service with frames.
-#[tactic(auto, using(settings_keys::proofs::KeyLemmas::first_here, settings_keys::proofs::KeyLemmas::first_later, crate::proofs::KeyLemmas::keys_here, crate::proofs::KeyLemmas::keys_later, crate::proofs::ServiceLemmas::mode_later, crate::proofs::ServiceLemmas::sliced_said))]
+#[tactic(auto, using(settings_keys::proofs::KeyLemmas::first_here, settings_keys::proofs::KeyLemmas::first_later, crate::proofs::ServiceLemmas::mode_later, crate::proofs::ServiceLemmas::sliced_said))]
 fn fec(alloc: Global, place: u8, table: &Table) -> Result<ServiceDraft, PlanError>
     requires word { kind_text (table_view table.now) ≡ codes "fec" }
     requires kind { key_fault kind_key (table_view table.now) ≡ None }
