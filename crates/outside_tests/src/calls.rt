@@ -1,7 +1,29 @@
-//! Calls that a table names, one a line: the call, `|`, what it must answer.
+//! Cases as text, one a line: what is given, or a call, `|`, what must come of it.
 use ipe_io::{LoadFault, Shelf, Sink, put_all};
-use std::alloc::Global;
+use std::alloc::{AllocError as OutOfMemory, Global};
+use std::process::Abort;
 use std::test::Fail;
+
+/// Asserts that a text is what must come of a case.
+pub(crate) fn assert_text(rt: &impl Abort, text: String, want: &str, case: &str) {
+    assert_eq!(rt; text.as_str(), want, "of {case}");
+}
+
+/// Asserts that `answer` of what each line gives, which may have bars itself, is what must come of it.
+pub(crate) fn assert_cases(
+    rt: &impl Abort,
+    alloc: Global,
+    answer: fn(Global, &str) -> Result<String, Fail>,
+    lines: &str,
+) -> Result<(), Fail>
+    requires { (alloc : _) (given : _) → pre answer alloc given }
+{
+    for line in lines.lines() {
+        let (given, want) = line.rsplit_once('|').ok_or("no bar")?;
+        assert_text(rt, answer(alloc, given)?, want, given);
+    }
+    Ok(())
+}
 
 /// An object whose calls a table names.
 pub(crate) trait Calls {
@@ -9,20 +31,18 @@ pub(crate) trait Calls {
     fn answer(&mut self, alloc: Global, call: &str) -> Result<String, Fail>;
 }
 
-/// The first line whose call answers otherwise, as it would have to be; an empty text if none does.
-pub(crate) fn difference<C: Calls>(
+/// Asserts that an object answers the call of each line as it must.
+pub(crate) fn assert_calls<C: Calls>(
+    rt: &impl Abort,
     alloc: Global,
     object: &mut C,
     lines: &str,
-) -> Result<String, Fail> {
+) -> Result<(), Fail> {
     for line in lines.lines() {
         let (call, want) = line.split_once('|').ok_or("no bar")?;
-        let answer = object.answer(alloc, call)?;
-        if answer.as_str() != want {
-            return Ok(format!(in alloc; "{call}|{answer}")?);
-        }
+        assert_text(rt, object.answer(alloc, call)?, want, call);
     }
-    Ok(String::new(alloc))
+    Ok(())
 }
 
 /// Writes a piece once, or all of it, or flushes.
@@ -30,15 +50,14 @@ pub(crate) fn sink_answer<K: Sink>(
     alloc: Global,
     sink: &mut K,
     call: &str,
-) -> Result<String, Fail> {
+) -> Result<String, OutOfMemory> {
     let (kind, piece) = call.split_once(' ').unwrap_or((call, ""));
     let piece = piece.as_bytes();
-    let answer = match kind {
-        "write" => format!(in alloc; "{:?}", sink.write(piece))?,
-        "put" => format!(in alloc; "{:?}", put_all(sink, piece))?,
-        _ => format!(in alloc; "{:?}", sink.flush())?,
-    };
-    Ok(answer)
+    match kind {
+        "write" => format!(in alloc; "{:?}", sink.write(piece)),
+        "put" => format!(in alloc; "{:?}", put_all(sink, piece)),
+        _ => format!(in alloc; "{:?}", sink.flush()),
+    }
 }
 
 /// The text of a file that is loaded, or the fault.

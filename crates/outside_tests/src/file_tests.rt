@@ -1,5 +1,5 @@
 //! What no clause says of the real objects: what the system sees of them. The files stand in the current folder.
-use crate::calls::{Calls, difference, loaded, sink_answer};
+use crate::calls::{Calls, assert_calls, assert_text, loaded, sink_answer};
 use ipe_io::{
     AddFault, Failed, FileRack, FileShelf, Rack, Shelf, Sink, Source, StdSink, StdSource, fill,
     put_all, put_file,
@@ -7,6 +7,7 @@ use ipe_io::{
 use std::alloc::{AllocError as OutOfMemory, Global};
 use std::fs::File;
 use std::io::Write;
+use std::process::Abort;
 use std::test::Fail;
 use std::{fs, io};
 
@@ -108,8 +109,9 @@ fn runs_that_rewrite(rt: HostRuntime) -> Result<u32, Fail> {
 /// are held back.
 #[test]
 fn a_rack_writes_files(rt: HostRuntime) -> Result<(), Fail> {
-    assert_eq!(rt; held_back(rt)?.as_str(), "true [] Ok(()) [123] Failed");
-    assert_eq!(rt; dropped(rt)?.as_str(), "true [567]");
+    let want = "true [] Ok(()) [123] Failed";
+    assert_text(&rt, held_back(rt)?, want, "a flush");
+    assert_text(&rt, dropped(rt)?, "true [567]", "a drop");
     assert_eq!(rt; runs_that_rewrite(rt)?, 3);
     fs::remove_file(&rt, "ipe_io_a")?;
     fs::remove_file(&rt, "ipe_io_b")?;
@@ -144,7 +146,7 @@ impl<K: Sink + Drop, S: Shelf + Drop> Calls for Written<K, S> {
     fn answer(&mut self, alloc: Global, call: &str) -> Result<String, Fail> {
         match call {
             "load" => loaded(alloc, &mut self.shelf, "ipe_io_c"),
-            _ => sink_answer(alloc, &mut self.sink, call),
+            _ => Ok(sink_answer(alloc, &mut self.sink, call)?),
         }
     }
 }
@@ -162,26 +164,26 @@ load|
 flush|Ok(())
 load|987";
 
-/// What differs in the calls of the first sink.
-fn byte_by_byte_difference(rt: HostRuntime) -> Result<String, Fail> {
+/// Makes the calls of the first sink.
+fn write_byte_by_byte(test: &impl Abort, rt: HostRuntime) -> Result<(), Fail> {
     let file = fs::create(&rt, "ipe_io_c")?;
     let sink = StdSink::new(ByteByByte { file });
     let shelf = FileShelf::new(rt);
-    difference(rt.alloc(), &mut Written { sink, shelf }, BYTE_BY_BYTE)
+    assert_calls(test, rt.alloc(), &mut Written { sink, shelf }, BYTE_BY_BYTE)
 }
 
-/// What differs in the calls of the second sink.
-fn buffered_difference(rt: HostRuntime) -> Result<String, Fail> {
+/// Makes the calls of the second sink.
+fn write_buffered(test: &impl Abort, rt: HostRuntime) -> Result<(), Fail> {
     let sink = StdSink::buffered(rt.alloc(), fs::create(&rt, "ipe_io_c")?)?;
     let shelf = FileShelf::new(rt);
-    difference(rt.alloc(), &mut Written { sink, shelf }, BUFFERED)
+    assert_calls(test, rt.alloc(), &mut Written { sink, shelf }, BUFFERED)
 }
 
 /// A sink reports what its writer took, and no more. One that holds nothing back writes at once, the other at the flush.
 #[test]
 fn a_sink_writes_a_file(rt: HostRuntime) -> Result<(), Fail> {
-    assert_eq!(rt; byte_by_byte_difference(rt)?.as_str(), "");
-    assert_eq!(rt; buffered_difference(rt)?.as_str(), "");
+    write_byte_by_byte(&rt, rt)?;
+    write_buffered(&rt, rt)?;
     fs::remove_file(&rt, "ipe_io_c")?;
     Ok(())
 }
@@ -254,11 +256,8 @@ fn longest(rt: HostRuntime) -> Result<String, Fail> {
 /// moved, and those after it are lent: all but 16 of 5,577, and 101 bytes are left, of which the last is the 8.
 #[test]
 fn the_longest_file_is_read_as_it_was_written(rt: HostRuntime) -> Result<(), Fail> {
-    let text = longest(rt)?;
-    assert_eq!(rt;
-        text.as_str(),
-        "Ok(()) true Ok(()) Some(TooLong), 5577 5561 101 Some(56)"
-    );
+    let want = "Ok(()) true Ok(()) Some(TooLong), 5577 5561 101 Some(56)";
+    assert_text(&rt, longest(rt)?, want, "the longest file");
     fs::remove_file(&rt, "ipe_io_d")?;
     Ok(())
 }

@@ -1,8 +1,9 @@
 //! What no clause says of the objects in memory: that the calls succeed with ample memory.
-use crate::calls::{Calls, difference, loaded, sink_answer};
+use crate::calls::{Calls, assert_calls, loaded, sink_answer};
 use ipe_io::{MemRack, MemShelf, MemSink, MemSource, Rack, Source, fill, put_file};
 use std::alloc::Global;
 use std::fmt::Write;
+use std::process::Abort;
 use std::test::Fail;
 
 /// A source, and what its bytes are read into.
@@ -24,13 +25,13 @@ impl Calls for Reading {
     }
 }
 
-/// What differs in calls of a source of seven bytes in chunks of three, of whose reads one fails.
-fn source_difference(alloc: Global, fails: u32, lines: &str) -> Result<String, Fail> {
+/// Makes calls of a source of seven bytes in chunks of three, of whose reads one fails.
+fn read_source(rt: &impl Abort, alloc: Global, fails: u32, lines: &str) -> Result<(), Fail> {
     let mut reading = Reading {
         source: MemSource::new(alloc, b"abcdefg", 3, &[fails])?,
         into: *b".....",
     };
-    difference(alloc, &mut reading, lines)
+    assert_calls(rt, alloc, &mut reading, lines)
 }
 
 /// The second read fails.
@@ -48,9 +49,8 @@ fill|Err(Failed) fgcde 1";
 /// A read gives at most the chunk, a listed call fails and takes nothing, and `fill` goes on up to the end.
 #[test]
 fn a_source_in_memory_gives_chunks(rt: HostRuntime) -> Result<(), Fail> {
-    assert_eq!(rt; source_difference(rt.alloc(), 1, READS)?.as_str(), "");
-    assert_eq!(rt; source_difference(rt.alloc(), 4, FILLS)?.as_str(), "");
-    Ok(())
+    read_source(&rt, rt.alloc(), 1, READS)?;
+    read_source(&rt, rt.alloc(), 4, FILLS)
 }
 
 /// The answer, the bytes held, how many of them are flushed, and the faults.
@@ -63,10 +63,16 @@ impl Calls for MemSink {
     }
 }
 
-/// What differs in calls of a sink with this room, of whose calls one fails.
-fn sink_difference(alloc: Global, room: usize, fails: u32, lines: &str) -> Result<String, Fail> {
+/// Makes calls of a sink with this room, of whose calls one fails.
+fn write_sink(
+    rt: &impl Abort,
+    alloc: Global,
+    room: usize,
+    fails: u32,
+    lines: &str,
+) -> Result<(), Fail> {
     let mut sink = MemSink::new(alloc, room, &[fails])?;
-    difference(alloc, &mut sink, lines)
+    assert_calls(rt, alloc, &mut sink, lines)
 }
 
 /// There is room for five bytes, and the third call fails.
@@ -85,9 +91,8 @@ put cd|Err(Failed) abc 0 1";
 /// every other.
 #[test]
 fn a_sink_in_memory_takes_what_fits(rt: HostRuntime) -> Result<(), Fail> {
-    assert_eq!(rt; sink_difference(rt.alloc(), 5, 2, WRITES)?.as_str(), "");
-    assert_eq!(rt; sink_difference(rt.alloc(), 3, 99, PUTS)?.as_str(), "");
-    Ok(())
+    write_sink(&rt, rt.alloc(), 5, 2, WRITES)?;
+    write_sink(&rt, rt.alloc(), 3, 99, PUTS)
 }
 
 /// What a rack answers to a call of the file at a place, or the name, the bytes and how many of them are flushed.
@@ -140,17 +145,11 @@ flush 0|Ok(()) 2 4
 file 0|a xy 2 2 4
 file 1|b uvw 0 2 4";
 
-/// What differs in the calls of that rack.
-fn rack_difference(alloc: Global) -> Result<String, Fail> {
-    let mut rack = MemRack::new(alloc, 2, 3, &[3, 7])?;
-    difference(alloc, &mut rack, RACK)
-}
-
 /// A rack of two files refuses the third, and one number counts its calls of all kinds.
 #[test]
 fn a_rack_in_memory_has_two_files(rt: HostRuntime) -> Result<(), Fail> {
-    assert_eq!(rt; rack_difference(rt.alloc())?.as_str(), "");
-    Ok(())
+    let mut rack = MemRack::new(rt.alloc(), 2, 3, &[3, 7])?;
+    assert_calls(&rt, rt.alloc(), &mut rack, RACK)
 }
 
 /// What the load of a name answers, and the faults of the names a, b and c.
@@ -173,23 +172,13 @@ c|Failed 1 2 2";
 const TWO_FILES: &str = "b|3 0 0 0
 c|Failed 0 0 1";
 
-/// What differs in the loads of a shelf with one file.
-fn one_file_difference(alloc: Global) -> Result<String, Fail> {
-    let mut shelf = MemShelf::new(alloc, "a", b"12", &[1])?;
-    difference(alloc, &mut shelf, ONE_FILE)
-}
-
-/// What differs in the loads of a shelf with two files.
-fn two_files_difference(alloc: Global) -> Result<String, Fail> {
-    let mut shelf = MemShelf::new(alloc, "a", b"12", &[])?;
-    shelf.also(alloc, "b", b"3")?;
-    difference(alloc, &mut shelf, TWO_FILES)
-}
-
 /// Faults are counted by name, and those of a second file begin with those of all other names.
 #[test]
 fn a_shelf_in_memory_counts_faults_by_name(rt: HostRuntime) -> Result<(), Fail> {
-    assert_eq!(rt; one_file_difference(rt.alloc())?.as_str(), "");
-    assert_eq!(rt; two_files_difference(rt.alloc())?.as_str(), "");
-    Ok(())
+    let alloc = rt.alloc();
+    let mut shelf = MemShelf::new(alloc, "a", b"12", &[1])?;
+    assert_calls(&rt, alloc, &mut shelf, ONE_FILE)?;
+    let mut shelf = MemShelf::new(alloc, "a", b"12", &[])?;
+    shelf.also(alloc, "b", b"3")?;
+    assert_calls(&rt, alloc, &mut shelf, TWO_FILES)
 }

@@ -1,4 +1,5 @@
 //! Captures written by hand from the format's fields (draft-ietf-opsawg-pcap sections 4 and 5).
+use crate::calls::assert_cases;
 use ipe_io::{MemSource, Source};
 use pcap_file::{CaptureReader, LinkType, NextFault, datagram_of, record_head, write_head};
 use std::alloc::Global;
@@ -19,17 +20,21 @@ const ETHERNET: &str = "A1B23C4D 0002 0004 00000000 00000000 00040000 00000001
 4500001400000000401100000A000001EF010203
 000000000000";
 
+/// Lets the records of a capture stand so many times.
+fn repeat(alloc: Global, bytes: &mut Vec<u8>, times: u16) -> Result<(), Fail> {
+    let records = Vec::from_slice(alloc, bytes.get(24..).ok_or("no head")?)?;
+    for _ in 1..times {
+        bytes.extend_from_slice(&records)?;
+    }
+    Ok(())
+}
+
 /// Changes a capture: `to` keeps so many bytes of it, `times` says how often its records stand, and a number is the place of a byte
 /// that has this hexadecimal value.
 fn change(alloc: Global, bytes: &mut Vec<u8>, key: &str, value: &str) -> Result<(), Fail> {
     match key {
         "to" => bytes.truncate(value.parse::<usize>()?),
-        "times" => {
-            let records = Vec::from_slice(alloc, bytes.get(24..).ok_or("no head")?)?;
-            for _ in 1..value.parse::<u16>()? {
-                bytes.extend_from_slice(&records)?;
-            }
-        }
+        "times" => repeat(alloc, bytes, value.parse::<u16>()?)?,
         _ => {
             let byte = bytes.get_mut(key.parse::<usize>()?).ok_or("no such byte")?;
             *byte = u8::from_str_radix(value, 16)?;
@@ -38,24 +43,40 @@ fn change(alloc: Global, bytes: &mut Vec<u8>, key: &str, value: &str) -> Result<
     Ok(())
 }
 
+/// A capture, how many bytes a read gives at most, and which call fails.
+#[derive(Drop)]
+struct Given {
+    bytes: Vec<u8>,
+    by: usize,
+    fail: u32,
+}
+
+/// Takes a word of what is given.
+fn take_word(alloc: Global, given: &mut Given, word: &str) -> Result<(), Fail> {
+    let (key, value) = word.split_once('=').ok_or("no value")?;
+    match key {
+        "by" => given.by = value.parse::<usize>()?,
+        "fail" => given.fail = value.parse::<u32>()?,
+        _ => change(alloc, &mut given.bytes, key, value)?,
+    }
+    Ok(())
+}
+
 /// A source of the capture of these words: a read gives at most `by` bytes, 7 where nothing is said, and the call `fail` fails.
 fn source_of(alloc: Global, words: &str) -> Result<MemSource, Fail> {
     let (name, words) = words.split_once(' ').unwrap_or((words, "by=7"));
-    let mut bytes = bytes_of(alloc, if name == "raw" { RAW } else { ETHERNET })?;
-    let mut by: usize = 7;
-    let mut fail = u32::MAX;
+    let mut given = Given {
+        bytes: bytes_of(alloc, if name == "raw" { RAW } else { ETHERNET })?,
+        by: 7,
+        fail: u32::MAX,
+    };
     for word in words.split(' ') {
-        let (key, value) = word.split_once('=').ok_or("no value")?;
-        match key {
-            "by" => by = value.parse::<usize>()?,
-            "fail" => fail = value.parse::<u32>()?,
-            _ => change(alloc, &mut bytes, key, value)?,
-        }
+        take_word(alloc, &mut given, word)?;
     }
-    if by == 0 {
+    if given.by == 0 {
         return Err(Fail::new("reads of no byte"));
     }
-    Ok(MemSource::new(alloc, &bytes, by, &[fail])?)
+    Ok(MemSource::new(alloc, &given.bytes, given.by, &[given.fail])?)
 }
 
 /// Whether a record holds a datagram of 20 bytes.
@@ -130,12 +151,7 @@ raw to=60 times=10000 by=360024|10000 10000 Ok(())";
 /// Fields of both heads, each place at which a capture may end or a read may fail, and more than the reader holds at once.
 #[test]
 fn captures_are_read_up_to_their_first_fault(rt: HostRuntime) -> Result<(), Fail> {
-    for line in CAPTURES.lines() {
-        let (words, want) = line.split_once('|').ok_or("no bar")?;
-        let text = answers_of(rt.alloc(), words)?;
-        assert_eq!(rt; text.as_str(), want, "{words}");
-    }
-    Ok(())
+    assert_cases(&rt, rt.alloc(), answers_of, CAPTURES)
 }
 
 /// The head of a capture, or that of a record of so many bytes.
@@ -158,9 +174,5 @@ const HEADS: &str = "capture|D4C3B2A10200040000000000000000000000040065000000
 /// Each byte of a head is written.
 #[test]
 fn heads_are_written(rt: HostRuntime) -> Result<(), Fail> {
-    for line in HEADS.lines() {
-        let (what, want) = line.split_once('|').ok_or("no bar")?;
-        assert_eq!(rt; head_of(rt.alloc(), what)?.as_str(), want, "{what}");
-    }
-    Ok(())
+    assert_cases(&rt, rt.alloc(), head_of, HEADS)
 }

@@ -2,6 +2,7 @@
 ghost use Rattle.std.specs.Prelude.{◌≡◌, [], IfOk};
 ghost use Rattle.recording_reader.specs.Any.{HasReadIn, count_in};
 
+use crate::calls::assert_cases;
 use ipe_io::{Failed, MemSource, Recording, Source, StdSource};
 use recording_reader::{FramePieces, PacketPieces, RecordingPieces, Taker, read_to_end};
 use std::alloc::{AllocError as OutOfMemory, Global};
@@ -114,30 +115,25 @@ M2ts|3FFFFFFF 00*187 01 80000009 00*187 02 EE*4|1073741823:188:01 1073741833:188
 7274|00*7273 01 00*7273 02 EE|0:7274:01 0:7274:02 left 1
 ";
 
-/// A source that lends, after the first piece, and one that never does.
+/// What is noted of a form and a recording whose source lends, after the first piece.
+fn noted_lent(alloc: Global, given: &str) -> Result<String, Fail> {
+    let (form, text) = given.split_once('|').ok_or("no form")?;
+    let bytes = bytes_of(alloc, text)?;
+    let mut source = StdSource::new(alloc, bytes.as_slice())?;
+    noted(alloc, form, &mut source, 9)
+}
+
+/// What is noted of a form and a recording whose source never lends.
+fn noted_moved(alloc: Global, given: &str) -> Result<String, Fail> {
+    let (form, text) = given.split_once('|').ok_or("no form")?;
+    let mut source = MemSource::new(alloc, &bytes_of(alloc, text)?, 100, &[])?;
+    noted(alloc, form, &mut source, 9)
+}
+
 #[test]
 fn each_piece_is_given_once_and_in_order(rt: HostRuntime) -> Result<(), Fail> {
-    let alloc = rt.alloc();
-    for line in RECORDINGS.lines() {
-        let (form, rest) = line.split_once('|').ok_or("no form")?;
-        let (text, want) = rest.split_once('|').ok_or("no bytes")?;
-        let bytes = bytes_of(alloc, text)?;
-        let lent = noted(
-            alloc,
-            form,
-            &mut StdSource::new(alloc, bytes.as_slice())?,
-            9,
-        )?;
-        assert_eq!(rt; lent.as_str(), want, "{form} {text}");
-        let read = noted(
-            alloc,
-            form,
-            &mut MemSource::new(alloc, &bytes, 100, &[])?,
-            9,
-        )?;
-        assert_eq!(rt; read.as_str(), want, "{form} {text}");
-    }
-    Ok(())
+    assert_cases(&rt, rt.alloc(), noted_lent, RECORDINGS)?;
+    assert_cases(&rt, rt.alloc(), noted_moved, RECORDINGS)
 }
 
 /// Two pieces of 188 bytes and one byte more, in reads of 100 bytes.
@@ -167,7 +163,9 @@ Plain|9|2|0:188:01 0:188:02 left 1
 ";
 
 /// What is noted of those two pieces.
-fn stopped(alloc: Global, form: &str, call: &str, last: &str) -> Result<String, Fail> {
+fn stopped(alloc: Global, given: &str) -> Result<String, Fail> {
+    let (form, rest) = given.split_once('|').ok_or("no form")?;
+    let (call, last) = rest.split_once('|').ok_or("no record")?;
     let call = call.parse::<u32>()?;
     let last = last.parse::<u32>()?;
     let mut source = MemSource::new(alloc, &bytes_of(alloc, TWO)?, 100, &[call])?;
@@ -177,12 +175,5 @@ fn stopped(alloc: Global, form: &str, call: &str, last: &str) -> Result<String, 
 /// Each call of the source fails in turn, and the taker stops at each record in turn: all pieces before that are given.
 #[test]
 fn a_reading_stops_where_the_source_or_the_taker_does(rt: HostRuntime) -> Result<(), Fail> {
-    for line in STOPS.lines() {
-        let (form, rest) = line.split_once('|').ok_or("no form")?;
-        let (call, rest) = rest.split_once('|').ok_or("no call")?;
-        let (last, want) = rest.split_once('|').ok_or("no record")?;
-        let text = stopped(rt.alloc(), form, call, last)?;
-        assert_eq!(rt; text.as_str(), want, "{line}");
-    }
-    Ok(())
+    assert_cases(&rt, rt.alloc(), stopped, STOPS)
 }

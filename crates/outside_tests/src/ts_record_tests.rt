@@ -1,4 +1,5 @@
 //! Recordings in memory, by hand.
+use crate::calls::assert_cases;
 use ipe_io::{MemSource, Recording, Source, StdSource};
 use std::alloc::{AllocError as OutOfMemory, Global};
 use std::fmt::Write;
@@ -54,21 +55,34 @@ fn put_answers<S: Source>(
     Ok(())
 }
 
-/// The answers of a reader over these bytes, then those over a source that has a record more, the tail, and the source's faults.
-fn answers_of(alloc: Global, form: &str, bytes: &str) -> Result<String, Fail> {
+/// The source of a recording, of which one call fails.
+fn source_of(alloc: Global, bytes: &str, call: &str) -> Result<MemSource, Fail> {
+    let call = call.parse::<u32>()?;
+    Ok(MemSource::new(alloc, &bytes_of(alloc, bytes)?, 100, &[call])?)
+}
+
+/// Appends the answers of a reader over a source, then those over one that has a record more, the tail, and the faults of the first.
+fn put_all_answers(
+    alloc: Global,
+    text: &mut String,
+    reader: &mut RecordReader,
+    source: &mut MemSource,
+) -> Result<(), Fail> {
+    put_answers(text, reader, source)?;
+    let mut more = MemSource::new(alloc, &[0; 196], 100, &[])?;
+    put_answers(text, reader, &mut more)?;
+    write!(text, "{} {}", reader.tail(), source.faults())?;
+    Ok(())
+}
+
+/// All that a reader answers over the recording of a form, after `!` the call that fails, and bytes.
+fn answers_of(alloc: Global, given: &str) -> Result<String, Fail> {
+    let (form, bytes) = given.split_once('|').ok_or("no form")?;
     let (form, call) = form.split_once(" !").unwrap_or((form, "99"));
     let mut reader = RecordReader::new(form_of(form)?);
-    let mut source = MemSource::new(
-        alloc,
-        &bytes_of(alloc, bytes)?,
-        100,
-        &[call.parse::<u32>()?],
-    )?;
+    let mut source = source_of(alloc, bytes, call)?;
     let mut text = String::new(alloc);
-    put_answers(&mut text, &mut reader, &mut source)?;
-    let mut more = MemSource::new(alloc, &[0; 196], 100, &[])?;
-    put_answers(&mut text, &mut reader, &mut more)?;
-    write!(&mut text, "{} {}", reader.tail(), source.faults())?;
+    put_all_answers(alloc, &mut text, &mut reader, &mut source)?;
     Ok(text)
 }
 
@@ -94,13 +108,7 @@ M2ts !5|00000001 00*188 00000002 01*188|1 Failed closed 0 1";
 /// Records have moments, the rest is the tail, and a failed read closes the reader.
 #[test]
 fn recordings_are_read_so(rt: HostRuntime) -> Result<(), Fail> {
-    for line in RECORDINGS.lines() {
-        let (form, rest) = line.split_once('|').ok_or("no form")?;
-        let (bytes, want) = rest.split_once('|').ok_or("no bytes")?;
-        let text = answers_of(rt.alloc(), form, bytes)?;
-        assert_eq!(rt; text.as_str(), want, "{form} {bytes}");
-    }
-    Ok(())
+    assert_cases(&rt, rt.alloc(), answers_of, RECORDINGS)
 }
 
 /// 1,024 records of m2ts, the packet of each filled with its number, and five bytes after them.
