@@ -9,6 +9,7 @@ use int_table::{IntEntry, IntFault, IntReadFault, IntTable, version_of};
 use ip_datagram::IpAddress;
 use section_codec::write;
 use std::alloc::{AllocError, Global};
+use std::process::Abort;
 use std::test::Fail;
 
 /// Two streams of one transport stream, 239.1.0.0/16, sliced, and 239.2.0.0/16 (EN 301 192 clause 8.4): the head, a target loop,
@@ -214,6 +215,14 @@ fn holds(alloc: Global, section: &[u8], line: &str) -> Result<bool, Fail> {
     Ok(rest.starts_with(&bytes))
 }
 
+/// Asserts that a section has the bytes of each line at their place.
+fn assert_places(rt: &impl Abort, alloc: Global, section: &[u8], lines: &str) -> Result<(), Fail> {
+    for line in lines.lines() {
+        assert!(rt; holds(alloc, section, line)?, "{line}");
+    }
+    Ok(())
+}
+
 /// A table of 52 rules of IPv4 and one of IPv6 for one stream.
 fn many_rules(alloc: Global) -> Result<IntTable, Fail> {
     let mut rules = same_rules(alloc, 1, 52)?;
@@ -234,9 +243,7 @@ fn rules_share_descriptors(rt: HostRuntime) -> Result<(), Fail> {
     let section = written(alloc, &table)?;
     // 18 of the section, 4 of two loops, 257 + 7 + 19 of three descriptors, 11 of the location
     assert_eq!(rt; section.len(), 316);
-    for line in PLACES.lines() {
-        assert!(rt; holds(alloc, &section, line)?, "{line}");
-    }
+    assert_places(&rt, alloc, &section, PLACES)?;
     push(&mut table, same_rules(alloc, 1, 900)?, 2, None)?;
     assert_eq!(rt; table.write(&mut [0; 4096]), Err(IntFault::TooLarge));
     Ok(())

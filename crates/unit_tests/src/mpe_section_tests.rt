@@ -1,7 +1,7 @@
 //! Sections by the syntax of EN 301 192, written by hand; an independent program gave their CRC_32.
 use crate::cases::{assert_cases, assert_digits};
 use hex::FromHex;
-use mpe_section::{Fec, RealTime, read_fec, read_mpe, write_fec, write_mpe, write_mpe_around};
+use mpe_section::{Fec, Mpe, RealTime, read_fec, read_mpe, write_fec, write_mpe, write_mpe_around};
 use section_codec::SectionRef;
 use std::alloc::Global;
 use std::test::Fail;
@@ -23,24 +23,27 @@ fn text_of(alloc: Global, real_time: &RealTime) -> Result<String, Fail> {
     Ok(format!(in alloc; "{delta} {table_boundary} {frame_boundary} {address}")?)
 }
 
-/// A table_id and a body -> MAC address, real-time parameters and datagram, or the fault.
+/// MAC address, real-time parameters and datagram.
+fn text_of_mpe(alloc: Global, mpe: &Mpe<'_>) -> Result<String, Fail> {
+    let mac = hex::encode(alloc, mpe.mac)?;
+    let real_time = text_of(alloc, &mpe.real_time)?;
+    let datagram = hex::encode(alloc, mpe.datagram)?;
+    Ok(format!(in alloc; "{mac} {real_time} {datagram}")?)
+}
+
+/// A table_id and a body -> the fields of an MPE section, or the fault.
 fn mpe_of(alloc: Global, given: &str) -> Result<String, Fail> {
     let (table_id, body) = given.split_once(' ').ok_or("no body")?;
     let [table_id] = <[u8; 1]>::from_hex(table_id)?;
     let body = bytes_of(alloc, body)?;
-    let text = match read_mpe(&SectionRef {
+    let section = SectionRef {
         table_id,
         body: &body,
-    }) {
-        Ok(mpe) => {
-            let mac = hex::encode(alloc, mpe.mac)?;
-            let real_time = text_of(alloc, &mpe.real_time)?;
-            let datagram = hex::encode(alloc, mpe.datagram)?;
-            format!(in alloc; "{mac} {real_time} {datagram}")?
-        }
-        Err(fault) => format!(in alloc; "{fault:?}")?,
     };
-    Ok(text)
+    match read_mpe(&section) {
+        Ok(mpe) => text_of_mpe(alloc, &mpe),
+        Err(fault) => Ok(format!(in alloc; "{fault:?}")?),
+    }
 }
 
 /// EN 301 192 clause 7: each field at its place, the first four bytes of the address as parameters too, and bytes after the
@@ -103,8 +106,17 @@ fn a_datagram_of_4080_bytes_fills_a_section(rt: HostRuntime) -> Result<(), Fail>
     Ok(())
 }
 
-/// Rows, a table_id and a body -> padding columns, section_number, last_section_number, real-time parameters and column, or the
-/// fault.
+/// Padding columns, section_number, last_section_number, real-time parameters and column.
+fn text_of_fec(alloc: Global, fec: &Fec<'_>) -> Result<String, Fail> {
+    let real_time = text_of(alloc, &fec.real_time)?;
+    let column = hex::encode(alloc, fec.column)?;
+    Ok(format!(in alloc;
+        "{} {} {} {real_time} {column}",
+        fec.padding, fec.number, fec.last
+    )?)
+}
+
+/// Rows, a table_id and a body -> the fields of an MPE-FEC section, or the fault.
 fn fec_of(alloc: Global, given: &str) -> Result<String, Fail> {
     let (rows, section) = given.split_once(' ').ok_or("no section")?;
     let (table_id, body) = section.split_once(' ').ok_or("no body")?;
@@ -114,18 +126,10 @@ fn fec_of(alloc: Global, given: &str) -> Result<String, Fail> {
         table_id,
         body: &body,
     };
-    let text = match read_fec(&section, rows.parse::<u16>()?) {
-        Ok(fec) => {
-            let real_time = text_of(alloc, &fec.real_time)?;
-            let column = hex::encode(alloc, fec.column)?;
-            format!(in alloc;
-                "{} {} {} {real_time} {column}",
-                fec.padding, fec.number, fec.last
-            )?
-        }
-        Err(fault) => format!(in alloc; "{fault:?}")?,
-    };
-    Ok(text)
+    match read_fec(&section, rows.parse::<u16>()?) {
+        Ok(fec) => text_of_fec(alloc, &fec),
+        Err(fault) => Ok(format!(in alloc; "{fault:?}")?),
+    }
 }
 
 /// EN 301 192 clause 9: two rows, and each fault by one byte that is changed or missing.

@@ -1,6 +1,7 @@
 //! A finder, record by record: what it prints after each.
 use psi_tables::Finder;
 use std::alloc::Global;
+use std::process::Abort;
 use std::test::Fail;
 use test_recordings::{bytes_of, on_pid, start};
 use ts_record::Record;
@@ -54,14 +55,25 @@ fn take<'l>(alloc: Global, finder: &mut Finder, line: &'l str) -> Result<(&'l st
     Ok((case, pids))
 }
 
+/// Gives a finder the packet of a line, and asserts what it prints then.
+fn assert_step(
+    rt: &impl Abort,
+    alloc: Global,
+    finder: &mut Finder,
+    line: &str,
+) -> Result<(), Fail> {
+    let (case, pids) = take(alloc, finder, line)?;
+    let text = finder.text(alloc)?;
+    assert_eq!(rt; text.as_slice(), text_of(alloc, pids)?.as_bytes(), "{case}");
+    Ok(())
+}
+
 #[test]
 fn the_first_tables_count_and_pmts_after_the_pat(rt: HostRuntime) -> Result<(), Fail> {
     let alloc = rt.alloc();
     let mut finder = Finder::new(alloc, 600)?;
     for line in STEPS.lines() {
-        let (case, pids) = take(alloc, &mut finder, line)?;
-        let text = finder.text(alloc)?;
-        assert_eq!(rt; text.as_slice(), text_of(alloc, pids)?.as_bytes(), "{case}");
+        assert_step(&rt, alloc, &mut finder, line)?;
     }
     Ok(())
 }
