@@ -4,6 +4,8 @@ ghost use Rattle.std.specs.Prelude.{◌≡◌, IfOk, vec_len};
 use gse_reassembly::Slot;
 use ipe_io::{Failed, Outlet};
 use std::alloc::{AllocError as OutOfMemory, Global};
+use std::test::Fail;
+use test_recordings::bytes_of;
 
 /// An Ethernet frame of 60 bytes to all stations: two addresses, EtherType 0x88B5 (IEEE Std 802, for local experiments), zeros.
 pub(crate) const FRAME: [u8; 60] = [
@@ -13,7 +15,16 @@ pub(crate) const FRAME: [u8; 60] = [
 ];
 
 /// The same as text.
-pub(crate) const FRAME_TEXT: &str = "FF*6 020000000001 88B5 00*46";
+const FRAME_TEXT: &str = "FF*6 020000000001 88B5 00*46";
+
+/// Appends the bytes of a text, in which FRAME is this frame.
+pub(crate) fn put_text(alloc: Global, into: &mut Vec<u8>, text: &str) -> Result<(), Fail> {
+    for piece in text.split(' ') {
+        let piece = if piece == "FRAME" { FRAME_TEXT } else { piece };
+        into.extend_from_slice(&bytes_of(alloc, piece)?)?;
+    }
+    Ok(())
+}
 
 /// An outlet of one service that takes so many frames and refuses all after them.
 #[derive(Drop)]

@@ -1,11 +1,12 @@
 //! Recordings by hand, read to their end by a bridge: a packet with an SNDU, and a baseband frame of 2,000 bytes with a GSE packet.
 use crate::bridge_outlet::{Noted, empty_slots, text_of, zeros};
+use crate::lines::expect;
 use bridge_frame::Bridge;
 use ipe_io::{Recording, StdSource};
 use recording_reader::{FramePieces, PacketPieces, read_to_end};
 use std::alloc::Global;
 use std::test::Fail;
-use test_recordings::bytes_of;
+use test_recordings::{bytes_of, joined};
 
 /// The SNDU of a frame of 60 bytes on PID 256: pointer 0, then the SNDU and 115 bytes FF.
 const PACKET: &str = "47410010 00 80400001 FF*6 020000000001 88B5 00*46 BC0730EC FF*115";
@@ -46,19 +47,18 @@ fn of_frames(alloc: Global, bytes: &[u8]) -> Result<String, Fail> {
     Ok(text)
 }
 
+/// The bytes of a text twice, and a tail.
+fn twice(alloc: Global, text: &str, tail: &[u8]) -> Result<Vec<u8>, Fail> {
+    let piece = bytes_of(alloc, text)?;
+    Ok(joined(alloc, &[&piece, &piece, tail])?)
+}
+
 /// A packet, a duplicate of it and a tail; a baseband frame twice, which is no duplicate there.
 #[test]
 fn recordings_give_their_frames(rt: HostRuntime) -> Result<(), Fail> {
     let alloc = rt.alloc();
-    let mut packets = bytes_of(alloc, PACKET)?;
-    let packet = bytes_of(alloc, PACKET)?;
-    packets.extend_from_slice(&packet)?;
-    packets.extend_from_slice(&[0xEE; 5])?;
-    assert_eq!(rt; of_packets(alloc, &packets)?.as_str(), "1 0 0 left 5");
-    let mut frames = bytes_of(alloc, BASEBAND)?;
-    let frame = bytes_of(alloc, BASEBAND)?;
-    frames.extend_from_slice(&frame)?;
-    frames.extend_from_slice(&[0xEE; 9])?;
-    assert_eq!(rt; of_frames(alloc, &frames)?.as_str(), "2 0 0 left 9");
-    Ok(())
+    let packets = twice(alloc, PACKET, &[0xEE; 5])?;
+    expect("packets", &of_packets(alloc, &packets)?, "1 0 0 left 5")?;
+    let frames = twice(alloc, BASEBAND, &[0xEE; 9])?;
+    expect("frames", &of_frames(alloc, &frames)?, "2 0 0 left 9")
 }

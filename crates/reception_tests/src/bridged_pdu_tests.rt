@@ -2,11 +2,10 @@
 ghost use Rattle.std.specs.Prelude.{◌≡◌, ◌+◌, ◌^◌, ◌<◌, true, false, is_some};
 ghost use Rattle.bridge_frame.specs.Bridge.{is_of_sndus};
 
-use crate::bridge_outlet::{FRAME_TEXT, Noted, empty_slots, text_of, zeros};
+use crate::bridge_outlet::{Noted, empty_slots, put_text, text_of, zeros};
 use bridge_frame::Bridge;
 use std::alloc::Global;
 use std::test::Fail;
-use test_recordings::bytes_of;
 
 /// The longest baseband frame of these tests.
 const LONGEST: usize = 300;
@@ -26,10 +25,7 @@ const CASES: [&str; 7] = [
 /// The bytes of a frame with zeros behind them.
 fn frame_of(alloc: Global, text: &str) -> Result<Vec<u8>, Fail> {
     let mut bytes = Vec::new(alloc);
-    for piece in text.split(' ') {
-        let piece = if piece == "FRAME" { FRAME_TEXT } else { piece };
-        bytes.extend_from_slice(&bytes_of(alloc, piece)?)?;
-    }
+    put_text(alloc, &mut bytes, text)?;
     for _ in bytes.len()..LONGEST {
         bytes.push(0)?;
     }
@@ -60,8 +56,8 @@ fn take(
     Ok(bridge.step_frame(&frame, outlet).is_ok())
 }
 
-/// Whether a case gives what it must.
-fn is_as_wanted(alloc: Global, bridge: &mut Bridge<Global>, case: &str) -> Result<bool, Fail>
+/// Fails where a case gives something else than it must.
+fn receive(alloc: Global, bridge: &mut Bridge<Global>, case: &str) -> Result<(), Fail>
     requires pdus { is_of_sndus bridge.old.units ≡ false }
     requires selected { is_some bridge.old.id ≡ true }
     requires few { bridge.old.taken < 2 ^ 8 }
@@ -69,7 +65,7 @@ fn is_as_wanted(alloc: Global, bridge: &mut Bridge<Global>, case: &str) -> Resul
     ensures selected { is_some bridge.new.id ≡ true }
     ensures few { bridge.new.taken < bridge.old.taken + 4 }
 {
-    let (_name, case) = case.split_once('|').ok_or("no name")?;
+    let (name, case) = case.split_once('|').ok_or("no name")?;
     let (texts, want) = case.split_once('|').ok_or("no frames")?;
     let mut outlet = Noted::new(9);
     let mut texts = texts.split(';');
@@ -77,23 +73,33 @@ fn is_as_wanted(alloc: Global, bridge: &mut Bridge<Global>, case: &str) -> Resul
     let second = take(alloc, bridge, texts.next(), &mut outlet)?;
     let third = take(alloc, bridge, texts.next(), &mut outlet)?;
     let text = text_of(alloc, &outlet)?;
-    Ok(first && second && third && text.as_str() == want)
+    if !(first && second && third) || text.as_str() != want {
+        return Err(Fail::new(name));
+    }
+    Ok(())
 }
 
-/// One bridge takes all of them, one after another.
+/// One bridge takes all cases, one after another.
+fn receive_all(alloc: Global, bridge: &mut Bridge<Global>) -> Result<(), Fail>
+    requires pdus { is_of_sndus bridge.old.units ≡ false }
+    requires selected { is_some bridge.old.id ≡ true }
+    requires few { bridge.old.taken < 2 ^ 7 }
+{
+    let [one, label, isi, crc, reuse, three, two] = CASES;
+    receive(alloc, bridge, one)?;
+    receive(alloc, bridge, label)?;
+    receive(alloc, bridge, isi)?;
+    receive(alloc, bridge, crc)?;
+    receive(alloc, bridge, reuse)?;
+    receive(alloc, bridge, three)?;
+    receive(alloc, bridge, two)
+}
+
 #[test]
 fn frames_in_pdus_are_delivered(rt: HostRuntime) -> Result<(), Fail> {
     let alloc = rt.alloc();
     let buffer = zeros(alloc, 16_778_240)?;
     let mut bridge = Bridge::over(buffer, empty_slots(alloc, 256)?, false);
     bridge.select(7);
-    let [one, label, isi, crc, reuse, three, two] = CASES;
-    assert!(rt; is_as_wanted(alloc, &mut bridge, one)?, "{one}");
-    assert!(rt; is_as_wanted(alloc, &mut bridge, label)?, "{label}");
-    assert!(rt; is_as_wanted(alloc, &mut bridge, isi)?, "{isi}");
-    assert!(rt; is_as_wanted(alloc, &mut bridge, crc)?, "{crc}");
-    assert!(rt; is_as_wanted(alloc, &mut bridge, reuse)?, "{reuse}");
-    assert!(rt; is_as_wanted(alloc, &mut bridge, three)?, "{three}");
-    assert!(rt; is_as_wanted(alloc, &mut bridge, two)?, "{two}");
-    Ok(())
+    receive_all(alloc, &mut bridge)
 }

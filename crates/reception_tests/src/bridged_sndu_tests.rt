@@ -1,9 +1,9 @@
 //! SNDUs by hand (RFC 4326 sections 4 and 5), each whole in one packet; their CRC-32 was worked out apart from this program.
-use crate::bridge_outlet::{FRAME_TEXT, Noted, empty_slots, text_of, zeros};
+use crate::bridge_outlet::{Noted, empty_slots, put_text, text_of, zeros};
+use crate::lines::expect;
 use bridge_frame::Bridge;
 use std::alloc::Global;
 use std::test::Fail;
-use test_recordings::bytes_of;
 use ts_record::Record;
 
 /// What it is; the packet's header and pointer; the SNDU, where FRAME is an Ethernet frame of 60 bytes; and what a bridge of PID 256 delivers of
@@ -22,15 +22,9 @@ without a moment|4741001000|80400001 FRAME BC0730EC|0 0 0";
 /// The packet with these bytes, and bytes FF behind them.
 fn packet_of(alloc: Global, head: &str, unit: &str) -> Result<[u8; 188], Fail> {
     let mut packet = [0xFF; 188];
-    let mut bytes = bytes_of(alloc, head)?;
-    match unit.split_once("FRAME") {
-        Some((front, behind)) => {
-            bytes.extend_from_slice(&bytes_of(alloc, front)?)?;
-            bytes.extend_from_slice(&bytes_of(alloc, FRAME_TEXT)?)?;
-            bytes.extend_from_slice(&bytes_of(alloc, behind)?)?;
-        }
-        None => bytes.extend_from_slice(&bytes_of(alloc, unit)?)?,
-    }
+    let mut bytes = Vec::new(alloc);
+    put_text(alloc, &mut bytes, head)?;
+    put_text(alloc, &mut bytes, unit)?;
     for place in 0..188usize {
         if place < bytes.len() {
             packet[place] = bytes[place];
@@ -66,19 +60,19 @@ fn outcome_of(
     Ok(text_of(alloc, &outlet)?)
 }
 
+/// Receives the SNDU of a line.
+fn receive(alloc: Global, line: &str) -> Result<(), Fail> {
+    let (name, line) = line.split_once('|').ok_or("no name")?;
+    let (head, line) = line.split_once('|').ok_or("no header")?;
+    let (unit, due) = line.split_once('|').ok_or("no SNDU")?;
+    let bytes = packet_of(alloc, head, unit)?;
+    expect(name, &outcome_of(alloc, bytes, moment_of(name), 9)?, due)
+}
+
 #[test]
 fn frames_in_sndus_are_delivered(rt: HostRuntime) -> Result<(), Fail> {
-    let alloc = rt.alloc();
     for line in SNDUS.lines() {
-        let (name, line) = line.split_once('|').ok_or("no name")?;
-        let (head, line) = line.split_once('|').ok_or("no header")?;
-        let (unit, want) = line.split_once('|').ok_or("no SNDU")?;
-        let bytes = packet_of(alloc, head, unit)?;
-        assert_eq!(rt;
-            outcome_of(alloc, bytes, moment_of(name), 9)?.as_str(),
-            want,
-            "{name}"
-        );
+        receive(rt.alloc(), line)?;
     }
     Ok(())
 }
@@ -88,6 +82,5 @@ fn frames_in_sndus_are_delivered(rt: HostRuntime) -> Result<(), Fail> {
 fn a_refused_frame_is_received_all_the_same(rt: HostRuntime) -> Result<(), Fail> {
     let alloc = rt.alloc();
     let bytes = packet_of(alloc, "4741001000", "80400001 FRAME BC0730EC")?;
-    assert_eq!(rt; outcome_of(alloc, bytes, Some(0), 0)?.as_str(), "0 0 1");
-    Ok(())
+    expect("refused", &outcome_of(alloc, bytes, Some(0), 0)?, "0 0 1")
 }

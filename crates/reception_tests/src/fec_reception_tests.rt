@@ -2,6 +2,7 @@
 ghost use Rattle.std.specs.Prelude.{◌≡◌, ◌<◌, ◌^◌, IfOk, vec_len};
 
 use crate::counting_outlet::{DATAGRAM, Noted, SERVICE, put_deliveries, put_rise};
+use crate::lines::expect;
 use fec_frame::Table;
 use fec_reception::FecReception;
 use ipe_io::Failed;
@@ -81,6 +82,15 @@ fn zeros(alloc: Global, count: usize) -> Result<Vec<u8>, OutOfMemory>
     vec![in alloc; 0u8; count]
 }
 
+/// A table of 256 rows.
+fn new_table(alloc: Global) -> Result<Table<Global>, OutOfMemory>
+    ensures rows { IfOk result (λ table. table.rows ≡ 256) }
+{
+    let bytes = zeros(alloc, 65_280)?;
+    let marks = zeros(alloc, 65_280)?;
+    Ok(Table::over(256, bytes, marks, zeros(alloc, 16_640)?))
+}
+
 /// A reception of frames of 256 rows, its outlet, and the number of packets taken.
 #[derive(Drop)]
 struct Receiver {
@@ -91,9 +101,7 @@ struct Receiver {
 
 /// A receiver whose outlet takes so many datagrams. With time slicing moments count ten units to ten milliseconds.
 fn new_receiver(alloc: Global, sliced: bool, room: u64) -> Result<Receiver, OutOfMemory> {
-    let bytes = zeros(alloc, 65_280)?;
-    let marks = zeros(alloc, 65_280)?;
-    let table = Table::over(256, bytes, marks, zeros(alloc, 16_640)?);
+    let table = new_table(alloc)?;
     Ok(Receiver {
         reception: FecReception::over(zeros(alloc, 4096)?, table, sliced, 10),
         outlet: Noted::new(room),
@@ -203,13 +211,16 @@ fn outcome_of(alloc: Global, receiver: &mut Receiver, words: &str) -> Result<Str
 }
 
 /// Fails where a line has another outcome than the one after its bar.
-fn check_all(alloc: Global, receiver: &mut Receiver, lines: &str) -> Result<(), Fail> {
+fn check(alloc: Global, receiver: &mut Receiver, line: &str) -> Result<(), Fail> {
+    let (words, due) = line.split_once('|').ok_or("no bar")?;
+    expect(line, &outcome_of(alloc, receiver, words)?, due)
+}
+
+/// Fails where a line has another outcome with a new receiver, whose outlet takes so many datagrams.
+fn check_all(alloc: Global, sliced: bool, room: u64, lines: &str) -> Result<(), Fail> {
+    let mut receiver = new_receiver(alloc, sliced, room)?;
     for line in lines.lines() {
-        let (words, want) = line.split_once('|').ok_or("no bar")?;
-        let outcome = outcome_of(alloc, receiver, words)?;
-        if outcome.as_str() != want {
-            return Err(Fail::new(format_args!("{line} and not {outcome}")));
-        }
+        check(alloc, &mut receiver, line)?;
     }
     Ok(())
 }
@@ -243,8 +254,7 @@ data 1 0 - 0|heard 1 units 1 frames 1 datagrams 3 delivered 1 refused 1 failed 1
 
 #[test]
 fn each_frame_is_closed_once(rt: HostRuntime) -> Result<(), Fail> {
-    let alloc = rt.alloc();
-    check_all(alloc, &mut new_receiver(alloc, false, 1000)?, UNSLICED)?;
-    check_all(alloc, &mut new_receiver(alloc, true, 1000)?, SLICED)?;
-    check_all(alloc, &mut new_receiver(alloc, false, 1)?, REFUSED)
+    check_all(rt.alloc(), false, 1000, UNSLICED)?;
+    check_all(rt.alloc(), true, 1000, SLICED)?;
+    check_all(rt.alloc(), false, 1, REFUSED)
 }

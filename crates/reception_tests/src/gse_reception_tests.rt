@@ -2,6 +2,7 @@
 ghost use Rattle.std.specs.Prelude.{◌≡◌, vec_len, length, IfOk};
 
 use crate::counting_outlet::{Noted, SERVICE, put_deliveries, put_rise};
+use crate::lines::expect;
 use addr_rules::MacList;
 use bb_frame::Frame;
 use gse_reassembly::Slot;
@@ -119,12 +120,9 @@ fn outcome_of(alloc: Global, receiver: &mut Receiver, field: &[u8]) -> Result<St
 
 /// Fails where a data field has another outcome than the one after the bar.
 fn check(alloc: Global, receiver: &mut Receiver, line: &str) -> Result<(), Fail> {
-    let (field, want) = line.split_once('|').ok_or("no bar")?;
+    let (field, due) = line.split_once('|').ok_or("no bar")?;
     let outcome = outcome_of(alloc, receiver, &field_of(alloc, field)?)?;
-    if outcome.as_str() != want {
-        return Err(Fail::new(format_args!("{line} and not {outcome}")));
-    }
-    Ok(())
+    expect(line, &outcome, due)
 }
 
 /// Packets that are none, and PDUs that give nothing: what is wrong, the data field, and what it counts as.
@@ -151,19 +149,19 @@ an EtherType of another protocol: E0 04 08 06 01 02|units 1 unread 1
 a mandatory extension header: E0 04 00 02 08 00|units 1 unread 1
 an optional one that is cut: E0 04 02 00 01 02|units 1 unread 1";
 
-/// After each the next good packet arrives.
+/// Fails where a line has another outcome, or the next good packet does not arrive.
+fn check_hostile(alloc: Global, receiver: &mut Receiver, line: &str) -> Result<(), Fail> {
+    let (_, case) = line.split_once(": ").ok_or("no name")?;
+    check(alloc, receiver, case)?;
+    check(alloc, receiver, "WHOLE|units 1 datagrams 1 delivered 1")
+}
+
 #[test]
 fn each_hostile_packet_is_counted(rt: HostRuntime) -> Result<(), Fail> {
     let alloc = rt.alloc();
     let mut receiver = new_receiver(alloc, 1000)?;
     for line in HOSTILE.lines() {
-        let (_, case) = line.split_once(": ").ok_or("no name")?;
-        check(alloc, &mut receiver, case)?;
-        check(
-            alloc,
-            &mut receiver,
-            "WHOLE|units 1 datagrams 1 delivered 1",
-        )?;
+        check_hostile(alloc, &mut receiver, line)?;
     }
     assert_eq!(rt; receiver.reception.counts().heard, 44);
     Ok(())
@@ -215,18 +213,22 @@ fn take_empty(receiver: &mut Receiver, frames: u32) {
     }
 }
 
+/// Takes a first and a middle fragment, and so many frames after them the last one.
+fn check_end(alloc: Global, receiver: &mut Receiver, frames: u32, last: &str) -> Result<(), Fail> {
+    check(alloc, receiver, "FIRST NEXT|")?;
+    take_empty(receiver, frames);
+    check(alloc, receiver, last)
+}
+
 /// A last fragment 256 received frames after the first is joined, one 257 frames after it counts as delimited.
 #[test]
 fn long_chains_are_passed_over_and_late_ends_are_delimited(rt: HostRuntime) -> Result<(), Fail> {
     let alloc = rt.alloc();
     let mut receiver = new_receiver(alloc, 1000)?;
     check(alloc, &mut receiver, &long_chain(alloc)?)?;
-    check(alloc, &mut receiver, "FIRST NEXT|")?;
-    take_empty(&mut receiver, 255);
-    check(alloc, &mut receiver, "LAST|units 1 datagrams 1 delivered 1")?;
-    check(alloc, &mut receiver, "FIRST NEXT|")?;
-    take_empty(&mut receiver, 256);
-    check(alloc, &mut receiver, "LAST|delimited 1")
+    let last = "LAST|units 1 datagrams 1 delivered 1";
+    check_end(alloc, &mut receiver, 255, last)?;
+    check_end(alloc, &mut receiver, 256, "LAST|delimited 1")
 }
 
 /// After a datagram that was refused none is offered; the frame is counted whole.

@@ -22,3 +22,5 @@ mod counting_outlet;
 mod fec_reception_tests;
 #[cfg(test)]
 mod gse_reception_tests;
+#[cfg(test)]
+mod lines;
