@@ -1,12 +1,12 @@
 //! 800 bytes, and then 40 that are urgent, in frames of 300: what goes out, and what comes of it.
 //!
 //! The urgent datagram is received first. An independent program worked out each CRC-8 and the CRC-32.
-use crate::made::{Made, put_frame};
-use crate::report::{Due, Form, Numbers, ServiceDue, comes, goes_out};
-use std::alloc::{AllocError as OutOfMemory, Global};
+use crate::harmed::{Sent, all_come};
+use crate::made::put_frame;
+use crate::report::{Form, goes_out};
+use std::alloc::Global;
 use std::test::Fail;
-use test_recordings::Harm::{self, Drop};
-use test_recordings::{Datagram, damaged, datagram_of};
+use test_recordings::{Datagram, datagram_of};
 
 const BOTH: &str = "carrier = \"bb\"
 frame_bytes = 300
@@ -85,24 +85,6 @@ const SHORTER: [u8; 10] = [0x50, 1, 0, 0, 9, 0, 0, 0, 0, 0x76];
 
 const SHORTEST: [u8; 10] = [0x50, 1, 0, 0, 0, 0x40, 0, 0, 0, 0x9C];
 
-/// Appends a frame whose data field has these pieces.
-fn put_pieces(
-    alloc: Global,
-    into: &mut Vec<u8>,
-    head: [u8; 10],
-    packet: &[u8],
-    bytes: &[u8],
-    next: &[u8],
-    more: &[u8],
-) -> Result<(), OutOfMemory> {
-    let made = Made {
-        head,
-        pieces: &[packet, bytes, next, more],
-        times: 1,
-    };
-    put_frame(alloc, into, &made, FORM.size)
-}
-
 /// The four frames.
 fn stream(alloc: Global) -> Result<Vec<u8>, Fail> {
     let file = datagram_of(alloc, &FILE)?;
@@ -112,78 +94,27 @@ fn stream(alloc: Global) -> Result<Vec<u8>, Fail> {
     let third = file.get(514..799).ok_or("no such bytes")?;
     let last = file.get(799..).ok_or("no such bytes")?;
     let mut frames = Vec::new(alloc);
-    put_pieces(alloc, &mut frames, FULL, &START, first, &[], &[])?;
-    put_pieces(alloc, &mut frames, FULL, &COMPLETE, &call, &MIDDLE, second)?;
-    put_pieces(alloc, &mut frames, SHORTER, &NEXT, third, &[], &[])?;
-    put_pieces(alloc, &mut frames, SHORTEST, &LAST, last, &SUM, &[])?;
+    put_frame(&mut frames, &[&FULL, &START, first], FORM.size)?;
+    put_frame(
+        &mut frames,
+        &[&FULL, &COMPLETE, &call, &MIDDLE, second],
+        FORM.size,
+    )?;
+    put_frame(&mut frames, &[&SHORTER, &NEXT, third], FORM.size)?;
+    put_frame(&mut frames, &[&SHORTEST, &LAST, last, &SUM], FORM.size)?;
     Ok(frames)
 }
 
-/// What happens to the frames, and what comes of it.
-#[derive(Clone, Copy)]
-struct Loss<'a> {
-    name: &'a str,
-    harms: &'a [Harm],
-    records: u64,
-    numbers: Numbers,
-    given: &'a [Datagram],
-}
+/// What happens to the frames, in the columns of `harmed`: the datagram of 800 bytes is 0, the urgent one is 1.
+const LOSSES: &str = "nothing||records=4|heard=4 units=2|1 0
+the frame with the urgent datagram|1-1|records=3|heard=3 bad_length=1|
+the first frame|0-0|records=3|heard=3 units=1 delimited=3|1";
 
-static LOSSES: [Loss; 3] = [
-    Loss {
-        name: "nothing",
-        harms: &[],
-        records: 4,
-        numbers: Numbers {
-            heard: 4,
-            units: 2,
-            ..Numbers::NONE
-        },
-        given: &[CALL, FILE],
-    },
-    Loss {
-        name: "the frame with the urgent datagram",
-        harms: &[Drop { first: 1, last: 1 }],
-        records: 3,
-        numbers: Numbers {
-            heard: 3,
-            bad_length: 1,
-            ..Numbers::NONE
-        },
-        given: &[],
-    },
-    Loss {
-        name: "the first frame",
-        harms: &[Drop { first: 0, last: 0 }],
-        records: 3,
-        numbers: Numbers {
-            heard: 3,
-            units: 1,
-            delimited: 3,
-            ..Numbers::NONE
-        },
-        given: &[CALL],
-    },
-];
-
-/// Compares what comes of what is left of the frames.
-fn comes_of(alloc: Global, stream: &[u8], loss: &Loss<'_>) -> Result<(), Fail> {
-    let service = ServiceDue {
-        name: "both",
-        file: "both.pcap",
-        numbers: loss.numbers,
-        given: loss.given,
-    };
-    let due = Due {
-        records: loss.records,
-        tail_bytes: 0,
-        unreadable: 0,
-        other: 0,
-        services: &[service],
-    };
-    let recording = damaged(alloc, stream, FORM.size, loss.harms)?;
-    comes(alloc, loss.name, &FORM, &recording, &due)
-}
+const SENT: [Sent; 1] = [Sent {
+    name: "both",
+    file: "both.pcap",
+    datagrams: &[FILE, CALL],
+}];
 
 /// The urgent datagram is whole in the second frame, before the rest of the other.
 #[test]
@@ -200,15 +131,7 @@ fn stream_of_two(alloc: Global) -> Result<Vec<u8>, Fail> {
     let first = both.get(..FORM.size).ok_or("no frame")?;
     let others = both.get(FORM.size..).ok_or("no frame")?;
     let mut frames = Vec::from_slice(alloc, first)?;
-    put_pieces(
-        alloc,
-        &mut frames,
-        PAGE_HEAD,
-        &PAGE_COMPLETE,
-        &page,
-        &[],
-        &[],
-    )?;
+    put_frame(&mut frames, &[&PAGE_HEAD, &PAGE_COMPLETE, &page], FORM.size)?;
     frames.extend_from_slice(others)?;
     Ok(frames)
 }
@@ -226,8 +149,5 @@ fn a_service_with_classes_goes_out_beside_another(rt: HostRuntime) -> Result<(),
 #[test]
 fn both_classes_are_received_over_losses(rt: HostRuntime) -> Result<(), Fail> {
     let stream = stream(rt.alloc())?;
-    for loss in &LOSSES {
-        comes_of(rt.alloc(), &stream, loss)?;
-    }
-    Ok(())
+    all_come(rt.alloc(), &FORM, &stream, &SENT, LOSSES)
 }

@@ -12,6 +12,8 @@ mod fragments;
 #[cfg(test)]
 mod frames;
 #[cfg(test)]
+mod harmed;
+#[cfg(test)]
 mod long;
 #[cfg(test)]
 mod losses;

@@ -1,12 +1,12 @@
 //! A datagram of 800 bytes in three frames of 300, and one of 400 in two: what goes out, and what comes of it.
 //!
 //! Each is sent by itself, so that both have Frag ID 0.
-use crate::made::{Made, put_frame};
-use crate::report::{Due, Form, Numbers, ServiceDue, comes, goes_out};
-use std::alloc::{AllocError as OutOfMemory, Global};
+use crate::harmed::{Sent, all_come};
+use crate::made::put_frame;
+use crate::report::{Form, goes_out};
+use std::alloc::Global;
 use std::test::Fail;
-use test_recordings::Harm::{self, Drop, Flip};
-use test_recordings::{Datagram, damaged, datagram_of};
+use test_recordings::{Datagram, bytes_of, datagram_of};
 
 const IN_300: Form = Form {
     settings: &[
@@ -32,225 +32,81 @@ const SHORT: Datagram = Datagram {
     to: [239, 2, 0, 2],
 };
 
-/// A frame: its header with DFL, what stands in its data field before the datagram's bytes, how many these are, and what stands after them.
-#[derive(Clone, Copy)]
-struct Part<'a> {
-    head: [u8; 10],
-    before: &'a [u8],
-    bytes: usize,
-    after: &'a [u8],
-}
-
-/// DFL 2320, 2320 and 1944 bits. The first has S, Frag ID, Total Length 808, Protocol Type and the label, the last E and the CRC-32.
-static OF_LONG: [Part; 3] = [
-    Part {
-        head: [0x50, 1, 0, 0, 9, 0x10, 0, 0, 0, 0xD8],
-        before: &[0x81, 0x20, 0, 3, 0x28, 8, 0, 1, 0, 0x5E, 2, 0, 1],
-        bytes: 277,
-        after: &[],
-    },
-    Part {
-        head: [0x50, 1, 0, 0, 9, 0x10, 0, 0, 0, 0xD8],
-        before: &[0x31, 0x20, 0],
-        bytes: 287,
-        after: &[],
-    },
-    Part {
-        head: [0x50, 1, 0, 0, 7, 0x98, 0, 0, 0, 0x51],
-        before: &[0x70, 0xF1, 0],
-        bytes: 236,
-        after: &[0xE2, 0xF0, 0xE6, 0x23],
-    },
-];
+/// A frame a line, in three columns with `|` between: its header with DFL and what stands before the datagram's bytes, how many these are,
+/// and what stands after them. DFL 2320, 2320 and 1944 bits. The first has S, Frag ID, Total Length 808, Protocol Type and the label, the
+/// last E and the CRC-32.
+const OF_LONG: &str = "5001 0000 0910 00 0000 D8 812000 0328 0800 01005E020001|277|
+5001 0000 0910 00 0000 D8 312000|287|
+5001 0000 0798 00 0000 51 70F100|236|E2F0E623";
 
 /// DFL 2320 and 1040 bits, and Total Length 408.
-static OF_SHORT: [Part; 2] = [
-    Part {
-        head: [0x50, 1, 0, 0, 9, 0x10, 0, 0, 0, 0xD8],
-        before: &[0x81, 0x20, 0, 1, 0x98, 8, 0, 1, 0, 0x5E, 2, 0, 2],
-        bytes: 277,
-        after: &[],
-    },
-    Part {
-        head: [0x50, 1, 0, 0, 4, 0x10, 0, 0, 0, 0x52],
-        before: &[0x70, 0x80, 0],
-        bytes: 123,
-        after: &[0x2E, 0xA0, 0xCD, 0x7A],
-    },
-];
+const OF_SHORT: &str = "5001 0000 0910 00 0000 D8 812000 0198 0800 01005E020002|277|
+5001 0000 0410 00 0000 52 708000|123|2EA0CD7A";
 
-/// Appends a frame with these bytes of a datagram.
-fn put_part(
+/// Appends the frame of a line, which takes the next bytes of a datagram, and returns the rest of these.
+fn put_line<'a>(
     alloc: Global,
     into: &mut Vec<u8>,
-    part: &Part<'_>,
-    bytes: &[u8],
-) -> Result<(), OutOfMemory> {
-    let made = Made {
-        head: part.head,
-        pieces: &[part.before, bytes, part.after],
-        times: 1,
-    };
-    put_frame(alloc, into, &made, IN_300.size)
+    line: &str,
+    rest: &'a [u8],
+) -> Result<&'a [u8], Fail> {
+    let (before, columns) = line.split_once('|').ok_or("no size")?;
+    let (size, after) = columns.split_once('|').ok_or("no end")?;
+    let (bytes, rest) = rest.split_at_checked(size.parse()?).ok_or("no such bytes")?;
+    let before = bytes_of(alloc, before)?;
+    let after = bytes_of(alloc, after)?;
+    put_frame(into, &[&before, bytes, &after], IN_300.size)?;
+    Ok(rest)
 }
 
-/// The frames of a datagram: each takes the next bytes of it.
-fn frames_of(alloc: Global, datagram: &Datagram, parts: &[Part<'_>]) -> Result<Vec<u8>, Fail> {
+/// The frames of a datagram.
+fn frames_of(alloc: Global, datagram: &Datagram, lines: &str) -> Result<Vec<u8>, Fail> {
     let datagram = datagram_of(alloc, datagram)?;
     let mut frames = Vec::new(alloc);
-    let mut from = 0usize;
-    for part in parts {
-        let to = from.saturating_add(part.bytes);
-        let bytes = datagram.get(from..to).ok_or("no such bytes")?;
-        put_part(alloc, &mut frames, part, bytes)?;
-        from = to;
+    let mut rest: &[u8] = &datagram;
+    for line in lines.lines() {
+        rest = put_line(alloc, &mut frames, line, rest)?;
     }
     Ok(frames)
 }
 
-/// What happens to the five frames, and what comes of it.
-#[derive(Clone, Copy)]
-struct Loss<'a> {
-    name: &'a str,
-    harms: &'a [Harm],
-    records: u64,
-    unreadable: u64,
-    numbers: Numbers,
-    given: &'a [Datagram],
-}
+/// What happens to the five frames, in the columns of `harmed`: the datagram of 800 bytes is 0, that of 400 is 1.
+const LOSSES: &str = "nothing||records=5|heard=5 units=2|0 1
+the middle of the first|1-1|records=4|heard=4 units=1 bad_length=1|1
+the header of that frame|1@4^8|records=5 unreadable=1|heard=4 units=1 bad_length=1|1
+the first|0-0|records=4|heard=4 units=1 delimited=2|1
+the end of the first|2-2|records=4|heard=4 units=1|1
+the end of the first, and the beginning of the second|2-3|records=3|heard=3 bad_length=1|";
 
-static LOSSES: [Loss; 6] = [
-    Loss {
-        name: "nothing",
-        harms: &[],
-        records: 5,
-        unreadable: 0,
-        numbers: Numbers {
-            heard: 5,
-            units: 2,
-            ..Numbers::NONE
-        },
-        given: &[LONG, SHORT],
-    },
-    Loss {
-        name: "the middle of the first",
-        harms: &[Drop { first: 1, last: 1 }],
-        records: 4,
-        unreadable: 0,
-        numbers: Numbers {
-            heard: 4,
-            units: 1,
-            bad_length: 1,
-            ..Numbers::NONE
-        },
-        given: &[SHORT],
-    },
-    Loss {
-        name: "the header of that frame",
-        harms: &[Flip {
-            record: 1,
-            place: 4,
-            bits: 8,
-        }],
-        records: 5,
-        unreadable: 1,
-        numbers: Numbers {
-            heard: 4,
-            units: 1,
-            bad_length: 1,
-            ..Numbers::NONE
-        },
-        given: &[SHORT],
-    },
-    Loss {
-        name: "the first",
-        harms: &[Drop { first: 0, last: 0 }],
-        records: 4,
-        unreadable: 0,
-        numbers: Numbers {
-            heard: 4,
-            units: 1,
-            delimited: 2,
-            ..Numbers::NONE
-        },
-        given: &[SHORT],
-    },
-    Loss {
-        name: "the end of the first",
-        harms: &[Drop { first: 2, last: 2 }],
-        records: 4,
-        unreadable: 0,
-        numbers: Numbers {
-            heard: 4,
-            units: 1,
-            ..Numbers::NONE
-        },
-        given: &[SHORT],
-    },
-    Loss {
-        name: "the end of the first, and the beginning of the second",
-        harms: &[Drop { first: 2, last: 3 }],
-        records: 3,
-        unreadable: 0,
-        numbers: Numbers {
-            heard: 3,
-            bad_length: 1,
-            ..Numbers::NONE
-        },
-        given: &[],
-    },
-];
+const SENT: [Sent; 1] = [Sent {
+    name: "files",
+    file: "files.pcap",
+    datagrams: &[LONG, SHORT],
+}];
 
 /// The frames of both datagrams.
 fn stream(alloc: Global) -> Result<Vec<u8>, Fail> {
-    let mut frames = frames_of(alloc, &LONG, &OF_LONG)?;
-    frames.extend_from_slice(&frames_of(alloc, &SHORT, &OF_SHORT)?)?;
+    let mut frames = frames_of(alloc, &LONG, OF_LONG)?;
+    frames.extend_from_slice(&frames_of(alloc, &SHORT, OF_SHORT)?)?;
     Ok(frames)
 }
 
 /// Compares what goes out of a datagram with its frames.
-fn goes_out_in(
-    alloc: Global,
-    case: &str,
-    datagram: &Datagram,
-    parts: &[Part<'_>],
-) -> Result<(), Fail> {
-    let frames = frames_of(alloc, datagram, parts)?;
+fn goes_out_in(alloc: Global, case: &str, datagram: &Datagram, lines: &str) -> Result<(), Fail> {
+    let frames = frames_of(alloc, datagram, lines)?;
     goes_out(alloc, case, &IN_300, &[*datagram], 0, &frames)
-}
-
-/// Compares what comes of what is left of the frames of both.
-fn comes_of(alloc: Global, stream: &[u8], loss: &Loss<'_>) -> Result<(), Fail> {
-    let service = ServiceDue {
-        name: "files",
-        file: "files.pcap",
-        numbers: loss.numbers,
-        given: loss.given,
-    };
-    let due = Due {
-        records: loss.records,
-        tail_bytes: 0,
-        unreadable: loss.unreadable,
-        other: 0,
-        services: &[service],
-    };
-    let recording = damaged(alloc, stream, IN_300.size, loss.harms)?;
-    comes(alloc, loss.name, &IN_300, &recording, &due)
 }
 
 /// The frames are those of the packing rules, byte for byte.
 #[test]
 fn long_datagrams_go_over_several_frames(rt: HostRuntime) -> Result<(), Fail> {
-    goes_out_in(rt.alloc(), "800 bytes", &LONG, &OF_LONG)?;
-    goes_out_in(rt.alloc(), "400 bytes", &SHORT, &OF_SHORT)
+    goes_out_in(rt.alloc(), "800 bytes", &LONG, OF_LONG)?;
+    goes_out_in(rt.alloc(), "400 bytes", &SHORT, OF_SHORT)
 }
 
 /// A datagram is given where all its frames came, also after another one of its Frag ID.
 #[test]
 fn long_datagrams_are_received_over_losses(rt: HostRuntime) -> Result<(), Fail> {
     let stream = stream(rt.alloc())?;
-    for loss in &LOSSES {
-        comes_of(rt.alloc(), &stream, loss)?;
-    }
-    Ok(())
+    all_come(rt.alloc(), &IN_300, &stream, &SENT, LOSSES)
 }

@@ -1,31 +1,17 @@
-//! Baseband frames by hand, and what comes of them.
+//! Baseband frames by hand, and what comes of them: tables of text, a case a line, in three columns with `|` between.
+//!
+//! 1. The name of the case.
+//! 2. Its frames, with `;` between; `255 of` before a frame says how often it comes. A frame is words: hexadecimal digits, with `*` and how
+//!    often they come, or names of `piece_of`. `0158/90` is a header (EN 302 307-1 clause 5.1.6) with DFL 0x158, CRC-8 0x90, MATYPE 0x5000,
+//!    and 0 in all other fields; a header in full is MATYPE, UPL, DFL, SYNC, SYNCD and CRC-8. Zeros fill the frame up.
+//! 3. What comes of them: `unreadable` frames are refused, `other` are of other input streams, `given` says how often the service gives
+//!    the datagram, and the other words are its lines in the report. What is not named is 0.
 //!
 //! All carry the same datagram, so that it is enough to say how often it is given. An independent program worked out each CRC-8 and CRC-32.
-use crate::report::{Due, Form, Numbers, ServiceDue, comes};
+use crate::report::{Due, Form, ServiceDue, comes, number_of};
 use std::alloc::{AllocError as OutOfMemory, Global};
 use std::test::Fail;
-use test_recordings::Datagram;
-
-/// So many times a frame: its header (EN 302 307-1 clause 5.1.6), and its data field in pieces. Zeros fill it up.
-#[derive(Clone, Copy)]
-pub struct Made<'a> {
-    pub head: [u8; 10],
-    pub pieces: &'a [&'a [u8]],
-    pub times: usize,
-}
-
-/// Frames, and what comes of them: frames that are refused and those of others, the numbers of the service, and how often it gives the
-/// datagram.
-#[derive(Clone, Copy)]
-pub struct Case<'a> {
-    pub name: &'a str,
-    pub form: &'a Form<'a>,
-    pub frames: &'a [Made<'a>],
-    pub unreadable: u64,
-    pub other: u64,
-    pub numbers: Numbers,
-    pub given: usize,
-}
+use test_recordings::{Datagram, bytes_of};
 
 const SERVICE: &str = "[[service]]
 name = \"files\"
@@ -51,146 +37,132 @@ pub const IN_4200: Form = Form {
     size: 4200,
 };
 
-/// The datagram: an IPv4 header alone (RFC 791 section 3.1).
-const DATAGRAM: Datagram = Datagram {
+/// What all carry: an IPv4 header alone (RFC 791 section 3.1).
+const SENT: [Datagram; 1] = [Datagram {
     size: 20,
     to: [239, 1, 2, 3],
-};
-
-/// It comes four times at most.
-const GIVEN: [Datagram; 4] = [DATAGRAM; 4];
-
-/// The datagram in a complete packet to 01:00:5E:01:02:03.
-pub const WHOLE: [u8; 30] = [
-    0xC0, 0x1C, 8, 0, 1, 0, 0x5E, 1, 2, 3, 0x45, 0, 0, 0x14, 0, 0, 0, 0, 0x40, 0x11, 0, 0, 0x0A, 0,
-    0, 1, 0xEF, 1, 2, 3,
-];
-
-/// The same, which re-uses a label.
-pub const AGAIN: [u8; 24] = [
-    0xF0, 0x16, 8, 0, 0x45, 0, 0, 0x14, 0, 0, 0, 0, 0x40, 0x11, 0, 0, 0x0A, 0, 0, 1, 0xEF, 1, 2, 3,
-];
-
-/// The same for all receivers, without a label.
-pub const FOR_ALL: [u8; 24] = [
-    0xE0, 0x16, 8, 0, 0x45, 0, 0, 0x14, 0, 0, 0, 0, 0x40, 0x11, 0, 0, 0x0A, 0, 0, 1, 0xEF, 1, 2, 3,
-];
-
-/// The same to a label of three bytes.
-pub const FOR_THREE: [u8; 27] = [
-    0xD0, 0x19, 8, 0, 1, 2, 3, 0x45, 0, 0, 0x14, 0, 0, 0, 0, 0x40, 0x11, 0, 0, 0x0A, 0, 0, 1, 0xEF,
-    1, 2, 3,
-];
-
-/// The same to 02:00:00:00:00:01.
-pub const FOR_OTHER: [u8; 30] = [
-    0xC0, 0x1C, 8, 0, 2, 0, 0, 0, 0, 1, 0x45, 0, 0, 0x14, 0, 0, 0, 0, 0x40, 0x11, 0, 0, 0x0A, 0, 0,
-    1, 0xEF, 1, 2, 3,
-];
-
-/// Frag ID 1: Total Length 28, the label to 01:00:5E:01:02:03, and the first eight bytes of the datagram.
-pub const START: [u8; 21] = [
-    0x80, 0x13, 1, 0, 0x1C, 8, 0, 1, 0, 0x5E, 1, 2, 3, 0x45, 0, 0, 0x14, 0, 0, 0, 0,
-];
-
-/// Its next ten bytes.
-pub const MIDDLE: [u8; 13] = [0x30, 0x0B, 1, 0x40, 0x11, 0, 0, 0x0A, 0, 0, 1, 0xEF, 1];
-
-/// Its last two bytes, with the CRC-32.
-pub const END: [u8; 9] = [0x70, 7, 1, 2, 3, 0x4C, 0x36, 0x5E, 0x23];
-
-/// Its last twelve bytes, with the CRC-32.
-pub const REST: [u8; 19] = [
-    0x70, 0x11, 1, 0x40, 0x11, 0, 0, 0x0A, 0, 0, 1, 0xEF, 1, 2, 3, 0x4C, 0x36, 0x5E, 0x23,
-];
+}];
 
 /// What follows the frames of each case: the datagram once more.
-const GOOD: Made = Made {
-    head: [0x50, 0, 0, 0, 0, 0xF0, 0, 0, 0, 0xA3],
-    pieces: &[&WHOLE],
-    times: 1,
-};
+const GOOD: &str = "00F0/A3 WHOLE";
 
-/// The bytes of a frame.
-fn frame_of(alloc: Global, made: &Made<'_>, size: usize) -> Result<Vec<u8>, OutOfMemory> {
-    let mut frame = Vec::from_slice(alloc, &made.head)?;
-    for piece in made.pieces {
-        frame.extend_from_slice(piece)?;
+/// The digits of a piece by its name. A word that is no name is digits itself.
+fn piece_of(word: &str) -> &str {
+    match word {
+        // the datagram, its first eight bytes, and the other twelve
+        "DATAGRAM" => "450000140000000040110000 0A000001EF010203",
+        "FIRST8" => "4500001400000000",
+        "LAST12" => "401100000A000001EF010203",
+        // the datagram in a complete packet to 01:00:5E:01:02:03, to a label that it re-uses, to all, to three bytes, and to another
+        "WHOLE" => "C01C080001005E010203 450000140000000040110000 0A000001EF010203",
+        "AGAIN" => "F0160800 450000140000000040110000 0A000001EF010203",
+        "FOR_ALL" => "E0160800 450000140000000040110000 0A000001EF010203",
+        "FOR_THREE" => "D0190800010203 450000140000000040110000 0A000001EF010203",
+        "FOR_OTHER" => "C01C0800020000000001 450000140000000040110000 0A000001EF010203",
+        // Frag ID 1: Total Length 28, the label 01:00:5E:01:02:03 and eight bytes; ten bytes; the last two or twelve, with the CRC-32
+        "START" => "801301001C080001005E010203 4500001400000000",
+        "MIDDLE" => "300B01 401100000A000001EF01",
+        "END" => "700701 0203 4C365E23",
+        "REST" => "701101 401100000A000001EF010203 4C365E23",
+        _ => word,
     }
-    for _ in frame.len()..size {
-        frame.push(0)?;
+}
+
+/// Appends the digits of a word.
+fn put_word(digits: &mut String, word: &str) -> Result<(), OutOfMemory> {
+    match word.split_once('/') {
+        Some((dfl, crc)) => write!(digits, "50000000{dfl}000000{crc} "),
+        None => write!(digits, "{} ", piece_of(word)),
     }
-    Ok(frame)
+}
+
+/// Appends a frame of pieces, the first its header.
+pub fn put_frame(into: &mut Vec<u8>, pieces: &[&[u8]], size: usize) -> Result<(), OutOfMemory> {
+    let end = into.len().saturating_add(size);
+    for piece in pieces {
+        into.extend_from_slice(piece)?;
+    }
+    for _ in into.len()..end {
+        into.push(0)?;
+    }
+    Ok(())
+}
+
+/// The bytes of words.
+fn bytes_of_words(alloc: Global, words: &str) -> Result<Vec<u8>, Fail> {
+    let mut digits = String::new(alloc);
+    for word in words.split_whitespace() {
+        put_word(&mut digits, word)?;
+    }
+    bytes_of(alloc, &digits)
 }
 
 /// Appends a frame as often as it comes.
-pub fn put_frame(
-    alloc: Global,
-    into: &mut Vec<u8>,
-    made: &Made<'_>,
-    size: usize,
-) -> Result<(), OutOfMemory> {
-    let frame = frame_of(alloc, made, size)?;
-    for _ in 0..made.times {
+fn put_words(alloc: Global, into: &mut Vec<u8>, frame: &str, size: usize) -> Result<(), Fail> {
+    let (times, words) = frame.split_once(" of ").unwrap_or(("1", frame));
+    let bytes = bytes_of_words(alloc, words)?;
+    let mut frame = Vec::new(alloc);
+    put_frame(&mut frame, &[&bytes], size)?;
+    for _ in 0..times.trim().parse::<u16>()? {
         into.extend_from_slice(&frame)?;
     }
     Ok(())
 }
 
 /// The frames of a case and the good one after them.
-fn recording_of(alloc: Global, case: &Case<'_>) -> Result<Vec<u8>, OutOfMemory> {
+fn recording_of(alloc: Global, frames: &str, size: usize) -> Result<Vec<u8>, Fail> {
     let mut recording = Vec::new(alloc);
-    for made in case.frames {
-        put_frame(alloc, &mut recording, made, case.form.size)?;
+    for frame in frames.split(';') {
+        put_words(alloc, &mut recording, frame, size)?;
     }
-    put_frame(alloc, &mut recording, &GOOD, case.form.size)?;
+    put_words(alloc, &mut recording, GOOD, size)?;
     Ok(recording)
 }
 
-/// The numbers of a case, with the good frame after it.
-fn numbers_of(case: &Case<'_>) -> Numbers {
-    Numbers {
-        heard: case.numbers.heard.saturating_add(1),
-        units: case.numbers.units.saturating_add(1),
-        ..case.numbers
+/// Compares what comes of a recording with the numbers of a case and the good frame.
+fn comes_of(
+    alloc: Global,
+    name: &str,
+    form: &Form<'_>,
+    recording: &[u8],
+    numbers: &str,
+) -> Result<(), Fail> {
+    let with_good = format!(in alloc; "{numbers} heard=1 units=1")?;
+    let heard = number_of(&with_good, "heard")?;
+    let unreadable = number_of(numbers, "unreadable")?;
+    let other = number_of(numbers, "other")?;
+    let records = heard.saturating_add(unreadable).saturating_add(other);
+    let stream = format!(in alloc; "records={records} unreadable={unreadable} other={other}")?;
+    let mut given = "0".to_string(alloc)?;
+    for _ in 0..number_of(numbers, "given")? {
+        given.push_str(" 0")?;
     }
-}
-
-/// Compares what comes of a recording of a case and the good frame.
-fn comes_of(alloc: Global, case: &Case<'_>, recording: &[u8]) -> Result<(), Fail> {
-    let numbers = numbers_of(case);
-    let given = GIVEN
-        .get(..case.given.saturating_add(1))
-        .ok_or("too often")?;
     let service = ServiceDue {
         name: "files",
         file: "files.pcap",
-        numbers,
-        given,
+        numbers: &with_good,
+        sent: &SENT,
+        given: &given,
     };
     let due = Due {
-        records: numbers
-            .heard
-            .saturating_add(case.unreadable)
-            .saturating_add(case.other),
-        tail_bytes: 0,
-        unreadable: case.unreadable,
-        other: case.other,
+        stream: &stream,
         services: &[service],
     };
-    comes(alloc, case.name, case.form, recording, &due)
+    comes(alloc, name, form, recording, &due)
 }
 
-/// Receives the frames of a case and the good one after them.
-fn comes_with_the_next(alloc: Global, case: &Case<'_>) -> Result<(), Fail> {
-    let recording = recording_of(alloc, case)?;
-    comes_of(alloc, case, &recording)
+/// Receives the frames of a line and the good one after them.
+fn line_comes(alloc: Global, form: &Form<'_>, line: &str) -> Result<(), Fail> {
+    let (name, rest) = line.split_once('|').ok_or("no frames")?;
+    let (frames, numbers) = rest.split_once('|').ok_or("no numbers")?;
+    let recording = recording_of(alloc, frames, form.size)?;
+    comes_of(alloc, name, form, &recording, numbers)
 }
 
-/// Of each case comes what must come, and the datagram after it.
-pub fn all_come(alloc: Global, cases: &[Case<'_>]) -> Result<(), Fail> {
-    for case in cases {
-        comes_with_the_next(alloc, case)?;
+/// Of each case of a table comes what must come, and the datagram after it.
+pub fn all_come(alloc: Global, form: &Form<'_>, table: &str) -> Result<(), Fail> {
+    for line in table.lines() {
+        line_comes(alloc, form, line)?;
     }
     Ok(())
 }

@@ -12,101 +12,103 @@ pub struct Form<'a> {
     pub size: usize,
 }
 
-/// What a report says of a service, but for the datagrams. Duplicates, gaps, frames and rows are 0.
-#[derive(Clone, Copy)]
-pub struct Numbers {
-    pub heard: u64,
-    pub units: u64,
-    pub bad_check: u64,
-    pub delimited: u64,
-    pub bad_length: u64,
-    pub unread: u64,
-    pub filtered: u64,
-}
-
-impl Numbers {
-    /// Nothing was counted.
-    pub const NONE: Numbers = Numbers {
-        heard: 0,
-        units: 0,
-        bad_check: 0,
-        delimited: 0,
-        bad_length: 0,
-        unread: 0,
-        filtered: 0,
-    };
-}
-
-/// A service and its file, its numbers, and the datagrams that it gives.
+/// A service and its file, its numbers, and which of the datagrams that were sent it gives.
 #[derive(Clone, Copy)]
 pub struct ServiceDue<'a> {
     pub name: &'a str,
     pub file: &'a str,
-    pub numbers: Numbers,
-    pub given: &'a [Datagram],
+    /// Lines of the report as `heard=7 units=8`. What is not named is 0.
+    pub numbers: &'a str,
+    pub sent: &'a [Datagram],
+    /// The numbers of the datagrams, as `0 1 3`.
+    pub given: &'a str,
 }
 
 /// What must be left of a recording.
 #[derive(Clone, Copy)]
 pub struct Due<'a> {
-    pub records: u64,
-    pub tail_bytes: u64,
-    pub unreadable: u64,
-    pub other: u64,
+    /// Lines of the report as `records=12 unreadable=3`.
+    pub stream: &'a str,
     pub services: &'a [ServiceDue<'a>],
 }
 
 /// How many bytes the output and the files take.
 const ROOM: usize = 100_000;
 
-/// Appends the lines of a service.
-fn put_service(into: &mut String, service: &ServiceDue<'_>) -> Result<(), OutOfMemory> {
-    let numbers = &service.numbers;
-    let lines = [
-        ("heard", numbers.heard),
-        ("repeats", 0),
-        ("gaps", 0),
-        ("units", numbers.units),
-        ("bad_check", numbers.bad_check),
-        ("delimited", numbers.delimited),
-        ("bad_length", numbers.bad_length),
-        ("unread", numbers.unread),
-        ("filtered", numbers.filtered),
-        ("frames", 0),
-        ("rows_mended", 0),
-        ("rows_left", 0),
-        ("datagrams", service.given.len() as u64),
-    ];
-    for (line, number) in lines {
-        write!(into, "{},{line},{number}\n", service.name)?;
+const STREAM_LINES: [&str; 5] = [
+    "records",
+    "tail_bytes",
+    "unreadable",
+    "without_payload",
+    "other",
+];
+
+/// The lines of a service, but for the datagrams.
+const SERVICE_LINES: [&str; 12] = [
+    "heard",
+    "repeats",
+    "gaps",
+    "units",
+    "bad_check",
+    "delimited",
+    "bad_length",
+    "unread",
+    "filtered",
+    "frames",
+    "rows_mended",
+    "rows_left",
+];
+
+/// What a line of these numbers says: 0 where none names it, and the sum where several do.
+pub fn number_of(numbers: &str, line: &str) -> Result<u64, Fail> {
+    let mut sum = 0u64;
+    for word in numbers.split_whitespace() {
+        let (name, number) = word.split_once('=').ok_or("no number")?;
+        if name == line {
+            sum = sum.saturating_add(number.parse()?);
+        }
+    }
+    Ok(sum)
+}
+
+/// Appends lines of a service or of the stream.
+fn put_lines(into: &mut String, scope: &str, lines: &[&str], numbers: &str) -> Result<(), Fail> {
+    for line in lines {
+        let number = number_of(numbers, line)?;
+        write!(into, "{scope},{line},{number}\n")?;
     }
     Ok(())
 }
 
 /// The text of the report.
-fn report_of(alloc: Global, due: &Due<'_>) -> Result<String, OutOfMemory> {
-    let lines = [
-        ("records", due.records),
-        ("tail_bytes", due.tail_bytes),
-        ("unreadable", due.unreadable),
-        ("without_payload", 0),
-        ("other", due.other),
-    ];
+fn report_of(alloc: Global, due: &Due<'_>) -> Result<String, Fail> {
     let mut text = "scope,name,value\n".to_string(alloc)?;
-    for (line, number) in lines {
-        write!(&mut text, "stream,{line},{number}\n")?;
-    }
+    put_lines(&mut text, "stream", &STREAM_LINES, due.stream)?;
     for service in due.services {
-        put_service(&mut text, service)?;
+        put_lines(&mut text, service.name, &SERVICE_LINES, service.numbers)?;
+        let given = service.given.split_whitespace().count();
+        write!(text, "{},datagrams,{given}\n", service.name)?;
     }
     Ok(text)
+}
+
+/// The datagrams that a service gives.
+fn given_of(alloc: Global, service: &ServiceDue<'_>) -> Result<Vec<Datagram>, Fail> {
+    let mut given = Vec::new(alloc);
+    for number in service.given.split_whitespace() {
+        let number: usize = number.parse()?;
+        let datagram = service.sent.get(number).ok_or("no such datagram")?;
+        given.push(*datagram)?;
+    }
+    Ok(given)
 }
 
 /// The captures of all services.
 fn captures_of(alloc: Global, services: &[ServiceDue<'_>]) -> Result<Vec<Vec<u8>>, Fail> {
     let mut captures = Vec::new(alloc);
     for service in services {
-        captures.push(capture_of(alloc, service.given)?)?;
+        let given = given_of(alloc, service)?;
+        captures.push(capture_of(alloc, &given)?)?;
     }
     Ok(captures)
 }

@@ -1,7 +1,7 @@
 //! Sixteen services, each on its ISI: their frames go out in rotation, and each is received by itself.
 //!
 //! Datagrams of 280 bytes, of which a frame of 300 has one. Of four services one has one datagram, one two, one none, and one three.
-use crate::report::{Due, Form, Numbers, ServiceDue, comes, goes_out};
+use crate::report::{Due, Form, ServiceDue, comes, goes_out};
 use std::alloc::{AllocError as OutOfMemory, Global};
 use std::test::Fail;
 use test_recordings::{Datagram, put_datagram};
@@ -115,28 +115,19 @@ fn two_come(alloc: Global, form: &Form<'_>) -> Result<(), Fail> {
     let three = ServiceDue {
         name: "s3",
         file: "s3.pcap",
-        numbers: Numbers {
-            heard: 3,
-            units: 3,
-            ..Numbers::NONE
-        },
-        given: &[datagram(3, 0), datagram(3, 1), datagram(3, 2)],
+        numbers: "heard=3 units=3",
+        given: "0 1 2",
+        sent: &[datagram(3, 0), datagram(3, 1), datagram(3, 2)],
     };
     let thirteen = ServiceDue {
         name: "s13",
         file: "s13.pcap",
-        numbers: Numbers {
-            heard: 2,
-            units: 2,
-            ..Numbers::NONE
-        },
-        given: &[datagram(13, 0), datagram(13, 1)],
+        numbers: "heard=2 units=2",
+        given: "0 1",
+        sent: &[datagram(13, 0), datagram(13, 1)],
     };
     let due = Due {
-        records: 24,
-        tail_bytes: 0,
-        unreadable: 0,
-        other: 19,
+        stream: "records=24 other=19",
         services: &[three, thirteen],
     };
     comes(alloc, "two of sixteen", form, &stream(alloc)?, &due)
