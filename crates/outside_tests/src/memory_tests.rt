@@ -172,13 +172,22 @@ c|Failed 1 2 2";
 const TWO_FILES: &str = "b|3 0 0 0
 c|Failed 0 0 1";
 
+/// Makes the loads of a shelf with one file.
+fn load_one_file(rt: &impl Abort, alloc: Global) -> Result<(), Fail> {
+    let mut shelf = MemShelf::new(alloc, "a", b"12", &[1])?;
+    assert_calls(rt, alloc, &mut shelf, ONE_FILE)
+}
+
+/// Makes the loads of a shelf with two files.
+fn load_two_files(rt: &impl Abort, alloc: Global) -> Result<(), Fail> {
+    let mut shelf = MemShelf::new(alloc, "a", b"12", &[])?;
+    shelf.also(alloc, "b", b"3")?;
+    assert_calls(rt, alloc, &mut shelf, TWO_FILES)
+}
+
 /// Faults are counted by name, and those of a second file begin with those of all other names.
 #[test]
 fn a_shelf_in_memory_counts_faults_by_name(rt: HostRuntime) -> Result<(), Fail> {
-    let alloc = rt.alloc();
-    let mut shelf = MemShelf::new(alloc, "a", b"12", &[1])?;
-    assert_calls(&rt, alloc, &mut shelf, ONE_FILE)?;
-    let mut shelf = MemShelf::new(alloc, "a", b"12", &[])?;
-    shelf.also(alloc, "b", b"3")?;
-    assert_calls(&rt, alloc, &mut shelf, TWO_FILES)
+    load_one_file(&rt, rt.alloc())?;
+    load_two_files(&rt, rt.alloc())
 }
