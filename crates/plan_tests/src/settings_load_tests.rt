@@ -3,7 +3,7 @@
 use crate::cases::assert_text;
 use ipe_io::{MemShelf, MemSink};
 use service_plan::{Key, Plan, PlanFault};
-use settings_load::{FileFault, list_services, load_plan, put_fault};
+use settings_load::{FileFault, SettingsError, list_services, load_plan, put_fault};
 use std::alloc::Global;
 use std::test::Fail;
 
@@ -21,18 +21,33 @@ isi = 255
 rules = ['11.0.0.0/8']
 ";
 
-/// The lines of the services of a plan, and how many bytes were flushed.
+/// What a sink holds, and how many bytes of it are flushed.
+fn held_in(alloc: Global, sink: &MemSink) -> Result<String, Fail> {
+    let text = std::str::from_utf8(sink.bytes())?;
+    Ok(format!(in alloc; "{text}{} bytes flushed", sink.flushed())?)
+}
+
+/// The lines of the services of a plan.
 fn lines_of(alloc: Global, plan: &Plan) -> Result<String, Fail> {
     let mut output = MemSink::new(alloc, 100, &[])?;
     list_services(plan, &mut output)?;
-    let text = std::str::from_utf8(output.bytes())?;
-    Ok(format!(in alloc; "{text}{} bytes flushed", output.flushed())?)
+    held_in(alloc, &output)
 }
 
-/// The lines of the services in a settings file, or the fault, from a shelf that has the file `a` and whose calls of some numbers fail.
-fn listed(alloc: Global, name: &str, file: &str, fails: &[u32]) -> Result<String, Fail> {
+/// A plan, or the fault, from a shelf that has the file `a` and whose calls of some numbers fail.
+fn loaded(
+    alloc: Global,
+    name: &str,
+    file: &str,
+    fails: &[u32],
+) -> Result<Result<Plan, SettingsError>, Fail> {
     let mut shelf = MemShelf::new(alloc, "a", file.as_bytes(), fails)?;
-    match load_plan(alloc, name, &mut shelf) {
+    Ok(load_plan(alloc, name, &mut shelf))
+}
+
+/// The lines of the services of that plan, or the fault.
+fn listed(alloc: Global, name: &str, file: &str, fails: &[u32]) -> Result<String, Fail> {
+    match loaded(alloc, name, file, fails)? {
         Ok(plan) => lines_of(alloc, &plan),
         Err(error) => Ok(format!(in alloc; "{error:?}")?),
     }
