@@ -85,23 +85,29 @@ const SHORTER: [u8; 10] = [0x50, 1, 0, 0, 9, 0, 0, 0, 0, 0x76];
 
 const SHORTEST: [u8; 10] = [0x50, 1, 0, 0, 0, 0x40, 0, 0, 0, 0x9C];
 
-/// The four frames.
-fn stream(alloc: Global) -> Result<Vec<u8>, Fail> {
-    let file = datagram_of(alloc, &FILE)?;
-    let call = datagram_of(alloc, &CALL)?;
+/// Appends the four frames with the bytes of both datagrams.
+fn put_frames(frames: &mut Vec<u8>, file: &[u8], call: &[u8]) -> Result<(), Fail> {
     let first = file.get(..277).ok_or("no such bytes")?;
     let second = file.get(277..514).ok_or("no such bytes")?;
     let third = file.get(514..799).ok_or("no such bytes")?;
     let last = file.get(799..).ok_or("no such bytes")?;
-    let mut frames = Vec::new(alloc);
-    put_frame(&mut frames, &[&FULL, &START, first], FORM.size)?;
+    put_frame(frames, &[&FULL, &START, first], FORM.size)?;
     put_frame(
-        &mut frames,
-        &[&FULL, &COMPLETE, &call, &MIDDLE, second],
+        frames,
+        &[&FULL, &COMPLETE, call, &MIDDLE, second],
         FORM.size,
     )?;
-    put_frame(&mut frames, &[&SHORTER, &NEXT, third], FORM.size)?;
-    put_frame(&mut frames, &[&SHORTEST, &LAST, last, &SUM], FORM.size)?;
+    put_frame(frames, &[&SHORTER, &NEXT, third], FORM.size)?;
+    put_frame(frames, &[&SHORTEST, &LAST, last, &SUM], FORM.size)?;
+    Ok(())
+}
+
+/// The four frames.
+fn stream(alloc: Global) -> Result<Vec<u8>, Fail> {
+    let file = datagram_of(alloc, &FILE)?;
+    let call = datagram_of(alloc, &CALL)?;
+    let mut frames = Vec::new(alloc);
+    put_frames(&mut frames, &file, &call)?;
     Ok(frames)
 }
 

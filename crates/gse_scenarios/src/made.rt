@@ -119,6 +119,26 @@ fn recording_of(alloc: Global, frames: &str, size: usize) -> Result<Vec<u8>, Fai
     Ok(recording)
 }
 
+/// What the report says of the stream, where a case has these numbers and the good frame follows.
+fn stream_of(alloc: Global, numbers: &str) -> Result<String, Fail> {
+    let unreadable = number_of(numbers, "unreadable")?;
+    let other = number_of(numbers, "other")?;
+    let records = number_of(numbers, "heard")?
+        .saturating_add(1)
+        .saturating_add(unreadable)
+        .saturating_add(other);
+    Ok(format!(in alloc; "records={records} unreadable={unreadable} other={other}")?)
+}
+
+/// The number of the datagram, as often as it is given.
+fn given_of(alloc: Global, numbers: &str) -> Result<String, Fail> {
+    let mut given = "0".to_string(alloc)?;
+    for _ in 0..number_of(numbers, "given")? {
+        given.push_str(" 0")?;
+    }
+    Ok(given)
+}
+
 /// Compares what comes of a recording with the numbers of a case and the good frame.
 fn comes_of(
     alloc: Global,
@@ -128,15 +148,8 @@ fn comes_of(
     numbers: &str,
 ) -> Result<(), Fail> {
     let with_good = format!(in alloc; "{numbers} heard=1 units=1")?;
-    let heard = number_of(&with_good, "heard")?;
-    let unreadable = number_of(numbers, "unreadable")?;
-    let other = number_of(numbers, "other")?;
-    let records = heard.saturating_add(unreadable).saturating_add(other);
-    let stream = format!(in alloc; "records={records} unreadable={unreadable} other={other}")?;
-    let mut given = "0".to_string(alloc)?;
-    for _ in 0..number_of(numbers, "given")? {
-        given.push_str(" 0")?;
-    }
+    let stream = stream_of(alloc, numbers)?;
+    let given = given_of(alloc, numbers)?;
     let service = ServiceDue {
         name: "files",
         file: "files.pcap",
