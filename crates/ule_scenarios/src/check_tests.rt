@@ -1,248 +1,117 @@
 //! What no clause says of `check SETTINGS`: that a run over objects in memory ends so, with ample memory.
+use crate::run_lines::{Run, RunLine, ends, pair_of, read_line, settings_of};
 use scenario_runs::{Status, expect};
-use std::alloc::Global;
+use std::alloc::{AllocError as OutOfMemory, Global};
 use std::test::Fail;
-use test_recordings::settings::{FILES, INT, STAMPED, settings_of};
-use test_recordings::{Failing, Given, Left, faultless, filled};
+use test_recordings::{Left, faultless, filled};
 
-/// A lecture in sliced frames.
-const SLICED: &str = "[[service]]
-name = \"lecture\"
-kind = \"fec\"
-pid = 512
-mode = \"sliced\"
-rows = 1024
-window_start = 100
-window_length = 1500
-service_id = 10
-component_tag = 1
-rules = [\"239.1.0.0/16\"]
-";
+/// Settings of a lecture in sliced frames and of files in SNDUs, with an INT, and what is printed of them.
+const PAIR: &str = "STAMPED INT SLICED FILES TAGS";
 
-/// What the files have beside in a plan with an INT.
-const TAGS: &str = "service_id = 10\ncomponent_tag = 2\n";
+const PRINTED: &str = "lecture fec 512\nfiles ule 513\n";
 
-/// Settings of a lecture in sliced frames and of files in SNDUs, with an INT.
-const SETTINGS: &[&str] = &[STAMPED, INT, SLICED, FILES, TAGS];
+/// The runs over these settings, in the columns of `run_lines`. Given is how many bytes the output takes; left is how many bytes are
+/// printed, and how many flushed.
+///
+/// A fault of the input changes nothing: it is not read. The output's calls are 6 writes for each service and a flush.
+const LISTED: &str = "settings are listed|40|a.toml input=0|30 30|
+the output has room for the lines and no more|30|a.toml input=0|30 30|
+the shelf fails|40|b.toml input=0|0 0|fault of the settings file
+the shelf fails|40|a.toml input=0 shelf=0|0 0|fault of the settings file
+the output fails|40|a.toml input=0 output=0|0 0|fault of the output
+the output fails|40|a.toml input=0 output=7|21 0|fault of the output
+the output fails|10|a.toml input=0|10 0|fault of the output
+the output fails|40|a.toml input=0 output=12|30 0|fault of the output";
 
-/// A service, but for its kind, its PID and its rules.
-const SERVICE: &str = "[[service]]\nname = \"files\"\n";
+/// Settings by their names, then lines of settings with `;` between; what is reported of all of them.
+const REFUSED: &str = "X||settings 1
+|cycle = 100;cycle = 100|settings 1
+||settings 2 service
+|speed = 1|settings 13
+|cycle = 1.5|settings 3 cycle
+|cycle = -1|settings 4 cycle
+|packet_rate = 2026-01-01|settings 3 packet_rate
+SERVICE ULE|pid = \"512\"|settings 3 pid
+SERVICE ULE|pid = 31|settings 4 pid
+SERVICE ULE||settings 2 pid
+SERVICE|kind = \"mpeg\"|settings 4 kind
+SERVICE|speed = 1|settings 2 kind
+SERVICE ULE|speed = 1|settings 13
+SERVICE ULE|pid = 513|settings 2 rules
+SERVICE ULE|pid = 513;rules = [\"239.2.0.1/16\"]|settings 7
+STAMPED INT SLICED FILES TAGS SERVICE ULE|pid = 600;rules = [\"10.0.0.0/8\"]|settings 6
+STAMPED INT SLICED FILES TAGS MORE ULE|pid = 600;rules = [\"10.0.0.0/8\"]|settings 5";
 
-/// What is given, and how the run ends.
-#[derive(Clone, Copy)]
-struct Case<'a> {
-    name: &'a str,
-    settings: &'a [&'a str],
-    /// The name of the file on the shelf.
-    shelved: &'a str,
-    room: usize,
-    fails: &'a [Failing],
-    status: Status,
-    output: &'a str,
-    flushed: usize,
-    line: &'a str,
+/// Appends lines of settings.
+fn put_lines(text: &mut String, lines: &str) -> Result<(), OutOfMemory> {
+    for line in lines.split(';') {
+        if !line.is_empty() {
+            write!(text, "{line}\n")?;
+        }
+    }
+    Ok(())
 }
 
-/// A fault of the input changes nothing: it is not read.
-const LISTED: Case = Case {
-    name: "settings are listed",
-    settings: SETTINGS,
-    shelved: "a.toml",
-    room: 40,
-    fails: &[Failing::Input(0)],
-    status: Status::Done,
-    output: "lecture fec 512\nfiles ule 513\n",
-    flushed: 30,
-    line: "",
-};
+/// Settings by their names, and then of lines.
+fn text_of(alloc: Global, names: &str, lines: &str) -> Result<String, Fail> {
+    let mut text = String::new(alloc);
+    for name in names.split_whitespace() {
+        text.push_str(settings_of(name)?)?;
+    }
+    put_lines(&mut text, lines)?;
+    Ok(text)
+}
 
-const SHELF: Case = Case {
-    name: "the shelf fails",
-    status: Status::ShelfFault,
-    output: "",
-    flushed: 0,
-    line: "ipencap: fault of the settings file\n",
-    ..LISTED
-};
-
-const OUTPUT: Case = Case {
-    name: "the output fails",
-    status: Status::SinkFault,
-    flushed: 0,
-    line: "ipencap: fault of the output\n",
-    ..LISTED
-};
-
-const REFUSED: Case = Case {
-    name: "refused settings",
-    fails: &[],
-    status: Status::Settings,
-    output: "",
-    flushed: 0,
-    line: "ipencap: settings 1\n",
-    ..LISTED
-};
-
-/// The output's calls are 6 writes for each service and a flush.
-static CASES: [Case; 25] = [
-    LISTED,
-    Case {
-        name: "the output has room for the lines and no more",
-        room: 30,
-        ..LISTED
-    },
-    Case {
-        shelved: "b.toml",
-        ..SHELF
-    },
-    Case {
-        fails: &[Failing::Input(0), Failing::Shelf(0)],
-        ..SHELF
-    },
-    Case {
-        fails: &[Failing::Input(0), Failing::Output(0)],
-        output: "",
-        ..OUTPUT
-    },
-    Case {
-        fails: &[Failing::Input(0), Failing::Output(7)],
-        output: "lecture fec 512\nfiles",
-        ..OUTPUT
-    },
-    Case {
-        room: 10,
-        output: "lecture fe",
-        ..OUTPUT
-    },
-    Case {
-        fails: &[Failing::Input(0), Failing::Output(12)],
-        ..OUTPUT
-    },
-    Case {
-        settings: &["x"],
-        ..REFUSED
-    },
-    Case {
-        settings: &["cycle = 100\ncycle = 100\n"],
-        ..REFUSED
-    },
-    Case {
-        settings: &[""],
-        line: "ipencap: settings 2 service\n",
-        ..REFUSED
-    },
-    Case {
-        settings: &["speed = 1\n"],
-        line: "ipencap: settings 13\n",
-        ..REFUSED
-    },
-    Case {
-        settings: &["cycle = 1.5\n"],
-        line: "ipencap: settings 3 cycle\n",
-        ..REFUSED
-    },
-    Case {
-        settings: &["cycle = -1\n"],
-        line: "ipencap: settings 4 cycle\n",
-        ..REFUSED
-    },
-    Case {
-        settings: &["packet_rate = 2026-01-01\n"],
-        line: "ipencap: settings 3 packet_rate\n",
-        ..REFUSED
-    },
-    Case {
-        settings: &[SERVICE, "kind = \"ule\"\npid = \"512\"\n"],
-        line: "ipencap: settings 3 pid\n",
-        ..REFUSED
-    },
-    Case {
-        settings: &[SERVICE, "kind = \"ule\"\npid = 31\n"],
-        line: "ipencap: settings 4 pid\n",
-        ..REFUSED
-    },
-    Case {
-        settings: &[SERVICE, "kind = \"ule\"\n"],
-        line: "ipencap: settings 2 pid\n",
-        ..REFUSED
-    },
-    Case {
-        settings: &[SERVICE, "kind = \"mpeg\"\n"],
-        line: "ipencap: settings 4 kind\n",
-        ..REFUSED
-    },
-    Case {
-        settings: &[SERVICE, "speed = 1\n"],
-        line: "ipencap: settings 2 kind\n",
-        ..REFUSED
-    },
-    Case {
-        settings: &[SERVICE, "kind = \"ule\"\nspeed = 1\n"],
-        line: "ipencap: settings 13\n",
-        ..REFUSED
-    },
-    Case {
-        settings: &[SERVICE, "kind = \"ule\"\npid = 513\n"],
-        line: "ipencap: settings 2 rules\n",
-        ..REFUSED
-    },
-    Case {
-        settings: &[
-            SERVICE,
-            "kind = \"ule\"\npid = 513\nrules = [\"239.2.0.1/16\"]\n",
-        ],
-        line: "ipencap: settings 7\n",
-        ..REFUSED
-    },
-    Case {
-        settings: &[
-            STAMPED,
-            INT,
-            SLICED,
-            FILES,
-            TAGS,
-            SERVICE,
-            "kind = \"ule\"\npid = 600\nrules = [\"10.0.0.0/8\"]\n",
-        ],
-        line: "ipencap: settings 6\n",
-        ..REFUSED
-    },
-    Case {
-        settings: &[
-            STAMPED,
-            INT,
-            SLICED,
-            FILES,
-            TAGS,
-            "[[service]]\nname = \"more\"\nkind = \"ule\"\npid = 600\nrules = [\"10.0.0.0/8\"]\n",
-        ],
-        line: "ipencap: settings 5\n",
-        ..REFUSED
-    },
-];
-
-/// Checks the settings of a case, and compares all that is left.
-fn ends_so(alloc: Global, case: &Case<'_>) -> Result<(), Fail> {
-    let settings = settings_of(alloc, case.settings)?;
-    let given = Given {
-        name: case.shelved,
-        room: case.room,
-        fails: case.fails,
-        ..faultless(&["check", "a.toml"], settings.as_bytes(), &[])
-    };
-    let left = Left {
-        output: case.output.as_bytes(),
-        flushed: case.flushed,
-        line: case.line,
+/// Checks settings, and compares all that is left with the front of what is printed.
+fn ends_so(alloc: Global, settings: &str, case: &RunLine<'_>) -> Result<(), Fail> {
+    let (printed, flushed) = pair_of(case.left)?;
+    let output = PRINTED.as_bytes().get(..printed);
+    let run = Run {
+        command: "check",
+        settings,
+        input: &[],
+        room: case.given.parse()?,
+        output: output.ok_or("no such front")?,
+        flushed,
         files: &[],
     };
-    expect(alloc, case.name, &given, case.status, &left)
+    ends(alloc, case, &run)
+}
+
+/// Checks the settings of a line, for which nothing is printed.
+fn are_refused(alloc: Global, line: &str) -> Result<(), Fail> {
+    let (names, rest) = line.split_once('|').ok_or("no lines")?;
+    let (lines, line) = rest.split_once('|').ok_or("no fault")?;
+    let settings = text_of(alloc, names, lines)?;
+    let case = RunLine {
+        name: "refused settings",
+        given: "40",
+        shelved: "a.toml",
+        fails: "",
+        left: "0 0",
+        line,
+    };
+    ends_so(alloc, &settings, &case)
+}
+
+/// Each run over these settings ends so.
+fn all_end_so(alloc: Global, settings: &str) -> Result<(), Fail> {
+    for line in LISTED.lines() {
+        ends_so(alloc, settings, &read_line(line)?)?;
+    }
+    Ok(())
 }
 
 #[test]
-fn settings_are_listed_or_have_the_line_of_their_fault(rt: HostRuntime) -> Result<(), Fail> {
-    for case in &CASES {
-        ends_so(rt.alloc(), case)?;
+fn settings_are_listed(rt: HostRuntime) -> Result<(), Fail> {
+    let settings = text_of(rt.alloc(), PAIR, "")?;
+    all_end_so(rt.alloc(), &settings)
+}
+
+#[test]
+fn refused_settings_have_the_line_of_their_fault(rt: HostRuntime) -> Result<(), Fail> {
+    for line in REFUSED.lines() {
+        are_refused(rt.alloc(), line)?;
     }
     Ok(())
 }

@@ -1,229 +1,105 @@
 //! What no clause says of `receive SETTINGS`: that a run over objects in memory ends so, with ample memory.
-use crate::send_tests::BASEBAND;
-use scenario_runs::{Status, expect};
-use std::alloc::{AllocError as OutOfMemory, Global};
+use crate::run_lines::{Run, RunLine, ends, pair_of, read_line, settings_of};
+use std::alloc::Global;
 use std::test::Fail;
 use test_recordings::units::CAPTURE;
-use test_recordings::{
-    Failing, FileLeft, Given, Left, Numbers, Report, ServiceReport, faultless, mixed_recording,
-    report_of,
-};
+use test_recordings::{FileLeft, mixed_recording};
 
-/// Files in SNDUs on PID 256, in a plain recording.
-const SETTINGS: &str = "[[service]]
-name = \"files\"
-kind = \"ule\"
-pid = 256
-rules = [\"239.1.0.0/16\"]
-";
-
-/// What is given, and how the run ends.
-#[derive(Clone, Copy)]
-struct Case<'a> {
-    name: &'a str,
-    settings: &'a str,
-    /// The name of the file on the shelf.
-    shelved: &'a str,
-    /// How many bytes of the recording come.
-    bytes: usize,
-    fails: &'a [Failing],
-    status: Status,
-    /// How many files there are, how many bytes the file has, and how many of them are flushed.
-    files: usize,
-    file: usize,
-    flushed: usize,
-    report: Option<Report<'a>>,
-    line: &'a str,
-}
-
-/// What is reported of an empty recording.
-const EMPTY: Report = Report {
-    records: 0,
-    tail_bytes: 0,
-    unreadable: 0,
-    other: 0,
-    services: &[ServiceReport {
-        name: "files",
-        numbers: Numbers::NONE,
-    }],
-    table: None,
-};
-
-/// A packet and its duplicate, a record with a wrong first byte, and 187 bytes: 751 in all.
-const RECEIVED: Case = Case {
-    name: "a duplicate, and an unreadable record",
-    settings: SETTINGS,
-    shelved: "a.toml",
-    bytes: 751,
-    fails: &[],
-    status: Status::Done,
-    files: 1,
-    file: 60,
-    flushed: 60,
-    report: Some(Report {
-        records: 3,
-        tail_bytes: 187,
-        unreadable: 1,
-        services: &[ServiceReport {
-            name: "files",
-            numbers: Numbers {
-                heard: 1,
-                repeats: 1,
-                units: 1,
-                datagrams: 1,
-                ..Numbers::NONE
-            },
-        }],
-        ..EMPTY
-    }),
-    line: "",
-};
-
-const RACK: Case = Case {
-    name: "the rack fails",
-    status: Status::RackFault,
-    flushed: 0,
-    report: None,
-    line: "ipencap: fault of a written file\n",
-    ..RECEIVED
-};
-
-const INPUT: Case = Case {
-    name: "the input fails",
-    status: Status::SourceFault,
-    flushed: 0,
-    report: None,
-    line: "ipencap: fault of the input\n",
-    ..RECEIVED
-};
-
-/// No file is added.
-const REFUSED: Case = Case {
-    name: "settings that are not received",
-    status: Status::Settings,
-    files: 0,
-    file: 0,
-    flushed: 0,
-    report: None,
-    ..RECEIVED
-};
-
+/// The columns of `run_lines`. Given are settings by their name, and how many bytes of a recording come; it has a packet and its duplicate,
+/// a record with a wrong first byte, and 187 bytes: 751 in all. Left are how many files there are, how many bytes the file has, and how many
+/// of them are flushed; after `report` come its lines, but for those that are 0. It is flushed, and stands for the output.
+///
 /// The rack's calls are: add, the file's head, the record's head, the datagram, flush; the output's one write and a flush.
-static CASES: [Case; 11] = [
-    Case {
-        name: "an empty recording",
-        bytes: 0,
-        file: 24,
-        flushed: 24,
-        report: Some(EMPTY),
-        ..RECEIVED
-    },
-    RECEIVED,
-    Case {
-        name: "packets where baseband frames are read",
-        settings: BASEBAND,
-        file: 24,
-        flushed: 24,
-        report: Some(Report {
-            records: 2,
-            tail_bytes: 151,
-            unreadable: 2,
-            ..EMPTY
-        }),
-        ..RECEIVED
-    },
-    Case {
-        fails: &[Failing::Rack(1)],
-        file: 0,
-        ..RACK
-    },
-    Case {
-        fails: &[Failing::Rack(3)],
-        file: 40,
-        ..RACK
-    },
-    Case {
-        fails: &[Failing::Rack(4)],
-        ..RACK
-    },
-    Case {
-        fails: &[Failing::Input(1)],
-        file: 24,
-        ..INPUT
-    },
-    Case {
-        fails: &[Failing::Input(2)],
-        ..INPUT
-    },
-    Case {
-        name: "the output fails",
-        fails: &[Failing::Output(0)],
-        status: Status::SinkFault,
-        report: None,
-        line: "ipencap: fault of the output\n",
-        ..RECEIVED
-    },
-    Case {
-        shelved: "b.toml",
-        status: Status::ShelfFault,
-        line: "ipencap: fault of the settings file\n",
-        ..REFUSED
-    },
-    Case {
-        settings: "speed = 1\n",
-        line: "ipencap: settings 13\n",
-        ..REFUSED
-    },
-];
+const CASES: &str = "an empty recording|SNDUS 0|a.toml|1 24 24 report|
+a duplicate, and an unreadable record|SNDUS 751|a.toml|1 60 60 report stream,records,3 stream,tail_bytes,187 stream,unreadable,1 files,heard,1 files,repeats,1 files,units,1 files,datagrams,1|
+packets where baseband frames are read|BASEBAND 751|a.toml|1 24 24 report stream,records,2 stream,tail_bytes,151 stream,unreadable,2|
+the rack fails|SNDUS 751|a.toml rack=1|1 0 0|fault of a written file
+the rack fails|SNDUS 751|a.toml rack=3|1 40 0|fault of a written file
+the rack fails|SNDUS 751|a.toml rack=4|1 60 0|fault of a written file
+the input fails|SNDUS 751|a.toml input=1|1 24 0|fault of the input
+the input fails|SNDUS 751|a.toml input=2|1 60 0|fault of the input
+the output fails|SNDUS 751|a.toml output=0|1 60 60|fault of the output
+settings that are not received|SNDUS 751|b.toml|0 0 0|fault of the settings file
+settings that are not received|SPEED 751|a.toml|0 0 0|settings 13";
 
-/// The text of a report, empty where there is none.
-fn text_of(alloc: Global, report: &Option<Report<'_>>) -> Result<String, OutOfMemory> {
-    match report {
-        Some(report) => report_of(alloc, report),
-        None => Ok(String::new(alloc)),
+/// The lines of the report, but for their numbers.
+const LINES: &str =
+    "stream,records stream,tail_bytes stream,unreadable stream,without_payload stream,other
+files,heard files,repeats files,gaps files,units files,bad_check files,delimited files,bad_length files,unread files,filtered
+files,frames files,rows_mended files,rows_left files,datagrams";
+
+/// Appends a line as a word has it, or with 0, and answers how many words have it.
+fn put_line(text: &mut String, line: &str, words: &str) -> Result<usize, Fail> {
+    for word in words.split_whitespace() {
+        let (name, _) = word.rsplit_once(',').ok_or("no number")?;
+        if name == line {
+            write!(text, "{word}\n")?;
+            return Ok(1);
+        }
     }
+    write!(text, "{line},0\n")?;
+    Ok(0)
 }
 
-/// Receives these bytes, and compares the report and the files, and what else is left.
-fn leaves(
-    alloc: Global,
-    case: &Case<'_>,
-    input: &[u8],
-    report: &str,
-    files: &[FileLeft<'_>],
-) -> Result<(), Fail> {
-    let left = Left {
-        output: report.as_bytes(),
-        flushed: report.len(),
-        line: case.line,
-        files,
-    };
-    let given = Given {
-        name: case.shelved,
-        fails: case.fails,
-        ..faultless(&["receive", "a.toml"], case.settings.as_bytes(), input)
-    };
-    expect(alloc, case.name, &given, case.status, &left)
+/// Appends the report with the lines of these words, each of which must be one.
+fn put_report(text: &mut String, words: &str) -> Result<(), Fail> {
+    text.push_str("scope,name,value\n")?;
+    let mut named = 0usize;
+    for line in LINES.split_whitespace() {
+        named = named.saturating_add(put_line(text, line, words)?);
+    }
+    if named != words.split_whitespace().count() {
+        return Err("no such line of a report".into());
+    }
+    Ok(())
+}
+
+/// The text of the report, empty where there is none.
+fn report_of(alloc: Global, left: &str) -> Result<String, Fail> {
+    let mut text = String::new(alloc);
+    if let Some((_, words)) = left.split_once(" report") {
+        put_report(&mut text, words)?;
+    }
+    Ok(text)
 }
 
 /// Receives the front of a recording, and compares all that is left.
-fn comes(alloc: Global, recording: &[u8], case: &Case<'_>) -> Result<(), Fail> {
-    let input = recording.get(..case.bytes).ok_or("no such front")?;
+fn leaves(alloc: Global, recording: &[u8], case: &RunLine<'_>, report: &str) -> Result<(), Fail> {
+    let (name, bytes) = case.given.split_once(' ').ok_or("no bytes")?;
+    let bytes = bytes.parse::<usize>()?;
+    let (numbers, _) = case.left.split_once(" report").unwrap_or((case.left, ""));
+    let (count, rest) = numbers.split_once(' ').ok_or("no file")?;
+    let count = count.parse::<usize>()?;
+    let (size, flushed) = pair_of(rest)?;
     let files = [FileLeft {
         name: "files.pcap",
-        bytes: CAPTURE.get(..case.file).ok_or("no such front")?,
-        flushed: case.flushed,
+        bytes: CAPTURE.get(..size).ok_or("no such front")?,
+        flushed,
     }];
-    let files = files.get(..case.files).ok_or("two files")?;
-    let report = text_of(alloc, &case.report)?;
-    leaves(alloc, case, input, &report, files)
+    let run = Run {
+        command: "receive",
+        settings: settings_of(name)?,
+        input: recording.get(..bytes).ok_or("no such front")?,
+        room: 10_000,
+        output: report.as_bytes(),
+        flushed: report.len(),
+        files: files.get(..count).ok_or("two files")?,
+    };
+    ends(alloc, case, &run)
+}
+
+/// Receives the recording of a line.
+fn comes(alloc: Global, recording: &[u8], line: &str) -> Result<(), Fail> {
+    let case = read_line(line)?;
+    let report = report_of(alloc, case.left)?;
+    leaves(alloc, recording, &case, &report)
 }
 
 #[test]
 fn a_recording_gives_its_capture_and_the_report(rt: HostRuntime) -> Result<(), Fail> {
     let recording = mixed_recording(rt.alloc())?;
-    for case in &CASES {
-        comes(rt.alloc(), &recording, case)?;
+    for line in CASES.lines() {
+        comes(rt.alloc(), &recording, line)?;
     }
     Ok(())
 }

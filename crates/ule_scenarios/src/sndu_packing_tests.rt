@@ -12,17 +12,20 @@ struct Case {
     packets: &'static [PacketOf],
 }
 
+/// The first packet, which the first SNDU fills.
+const FIRST: PacketOf = PacketOf::Start {
+    counter: 0,
+    pointer: 0,
+    from: 0,
+    to: 183,
+};
+
 static CASES: [Case; 3] = [
     // Two bytes are left, and the second SNDU begins there: the pointer leads to them.
     Case {
         size: 356,
         packets: &[
-            PacketOf::Start {
-                counter: 0,
-                pointer: 0,
-                from: 0,
-                to: 183,
-            },
+            FIRST,
             PacketOf::Start {
                 counter: 1,
                 pointer: 181,
@@ -40,12 +43,7 @@ static CASES: [Case; 3] = [
     Case {
         size: 357,
         packets: &[
-            PacketOf::Start {
-                counter: 0,
-                pointer: 0,
-                from: 0,
-                to: 183,
-            },
+            FIRST,
             PacketOf::GoOn {
                 counter: 1,
                 from: 183,
@@ -63,12 +61,7 @@ static CASES: [Case; 3] = [
     Case {
         size: 358,
         packets: &[
-            PacketOf::Start {
-                counter: 0,
-                pointer: 0,
-                from: 0,
-                to: 183,
-            },
+            FIRST,
             PacketOf::GoOn {
                 counter: 1,
                 from: 183,
