@@ -8,289 +8,35 @@
 //! | 3 | 300 to 302 | 300 | 301: datagram 7, PID 712 | 302: datagram 6, PID 515 |
 //!
 //! All other records are null packets.
-use crate::change_plans::{BOTH_MOVE, stream_of};
-use crate::change_received::{Delivered, Due, comes_as_told};
-use std::alloc::Global;
+use crate::change_plans::{BOTH, EIGHT, stream_of};
+use crate::harmed::all_come;
+use crate::received::Reception;
 use std::test::Fail;
-use test_recordings::Harm::{self, Drop, Flip, Repeat};
-use test_recordings::{Numbers, TableReport, damaged};
 
-/// What a loss leaves of a service.
-#[derive(Clone, Copy)]
-struct Heard<'a> {
-    datagrams: &'a [usize],
-    heard: u64,
-    repeats: u64,
-    gaps: u64,
-    bad_check: u64,
-}
-
-/// What happens to the stream, and what comes of it.
-#[derive(Clone, Copy)]
-struct Loss<'a> {
-    name: &'a str,
-    harms: &'a [Harm],
-    records: u64,
-    other: u64,
-    /// Sections of the INT, the version in force at the end, and whether the rules are exchanged in it.
-    tables: u64,
-    version: u8,
-    exchanged: bool,
-    lecture: Heard<'a>,
-    files: Heard<'a>,
-}
-
-const LECTURE: Heard = Heard {
-    datagrams: &[0, 2, 5, 7],
-    heard: 4,
-    repeats: 0,
-    gaps: 0,
-    bad_check: 0,
+/// The rules are exchanged from version 2 on.
+const RECEPTION: Reception = Reception {
+    settings: BOTH,
+    services: &[("lecture", EIGHT), ("files", EIGHT)],
+    whole: "stream records=303 other=291|lecture heard=4 units=4 gives 0 2 5 7|files heard=4 units=4 gives 1 3-4 6|table units=4 version=3 rules 239.2.0.0/16 239.1.0.0/16",
 };
 
-const FILES: Heard = Heard {
-    datagrams: &[1, 3, 4, 6],
-    ..LECTURE
-};
-
-const NO_LOSS: Loss = Loss {
-    name: "nothing",
-    harms: &[],
-    records: 303,
-    other: 291,
-    tables: 4,
-    version: 3,
-    exchanged: true,
-    lecture: LECTURE,
-    files: FILES,
-};
-
-static LOSSES: [Loss; 10] = [
-    NO_LOSS,
-    Loss {
-        name: "the first INT",
-        harms: &[Drop { first: 0, last: 0 }],
-        records: 302,
-        tables: 3,
-        ..NO_LOSS
-    },
-    // the next one puts version 2 in force
-    Loss {
-        name: "the INT of version 1",
-        harms: &[Drop {
-            first: 100,
-            last: 100,
-        }],
-        records: 302,
-        other: 292,
-        tables: 3,
-        files: Heard {
-            datagrams: &[1, 4, 6],
-            heard: 3,
-            ..FILES
-        },
-        ..NO_LOSS
-    },
-    Loss {
-        name: "a flipped bit in the INT of version 1",
-        harms: &[Flip {
-            record: 100,
-            place: 10,
-            bits: 4,
-        }],
-        other: 292,
-        tables: 3,
-        files: Heard {
-            datagrams: &[1, 4, 6],
-            heard: 3,
-            ..FILES
-        },
-        ..NO_LOSS
-    },
-    Loss {
-        name: "the INT of version 3",
-        harms: &[Drop {
-            first: 300,
-            last: 300,
-        }],
-        records: 302,
-        other: 293,
-        tables: 3,
-        version: 2,
-        lecture: Heard {
-            datagrams: &[0, 2, 5],
-            heard: 3,
-            ..LECTURE
-        },
-        files: Heard {
-            datagrams: &[1, 3, 4],
-            heard: 3,
-            ..FILES
-        },
-        ..NO_LOSS
-    },
-    Loss {
-        name: "all but the first INT",
-        harms: &[
-            Drop {
-                first: 100,
-                last: 100,
-            },
-            Drop {
-                first: 200,
-                last: 200,
-            },
-            Drop {
-                first: 300,
-                last: 300,
-            },
-        ],
-        records: 300,
-        other: 295,
-        tables: 1,
-        version: 0,
-        exchanged: false,
-        lecture: Heard {
-            datagrams: &[0, 2, 5],
-            heard: 3,
-            ..LECTURE
-        },
-        files: Heard {
-            datagrams: &[1],
-            heard: 1,
-            ..FILES
-        },
-    },
-    Loss {
-        name: "the whole of part 1",
-        harms: &[Drop {
-            first: 100,
-            last: 199,
-        }],
-        records: 203,
-        other: 194,
-        tables: 3,
-        lecture: Heard {
-            datagrams: &[0, 5, 7],
-            heard: 3,
-            gaps: 1,
-            ..LECTURE
-        },
-        files: Heard {
-            datagrams: &[1, 4, 6],
-            heard: 3,
-            ..FILES
-        },
-        ..NO_LOSS
-    },
-    Loss {
-        name: "a packet of a service that stays",
-        harms: &[Drop {
-            first: 101,
-            last: 101,
-        }],
-        records: 302,
-        lecture: Heard {
-            datagrams: &[0, 5, 7],
-            heard: 3,
-            gaps: 1,
-            ..LECTURE
-        },
-        ..NO_LOSS
-    },
-    Loss {
-        name: "a flipped bit in a file",
-        harms: &[Flip {
-            record: 202,
-            place: 100,
-            bits: 1,
-        }],
-        files: Heard {
-            datagrams: &[1, 3, 6],
-            bad_check: 1,
-            ..FILES
-        },
-        ..NO_LOSS
-    },
-    Loss {
-        name: "an INT and the last packet come three times",
-        harms: &[
-            Repeat {
-                first: 200,
-                last: 200,
-                times: 3,
-            },
-            Repeat {
-                first: 302,
-                last: 302,
-                times: 3,
-            },
-        ],
-        records: 307,
-        files: Heard {
-            repeats: 2,
-            ..FILES
-        },
-        ..NO_LOSS
-    },
-];
-
-/// What the report says.
-fn numbers_of(heard: &Heard<'_>) -> Numbers {
-    Numbers {
-        heard: heard.heard,
-        repeats: heard.repeats,
-        gaps: heard.gaps,
-        units: heard.datagrams.len() as u64,
-        bad_check: heard.bad_check,
-        datagrams: heard.datagrams.len() as u64,
-        ..Numbers::NONE
-    }
-}
-
-/// The rules at first, and exchanged.
-const RULES: &[(&str, u64)] = &[("239.1.0.0/16", 0), ("239.2.0.0/16", 1)];
-
-const EXCHANGED: &[(&str, u64)] = &[("239.2.0.0/16", 0), ("239.1.0.0/16", 1)];
-
-/// What comes of a loss is what must come.
-fn comes(alloc: Global, stream: &[u8], loss: &Loss<'_>) -> Result<(), Fail> {
-    let services = [
-        Delivered {
-            name: "lecture",
-            file: "lecture.pcap",
-            datagrams: loss.lecture.datagrams,
-            numbers: numbers_of(&loss.lecture),
-        },
-        Delivered {
-            name: "files",
-            file: "files.pcap",
-            datagrams: loss.files.datagrams,
-            numbers: numbers_of(&loss.files),
-        },
-    ];
-    let due = Due {
-        records: loss.records,
-        other: loss.other,
-        services: &services,
-        table: TableReport {
-            units: loss.tables,
-            refused: 0,
-            version: Some(loss.version),
-            rules: if loss.exchanged { EXCHANGED } else { RULES },
-        },
-    };
-    let recording = damaged(alloc, stream, 188, loss.harms)?;
-    comes_as_told(alloc, loss.name, &BOTH_MOVE, &recording, &due)
-}
+/// What happens to the stream, and what comes of it, in the columns of `harmed`.
+const LOSSES: &str = "nothing|
+the first INT|0|stream records=302 other=291|table units=3 version=3 rules 239.2.0.0/16 239.1.0.0/16
+# the next one puts version 2 in force
+the INT of version 1|100|stream records=302 other=292|files heard=3 units=3 gives 1 4 6|table units=3 version=3 rules 239.2.0.0/16 239.1.0.0/16
+a flipped bit in the INT of version 1|100@10^04|stream records=303 other=292|files heard=3 units=3 gives 1 4 6|table units=3 version=3 rules 239.2.0.0/16 239.1.0.0/16
+the INT of version 3|300|stream records=302 other=293|lecture heard=3 units=3 gives 0 2 5|files heard=3 units=3 gives 1 3-4|table units=3 version=2 rules 239.2.0.0/16 239.1.0.0/16
+all but the first INT|100 200 300|stream records=300 other=295|lecture heard=3 units=3 gives 0 2 5|files heard=1 units=1 gives 1|table units=1 version=0 rules 239.1.0.0/16 239.2.0.0/16
+the whole of part 1|100-199|stream records=203 other=194|lecture heard=3 gaps=1 units=3 gives 0 5 7|files heard=3 units=3 gives 1 4 6|table units=3 version=3 rules 239.2.0.0/16 239.1.0.0/16
+a packet of a service that stays|101|stream records=302 other=291|lecture heard=3 gaps=1 units=3 gives 0 5 7
+a flipped bit in a file|202@100^01|files heard=4 units=3 bad_check=1 gives 1 3 6
+an INT and the last packet come three times|200*3 302*3|stream records=307 other=291|files heard=4 repeats=2 units=4 gives 1 3-4 6";
 
 /// The loss law over the parts of a stream: each service's datagrams come unchanged, in order, each at most once, and each whose unit
 /// arrived whole while the version in force had the service on its PID.
 #[test]
 fn what_arrives_whole_is_delivered_over_changes(rt: HostRuntime) -> Result<(), Fail> {
-    let stream = stream_of(rt.alloc(), &BOTH_MOVE)?;
-    for loss in &LOSSES {
-        comes(rt.alloc(), &stream, loss)?;
-    }
-    Ok(())
+    let stream = stream_of(rt.alloc(), BOTH, EIGHT)?;
+    all_come(rt.alloc(), &RECEPTION, &stream, 188, LOSSES)
 }

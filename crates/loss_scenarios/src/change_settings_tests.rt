@@ -1,164 +1,78 @@
-//! What `check` says of settings with changes: their lines, or the line of their fault.
-use crate::change_plans::{CYCLE, MOVED, MOVED_TWICE};
+//! What `check` says of settings with changes: their lines, or the fault in them.
+use crate::settings_words::settings_of;
 use scenario_runs::{Status, expect};
-use std::alloc::Global;
+use std::alloc::{AllocError as OutOfMemory, Global};
 use std::test::Fail;
-use test_recordings::settings::{FILES, INT, LECTURE, settings_of};
 use test_recordings::{Left, faultless};
 
-/// Settings, and how the run ends.
-#[derive(Clone, Copy)]
-struct Case<'a> {
-    settings: &'a [&'a str],
-    status: Status,
-    output: &'a str,
-    line: &'a str,
+/// Settings as words, and after a bar what `check` says: `lists` with the lines of services as they are at first, and after them those of
+/// each change, `;` between them, or `fault` with what the line has.
+const CASES: &str =
+    "INT LECTURE FILES [[change]] at=2 [[change.service]] name=files pid=514 [[change]] at=3 [[change.service]] name=files pid=515|lists lecture mpe 512;files ule 513;change 2;files ule 514;change 3;files ule 515
+# rules alone: the PID stays; services in the change's order
+INT LECTURE FILES [[change]] at=4194304 [[change.service]] name=files rules=239.1.0.0/16 [[change.service]] name=lecture pid=514|lists lecture mpe 512;files ule 513;change 4194304;files ule 513;lecture mpe 514
+cycle=100 INT FILES MOVED MOVED|fault 14
+# the INT's PID, that of another service, in any version, and one that was left
+INT FILES [[change]] at=3 [[change.service]] name=files pid=600|fault 14
+INT LECTURE FILES [[change]] at=9 [[change.service]] name=files pid=512|fault 14
+INT LECTURE FILES [[change]] at=3 [[change.service]] name=lecture pid=700 [[change]] at=9 [[change.service]] name=files pid=512|fault 14
+INT FILES MOVED [[change]] at=9 [[change.service]] name=files pid=513|fault 14
+# an unknown name, and one that stands twice
+INT FILES [[change]] at=3 [[change.service]] name=file|fault 14
+INT FILES MOVED [[change.service]] name=files|fault 14
+FILES MOVED|fault 2 int
+carrier=bb INT [[service]] name=files kind=gse isi=0 rules=239.2.0.0/16 MOVED|fault 12
+INT FILES [[change]] at=1 [[change.service]] name=files|fault 4 at
+INT FILES [[change]] at=3|fault 2 service
+# checks of all versions: rules, and a first check before this one
+INT FILES [[change]] at=3 [[change.service]] name=files rules=[]|fault 7
+INT FILES FILES MOVED MOVED|fault 6";
+
+/// Lines with a `;` between.
+fn lines_of(alloc: Global, lines: &str) -> Result<String, OutOfMemory> {
+    let mut text = String::new(alloc);
+    for line in lines.split(';') {
+        write!(&mut text, "{line}\n")?;
+    }
+    Ok(text)
 }
 
-/// The lines of services as they are at first, and after them those of each change.
-const LISTED: Case = Case {
-    settings: &[INT, LECTURE, FILES, MOVED_TWICE],
-    status: Status::Done,
-    output: "lecture mpe 512\nfiles ule 513\nchange 2\nfiles ule 514\nchange 3\nfiles ule 515\n",
-    line: "",
-};
+/// The line of a fault.
+fn fault_of(alloc: Global, said: &str) -> Result<String, OutOfMemory> {
+    Ok(format!(in alloc; "ipencap: settings {said}\n")?)
+}
 
-const REFUSED: Case = Case {
-    status: Status::Settings,
-    output: "",
-    line: "ipencap: settings 14\n",
-    ..LISTED
-};
-
-/// A change of the files to this PID.
-const TO_LECTURE: &str = "[[change]]\nat = 9\n[[change.service]]\nname = \"files\"\npid = 512\n";
-
-static CASES: [Case; 15] = [
-    LISTED,
-    // rules alone: the PID stays; services in the change's order
-    Case {
-        settings: &[
-            INT,
-            LECTURE,
-            FILES,
-            "[[change]]\nat = 4194304\n[[change.service]]\nname = \"files\"\nrules = [\"239.1.0.0/16\"]\n",
-            "[[change.service]]\nname = \"lecture\"\npid = 514\n",
-        ],
-        output: "lecture mpe 512\nfiles ule 513\nchange 4194304\nfiles ule 513\nlecture mpe 514\n",
-        ..LISTED
-    },
-    Case {
-        settings: &[CYCLE, INT, FILES, MOVED, MOVED],
-        ..REFUSED
-    },
-    // the INT's PID, that of another service, in any version, and one that was left
-    Case {
-        settings: &[
-            INT,
-            FILES,
-            "[[change]]\nat = 3\n[[change.service]]\nname = \"files\"\npid = 600\n",
-        ],
-        ..REFUSED
-    },
-    Case {
-        settings: &[INT, LECTURE, FILES, TO_LECTURE],
-        ..REFUSED
-    },
-    Case {
-        settings: &[
-            INT,
-            LECTURE,
-            FILES,
-            "[[change]]\nat = 3\n[[change.service]]\nname = \"lecture\"\npid = 700\n",
-            TO_LECTURE,
-        ],
-        ..REFUSED
-    },
-    Case {
-        settings: &[
-            INT,
-            FILES,
-            MOVED,
-            "[[change]]\nat = 9\n[[change.service]]\nname = \"files\"\npid = 513\n",
-        ],
-        ..REFUSED
-    },
-    // an unknown name, and one that stands twice
-    Case {
-        settings: &[
-            INT,
-            FILES,
-            "[[change]]\nat = 3\n[[change.service]]\nname = \"file\"\n",
-        ],
-        ..REFUSED
-    },
-    Case {
-        settings: &[INT, FILES, MOVED, "[[change.service]]\nname = \"files\"\n"],
-        ..REFUSED
-    },
-    Case {
-        settings: &[FILES, MOVED],
-        line: "ipencap: settings 2 int\n",
-        ..REFUSED
-    },
-    Case {
-        settings: &[
-            "carrier = \"bb\"\n",
-            INT,
-            "[[service]]\nname = \"files\"\nkind = \"gse\"\nisi = 0\nrules = [\"239.2.0.0/16\"]\n",
-            MOVED,
-        ],
-        line: "ipencap: settings 12\n",
-        ..REFUSED
-    },
-    Case {
-        settings: &[
-            INT,
-            FILES,
-            "[[change]]\nat = 1\n[[change.service]]\nname = \"files\"\n",
-        ],
-        line: "ipencap: settings 4 at\n",
-        ..REFUSED
-    },
-    Case {
-        settings: &[INT, FILES, "[[change]]\nat = 3\n"],
-        line: "ipencap: settings 2 service\n",
-        ..REFUSED
-    },
-    // checks of all versions: rules, and a first check before this one
-    Case {
-        settings: &[
-            INT,
-            FILES,
-            "[[change]]\nat = 3\n[[change.service]]\nname = \"files\"\nrules = []\n",
-        ],
-        line: "ipencap: settings 7\n",
-        ..REFUSED
-    },
-    Case {
-        settings: &[INT, FILES, FILES, MOVED, MOVED],
-        line: "ipencap: settings 6\n",
-        ..REFUSED
-    },
-];
-
-/// Checks the settings of a case, and compares all that is left.
-fn ends_as_told(alloc: Global, case: &Case<'_>) -> Result<(), Fail> {
-    let settings = settings_of(alloc, case.settings)?;
+/// Checks the settings of words, and compares all that is left.
+fn ends(alloc: Global, words: &str, status: Status, output: &str, line: &str) -> Result<(), Fail> {
+    let settings = settings_of(alloc, words)?;
     let left = Left {
-        output: case.output.as_bytes(),
-        flushed: case.output.len(),
-        line: case.line,
+        output: output.as_bytes(),
+        flushed: output.len(),
+        line,
         files: &[],
     };
     let given = faultless(&["check", "a.toml"], settings.as_bytes(), &[]);
-    expect(alloc, case.line, &given, case.status, &left)
+    expect(alloc, words, &given, status, &left)
+}
+
+/// The settings of a line are listed, or have the fault that it says.
+fn line_ends(alloc: Global, case: &str) -> Result<(), Fail> {
+    if case.starts_with("#") {
+        return Ok(());
+    }
+    let (words, rest) = case.split_once('|').ok_or("no end")?;
+    let (end, said) = rest.split_once(' ').ok_or("one word")?;
+    match end {
+        "lists" => ends(alloc, words, Status::Done, &lines_of(alloc, said)?, ""),
+        "fault" => ends(alloc, words, Status::Settings, "", &fault_of(alloc, said)?),
+        _ => Err("no such end".into()),
+    }
 }
 
 #[test]
 fn changes_are_listed_or_have_the_line_of_their_fault(rt: HostRuntime) -> Result<(), Fail> {
-    for case in &CASES {
-        ends_as_told(rt.alloc(), case)?;
+    for case in CASES.lines() {
+        line_ends(rt.alloc(), case)?;
     }
     Ok(())
 }

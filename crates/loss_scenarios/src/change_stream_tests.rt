@@ -1,93 +1,86 @@
 //! The stream of a plan that changes, packet by packet (ISO/IEC 13818-1 clause 2.4.3.2).
-use crate::change_plans::{BOTH_MOVE, FILES_MOVE, Sent, records_of, stream_of};
+use crate::change_plans::{BOTH, EIGHT, FOUR_FILES, ONCE, records_of, stream_of};
+use crate::words::{end_of, take};
+use std::alloc::Global;
 use std::test::Fail;
+use test_recordings::{bytes_of, is_piece};
 
-/// A slot, and the head of its packet: PID, whether a unit starts in it, counter.
-type Head = (usize, [u8; 4]);
-
-/// A stream: how many packets it has, and those that are no null packets; the version of each INT.
-#[derive(Clone, Copy)]
-struct Case<'a> {
-    name: &'a str,
-    sent: &'a Sent,
-    packets: usize,
-    heads: &'a [Head],
-    versions: &'a [(usize, u8)],
-}
-
+/// The packets that are no null packets, a line each: the slot; the head, with PID, whether a unit starts in it, and counter; byte 10 of an
+/// INT's packet.
+///
 /// version_number stands in bits 1 to 5 of byte 5 of a section, which is byte 10 of the packet, between the two reserved bits and
 /// current_next_indicator (clause 2.4.4). Counters of a new PID begin at 0, those of the INT and of a PID that stays go on.
-static CASES: [Case; 2] = [
-    Case {
-        name: "the files move",
-        sent: &FILES_MOVE,
-        packets: 103,
-        heads: &[
-            (0, [0x47, 0x42, 0x58, 0x10]),
-            (1, [0x47, 0x42, 0x01, 0x10]),
-            (2, [0x47, 0x02, 0x01, 0x11]),
-            (100, [0x47, 0x42, 0x58, 0x11]),
-            (101, [0x47, 0x42, 0x02, 0x10]),
-            (102, [0x47, 0x02, 0x02, 0x11]),
-        ],
-        versions: &[(0, 0xC1), (100, 0xC3)],
-    },
-    Case {
-        name: "both services move",
-        sent: &BOTH_MOVE,
-        packets: 303,
-        heads: &[
-            (0, [0x47, 0x42, 0x58, 0x10]),
-            (1, [0x47, 0x42, 0x00, 0x10]),
-            (2, [0x47, 0x42, 0x01, 0x10]),
-            (100, [0x47, 0x42, 0x58, 0x11]),
-            (101, [0x47, 0x42, 0x00, 0x11]),
-            (102, [0x47, 0x42, 0x02, 0x10]),
-            (200, [0x47, 0x42, 0x58, 0x12]),
-            (201, [0x47, 0x42, 0x00, 0x12]),
-            (202, [0x47, 0x42, 0x02, 0x11]),
-            (300, [0x47, 0x42, 0x58, 0x13]),
-            (301, [0x47, 0x42, 0xC8, 0x10]),
-            (302, [0x47, 0x42, 0x03, 0x10]),
-        ],
-        versions: &[(0, 0xC1), (100, 0xC3), (200, 0xC5), (300, 0xC7)],
-    },
-];
+const FILES_MOVE: &str = "0 47425810 C1
+1 47420110
+2 47020111
+100 47425811 C3
+101 47420210
+102 47020211";
+
+const BOTH_MOVE: &str = "0 47425810 C1
+1 47420010
+2 47420110
+100 47425811 C3
+101 47420011
+102 47420210
+200 47425812 C5
+201 47420012
+202 47420211
+300 47425813 C7
+301 4742C810
+302 47420310";
 
 /// The head of a null packet.
-const NULL: [u8; 4] = [0x47, 0x1F, 0xFF, 0x10];
+const NULL: &str = "471FFF10";
 
-/// The head that a slot must have.
-fn head_at(heads: &[Head], slot: usize) -> [u8; 4] {
-    for (place, head) in heads {
-        if *place == slot {
-            return *head;
-        }
-    }
-    NULL
+/// What a slot must have, and the lines after its own.
+fn at_slot<'a>(alloc: Global, lines: &'a str, slot: usize) -> Result<(&'a str, &'a str), Fail> {
+    let slot = format!(in alloc; "{slot}")?;
+    Ok(take(lines, &slot, " ", "\n", NULL))
+}
+
+/// Whether a packet has the head and the version of a line.
+fn is_told(alloc: Global, packet: &[u8], words: &str) -> Result<bool, Fail> {
+    let (head, version) = words.split_once(' ').unwrap_or((words, ""));
+    let head = bytes_of(alloc, head)?;
+    let version = bytes_of(alloc, version)?;
+    Ok(is_piece(packet, 0, &head) && is_piece(packet, 10, &version))
 }
 
 /// The first slot of a stream with another head or another version, or how many packets there are.
-fn difference(stream: &[u8], case: &Case<'_>) -> Result<usize, Fail> {
-    for slot in 0..case.packets {
-        let packet = records_of(stream, slot, slot)?;
-        if !packet.starts_with(&head_at(case.heads, slot)) {
+fn difference(alloc: Global, stream: &[u8], packets: usize, lines: &str) -> Result<usize, Fail> {
+    let mut rest = lines;
+    for slot in 0..packets {
+        let (words, after) = at_slot(alloc, rest, slot)?;
+        if !is_told(alloc, records_of(stream, slot, slot)?, words)? {
             return Ok(slot);
         }
+        rest = after;
     }
-    for (slot, byte) in case.versions {
-        if records_of(stream, *slot, *slot)?.get(10) != Some(byte) {
-            return Ok(*slot);
-        }
-    }
+    end_of(rest)?;
     Ok(stream.len() / 188)
+}
+
+/// The stream of a list of datagrams has so many packets, those of the lines and null packets.
+fn goes_out(
+    alloc: Global,
+    case: &str,
+    settings: &str,
+    list: &str,
+    packets: usize,
+    lines: &str,
+) -> Result<(), Fail> {
+    let stream = stream_of(alloc, settings, list)?;
+    let slot = difference(alloc, &stream, packets, lines)?;
+    if slot != packets {
+        return Err(Fail::new(format_args!("{case}: slot {slot}")));
+    }
+    Ok(())
 }
 
 #[test]
 fn a_part_follows_the_cycle_of_the_part_before_it(rt: HostRuntime) -> Result<(), Fail> {
-    for case in &CASES {
-        let stream = stream_of(rt.alloc(), case.sent)?;
-        assert_eq!(rt; difference(&stream, case)?, case.packets, "{}", case.name);
-    }
-    Ok(())
+    let alloc = rt.alloc();
+    goes_out(alloc, "the files move", ONCE, FOUR_FILES, 103, FILES_MOVE)?;
+    goes_out(alloc, "both services move", BOTH, EIGHT, 303, BOTH_MOVE)
 }

@@ -1,65 +1,45 @@
-//! A unit in pieces -> its packets, and a right one after them; numbers -> what must be left: the capture and the report.
-use scenario_runs::{Status, expect};
+//! Units by hand, as text, and what comes of them and of a right one after them.
+//!
+//! A line has columns with `|` between: the name of a case; the kind of the service, `ule`, `mpe` or `fec`; the pointer field; the unit; and
+//! the columns of `received`, where datagram 0 is that of the right unit. A unit is hexadecimal digits, with `*` and how often they come;
+//! `100 of` before it says how often it comes itself.
+use crate::received::{Reception, comes};
 use std::alloc::{AllocError as OutOfMemory, Global};
 use std::test::Fail;
-use test_recordings::units::CAPTURE;
-use test_recordings::{FileLeft, Left, faultless, go_on, start};
+use test_recordings::{bytes_of, go_on, start};
 
-/// The head of a capture has 24 bytes.
-const HEAD: usize = 24;
-
-/// Settings of a service `files` on PID 256, and a unit of it with `units::DATAGRAM`.
+/// What is received of a service on PID 256, and a right unit of it.
 #[derive(Clone, Copy)]
-pub struct Kind<'a> {
-    pub settings: &'a str,
-    pub right: &'a [u8],
+struct Kind {
+    settings: &'static str,
+    right: &'static str,
 }
 
-/// So many times these bytes.
-#[derive(Clone, Copy)]
-pub struct Piece<'a> {
-    pub bytes: &'a [u8],
-    pub times: usize,
-}
+/// SNDUs (RFC 4326 section 4).
+const SNDUS: Kind = Kind {
+    settings: "[[service]] name=files kind=ule pid=256 rules=239.1.0.0/16",
+    right: "80180800 450000140000000040110000 0A000001EF010203 64AEE84A",
+};
 
-/// What the report says of the service. What is not named is 0.
-#[derive(Clone, Copy)]
-pub struct Numbers {
-    pub heard: u64,
-    pub units: u64,
-    pub delimited: u64,
-    pub bad_length: u64,
-    pub unread: u64,
-    pub frames: u64,
-    pub rows_mended: u64,
-    pub datagrams: u64,
-}
+/// datagram_sections (EN 301 192 clause 7).
+const SECTIONS: Kind = Kind {
+    settings: "[[service]] name=files kind=mpe pid=256 rules=239.1.0.0/16",
+    right: "3EB021 0302 C1 0000 015E0001 450000140000000040110000 0A000001EF010203 599A2733",
+};
 
-/// A unit with the pointer field before it, and what is reported of it and of the right one.
-#[derive(Clone, Copy)]
-pub struct Case<'a> {
-    pub name: &'a str,
-    pub kind: &'a Kind<'a>,
-    pub pointer: u8,
-    pub unit: &'a [Piece<'a>],
-    pub numbers: Numbers,
-}
+/// MPE-FEC frames (clause 9), of which the right unit is a whole one: a datagram at address 0, with table_boundary and frame_boundary.
+const FRAMES: Kind = Kind {
+    settings: "[[service]] name=files kind=fec pid=256 mode=indexed rows=256 rules=239.1.0.0/16",
+    right: "3EB021 0302 C1 0000 000C0000 450000140000000040110000 0A000001EF010203 351DD0DA",
+};
 
-/// The bytes of a unit.
-fn unit_of(alloc: Global, pieces: &[Piece<'_>]) -> Result<Vec<u8>, OutOfMemory> {
-    let mut unit = Vec::new(alloc);
-    for piece in pieces {
-        put_piece(&mut unit, piece)?;
+fn kind_of(word: &str) -> Result<Kind, Fail> {
+    match word {
+        "ule" => Ok(SNDUS),
+        "mpe" => Ok(SECTIONS),
+        "fec" => Ok(FRAMES),
+        _ => Err("no such kind".into()),
     }
-    Ok(unit)
-}
-
-/// Appends a piece.
-fn put_piece(into: &mut Vec<u8>, piece: &Piece<'_>) -> Result<(), OutOfMemory> {
-    for _ in 0..piece.times {
-        into.extend_from_slice(piece.bytes)?;
-    }
-    Ok(())
 }
 
 /// The counter of the packet after these.
@@ -76,89 +56,39 @@ fn put_packets(packets: &mut Vec<u8>, pointer: u8, unit: &[u8]) -> Result<(), Ou
     Ok(())
 }
 
-/// The packets of so many units, one like the other, and one with the right unit after them.
-fn recording_of(alloc: Global, case: &Case<'_>, times: usize) -> Result<Vec<u8>, OutOfMemory> {
-    let unit = unit_of(alloc, case.unit)?;
-    let mut recording = Vec::new(alloc);
-    for _ in 0..times {
-        put_packets(&mut recording, case.pointer, &unit)?;
+/// Appends the packets of a unit as often as it comes.
+fn put_unit(alloc: Global, packets: &mut Vec<u8>, pointer: u8, unit: &str) -> Result<(), Fail> {
+    let (times, digits) = unit.split_once(" of ").unwrap_or(("1", unit));
+    let unit = bytes_of(alloc, digits)?;
+    for _ in 0..times.parse::<u16>()? {
+        put_packets(packets, pointer, &unit)?;
     }
-    put_packets(&mut recording, 0, case.kind.right)?;
+    Ok(())
+}
+
+/// The packets of a unit, and one with the right unit after them.
+fn recording_of(alloc: Global, kind: &Kind, pointer: u8, unit: &str) -> Result<Vec<u8>, Fail> {
+    let mut recording = Vec::new(alloc);
+    put_unit(alloc, &mut recording, pointer, unit)?;
+    put_unit(alloc, &mut recording, 0, kind.right)?;
     Ok(recording)
 }
 
-/// The capture of so many copies of the right unit's datagram.
-fn capture_of(alloc: Global, times: u64) -> Result<Vec<u8>, OutOfMemory> {
-    let mut capture = Vec::from_slice(alloc, &CAPTURE[..HEAD])?;
-    for _ in 0..times {
-        capture.extend_from_slice(&CAPTURE[HEAD..])?;
+/// Receives the packets of a line: what comes is what it says.
+pub fn the_right_unit_comes(alloc: Global, line: &str) -> Result<(), Fail> {
+    if line.starts_with("#") {
+        return Ok(());
     }
-    Ok(capture)
-}
-
-/// The report.
-fn report_of(alloc: Global, numbers: &Numbers) -> Result<String, OutOfMemory> {
-    let lines = [
-        ("stream,records", numbers.heard),
-        ("stream,tail_bytes", 0),
-        ("stream,unreadable", 0),
-        ("stream,without_payload", 0),
-        ("stream,other", 0),
-        ("files,heard", numbers.heard),
-        ("files,repeats", 0),
-        ("files,gaps", 0),
-        ("files,units", numbers.units),
-        ("files,bad_check", 0),
-        ("files,delimited", numbers.delimited),
-        ("files,bad_length", numbers.bad_length),
-        ("files,unread", numbers.unread),
-        ("files,filtered", 0),
-        ("files,frames", numbers.frames),
-        ("files,rows_mended", numbers.rows_mended),
-        ("files,rows_left", 0),
-        ("files,datagrams", numbers.datagrams),
-    ];
-    let mut text = "scope,name,value\n".to_string(alloc)?;
-    for (name, number) in lines {
-        write!(&mut text, "{name},{number}\n")?;
-    }
-    Ok(text)
-}
-
-/// Receives a recording: the right unit's datagram comes so many times, nothing else, and this is reported.
-fn comes(
-    alloc: Global,
-    case: &Case<'_>,
-    recording: &[u8],
-    capture: &[u8],
-    report: &str,
-) -> Result<(), Fail> {
-    let files = [FileLeft {
-        name: "files.pcap",
-        bytes: capture,
-        flushed: capture.len(),
-    }];
-    let left = Left {
-        output: report.as_bytes(),
-        flushed: report.len(),
-        line: "",
-        files: &files,
+    let (case, rest) = line.split_once('|').ok_or("no kind")?;
+    let (kind, rest) = rest.split_once('|').ok_or("no pointer")?;
+    let (pointer, rest) = rest.split_once('|').ok_or("no unit")?;
+    let (unit, columns) = rest.split_once('|').ok_or("no columns")?;
+    let kind = kind_of(kind)?;
+    let recording = recording_of(alloc, &kind, pointer.parse()?, unit)?;
+    let reception = Reception {
+        settings: kind.settings,
+        services: &[("files", "239.1.2.3:20")],
+        whole: "",
     };
-    let settings = case.kind.settings.as_bytes();
-    let given = faultless(&["receive", "a.toml"], settings, recording);
-    expect(alloc, case.name, &given, Status::Done, &left)
-}
-
-/// Receives so many units of a case and the right one: its datagram comes as often as the numbers say, nothing else, and they are
-/// reported.
-pub fn the_datagrams_come(alloc: Global, case: &Case<'_>, times: usize) -> Result<(), Fail> {
-    let recording = recording_of(alloc, case, times)?;
-    let capture = capture_of(alloc, case.numbers.datagrams)?;
-    let report = report_of(alloc, &case.numbers)?;
-    comes(alloc, case, &recording, &capture, &report)
-}
-
-/// Receives the packets of a case: the right unit's datagram comes, nothing else, and the numbers are reported.
-pub fn the_right_unit_comes(alloc: Global, case: &Case<'_>) -> Result<(), Fail> {
-    the_datagrams_come(alloc, case, 1)
+    comes(alloc, case, &reception, &recording, columns)
 }

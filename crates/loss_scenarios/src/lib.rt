@@ -2,7 +2,7 @@
 //! of it.
 //!
 //! Tests alone. Begin with `pair` and `change_plans`, which say what is sent; `pair_losses`, `change_moves`, `change_losses` and
-//! `hostile_cases` are the tables of what happens to it.
+//! `hostile_cases` are the tables of what happens to it, and `received` says how they are read.
 #![tactic(auto)]
 
 #[cfg(test)]
@@ -12,15 +12,15 @@ mod change_moves;
 #[cfg(test)]
 mod change_plans;
 #[cfg(test)]
-mod change_received;
-#[cfg(test)]
 mod change_settings_tests;
 #[cfg(test)]
 mod change_stream_tests;
 #[cfg(test)]
-mod hostile_cases;
+mod datagrams;
 #[cfg(test)]
-mod hostile_columns;
+mod harmed;
+#[cfg(test)]
+mod hostile_cases;
 #[cfg(test)]
 mod hostile_received;
 #[cfg(test)]
@@ -30,4 +30,8 @@ mod pair_fault_tests;
 #[cfg(test)]
 mod pair_losses;
 #[cfg(test)]
-mod pair_tests;
+mod received;
+#[cfg(test)]
+mod settings_words;
+#[cfg(test)]
+mod words;

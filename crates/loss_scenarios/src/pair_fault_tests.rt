@@ -1,5 +1,6 @@
 //! Each call of each object fails in turn while a recording is received.
-use crate::pair::{settings_of_pair, stream_of_pair};
+use crate::pair::{SETTINGS, stream_of_pair};
+use crate::settings_words::settings_of;
 use scenario_runs::{Ended, Status, ran};
 use std::alloc::Global;
 use std::test::Fail;
@@ -52,8 +53,8 @@ struct Pair {
 }
 
 fn sent_pair(alloc: Global) -> Result<Pair, Fail> {
-    let settings = settings_of_pair(alloc, "", "", "")?;
-    let stream = stream_of_pair(alloc, &settings)?;
+    let settings = settings_of(alloc, SETTINGS)?;
+    let stream = stream_of_pair(alloc, SETTINGS)?;
     Ok(Pair { settings, stream })
 }
 

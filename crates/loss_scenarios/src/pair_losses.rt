@@ -16,551 +16,116 @@
 //! | 8 | files, counter 3 | its last 184 bytes |
 //! | 9, 11, .. 27 | files, counters 4, 6, .. | 183 bytes of SNDU 4, 5, .. 13 |
 //! | 10, 12, .. 28 | files, counters 5, 7, .. | its last 184 bytes |
-use crate::pair::{ALL_FILES, ALL_LECTURE};
-use test_recordings::Harm::{self, Cut, Drop, Flip, Repeat};
-use test_recordings::settings::STAMPED as STAMPED_LINE;
+use crate::harmed::all_come;
+use crate::pair::{SERVICES, SETTINGS, stream_of_pair};
+use crate::received::{Reception, comes};
+use std::alloc::Global;
+use std::test::Fail;
 
-/// The form of a recording: its line in the settings, and how many bytes a record has.
-#[derive(Clone, Copy)]
-pub struct Form {
-    pub line: &'static str,
-    pub size: usize,
+/// What comes where nothing is lost.
+const WHOLE: &str =
+    "stream records=29|lecture heard=4 units=3 gives 0-2|files heard=24 units=14 gives 0-13|table units=1 rules 239.1.0.0/16 239.2.0.0/16";
+
+/// Recordings of packets, in the columns of `harmed`.
+const PLAIN: &str = "nothing|
+# no packet of the service comes before the gap
+the first packet of the files|2|stream records=28|files heard=23 units=13 gives 1-13
+# SNDU 1 and the start of SNDU 2: neither was under way
+a packet behind a whole unit|4|stream records=28|files heard=23 gaps=1 units=12 gives 0 3-13
+packets of both services|3-4 9|stream records=26|lecture heard=3 gaps=1 units=2 delimited=1 gives 0 2|files heard=22 gaps=2 units=11 gives 0 3 5-13
+packets come twice, three times and four times|1*2 4*3 6*4|stream records=35|lecture heard=4 repeats=1 units=3 gives 0-2|files heard=24 repeats=5 units=14 gives 0-13
+a bit of a section, and one of an SNDU|3@50^01 10@100^80|lecture heard=4 units=2 bad_check=1 gives 0 2|files heard=24 units=13 bad_check=1 gives 0-3 5-13
+# bytes 5 and 6 are Length of SNDU 1, 111 for 110: it takes a byte of SNDU 2, which then begins with 0x6E 0x08: 28,168 bytes
+a bit of a Length|4@6^01|files heard=24 units=12 bad_check=1 delimited=1 gives 0 3-13
+transport_error_indicator|6@1^80|stream records=29 unreadable=1|files heard=23 gaps=1 units=12 delimited=1 gives 0-1 4-13
+# SNDU 2 takes the pointer for its own byte, and where SNDU 3 begins is not told
+payload_unit_start_indicator|6@1^40|files heard=24 units=12 bad_check=1 gives 0-1 4-13
+transport_priority|6@1^20
+# a gap before it and one after it, and SNDU 2 is under way at the second
+continuity_counter|4@3^01|files heard=24 gaps=2 units=13 delimited=1 gives 0-1 3-13
+# the packet of the files with counter 1 comes after the one of the lecture with counter 1: a gap, at which section 1 is under way.
+# There 0x00 0x6E 0x08 begin a section of 3,595 bytes, which the next packet ends at its pointer
+the PID: 512 for 513|4@2^01|lecture heard=5 gaps=1 units=2 delimited=2 gives 0 2|files heard=23 gaps=1 units=12 gives 0 3-13
+the sync byte|9@0^01|stream records=29 unreadable=1|files heard=23 gaps=1 units=13 gives 0-3 5-13
+all packets of the lecture|1 3 5 7|stream records=25|lecture heard=0
+the INT|0|stream records=28|table units=0
+# SNDUs 4 to 11: the counter goes on as if nothing was lost
+16 packets, from the start of a unit on|9-24|stream records=13|files heard=8 units=6 gives 0-3 12-13";
+
+/// Recordings with 8 bytes of time before each packet.
+const STAMPED: &str = "nothing, stamped|
+the end of a unit|8|stream records=28|files heard=23 gaps=1 units=13 delimited=1 gives 0-2 4-13
+the sync byte, stamped|9@8^20|stream records=29 unreadable=1|files heard=23 gaps=1 units=13 gives 0-3 5-13
+a time of the day|9@3^01
+# Profile: 2^62 microseconds are no moment, and the record is not read
+a time that is none|9@0^40|stream records=29 unreadable=1|files heard=23 gaps=1 units=13 gives 0-3 5-13
+all packets of the files|2 4 6 8-28|stream records=5|files heard=0";
+
+/// Recordings with 4 bytes of time before each packet.
+const M2TS: &str = "nothing, m2ts|
+# SNDU 2 is under way, and the start of SNDU 3 is lost
+a packet in which one unit ends and another begins|6|stream records=28|files heard=23 gaps=1 units=12 delimited=1 gives 0-1 4-13
+packets come twice, m2ts|0-28*2|stream records=58|lecture heard=4 repeats=4 units=3 gives 0-2|files heard=24 repeats=24 units=14 gives 0-13
+the end of the recording|28@100|stream records=28 tail_bytes=100|files heard=23 units=13 gives 0-12
+# the first bytes of SNDU 4 and the last of SNDU 12 make a unit, whose check fails
+16 packets, from the middle of a unit on|10-25|stream records=13|files heard=8 units=5 bad_check=1 gives 0-3 13";
+
+/// What comes under the settings of words.
+fn reception_of(settings: &str) -> Reception<'_> {
+    Reception {
+        settings,
+        services: &SERVICES,
+        whole: WHOLE,
+    }
 }
 
-const PLAIN: Form = Form {
-    line: "",
-    size: 188,
-};
-
-/// 8 bytes of time before each packet.
-const STAMPED: Form = Form {
-    line: STAMPED_LINE,
-    size: 196,
-};
-
-/// 4 bytes of time before each packet.
-const M2TS: Form = Form {
-    line: "recording = \"m2ts\"\n",
-    size: 192,
-};
-
-/// What a recording gives of a service: the numbers of the datagrams, and what the report says.
-#[derive(Clone, Copy)]
-pub struct Delivered<'a> {
-    pub datagrams: &'a [u8],
-    pub heard: u64,
-    pub repeats: u64,
-    pub gaps: u64,
-    pub units: u64,
-    pub bad_check: u64,
-    pub delimited: u64,
-    pub filtered: u64,
+/// What comes of the stream under these settings, with records of this size, is what each line of a table says.
+fn pair_comes<'a>(
+    alloc: Global,
+    settings: &'a str,
+    size: usize,
+    table: &'a str,
+) -> Result<(), Fail> {
+    let stream = stream_of_pair(alloc, settings)?;
+    all_come(alloc, &reception_of(settings), &stream, size, table)
 }
 
-/// What happens to a recording, and what is received of it.
-#[derive(Clone, Copy)]
-pub struct Loss<'a> {
-    pub name: &'a str,
-    pub form: Form,
-    pub harms: &'a [Harm],
-    pub records: u64,
-    pub tail_bytes: u64,
-    pub unreadable: u64,
-    /// Sections of the INT.
-    pub tables: u64,
-    pub lecture: Delivered<'a>,
-    pub files: Delivered<'a>,
+/// The loss law: each service's datagrams come unchanged, in order, each at most once, and each whose unit arrived whole.
+#[test]
+fn what_arrives_whole_is_delivered(rt: HostRuntime) -> Result<(), Fail> {
+    pair_comes(rt.alloc(), SETTINGS, 188, PLAIN)?;
+    pair_comes(
+        rt.alloc(),
+        "recording=stamped INT LECTURE FILES",
+        196,
+        STAMPED,
+    )?;
+    pair_comes(rt.alloc(), "recording=m2ts INT LECTURE FILES", 192, M2TS)
 }
 
-/// A service of which nothing comes.
-pub const NOTHING: Delivered = Delivered {
-    datagrams: &[],
-    heard: 0,
-    repeats: 0,
-    gaps: 0,
-    units: 0,
-    bad_check: 0,
-    delimited: 0,
-    filtered: 0,
-};
+/// The settings of the sender, those of the receiver, and what then comes of the whole stream.
+const FILTERS: &str =
+    "a filter|INT LECTURE FILES|INT LECTURE FILES filter=01:00:5E:02:00:02,01:00:5E:02:00:0C|files heard=24 units=14 filtered=12 gives 2 12
+a filter|INT LECTURE FILES|INT LECTURE filter=01:00:5E:00:00:02 FILES filter=01:00:5E:00:00:02|lecture heard=4 units=3 filtered=3|files heard=24 units=14 filtered=14
+a filter|INT LECTURE FILES|INT LECTURE filter=01:00:5E:01:00:01 FILES|lecture heard=4 units=3 filtered=2 gives 1
+a filter|INT LECTURE FILES address=false|INT LECTURE FILES
+a filter|INT LECTURE FILES address=false|INT LECTURE FILES filter=01:00:5E:00:00:02";
 
-/// The services without a loss.
-pub const WHOLE_LECTURE: Delivered = Delivered {
-    datagrams: &ALL_LECTURE,
-    heard: 4,
-    units: 3,
-    ..NOTHING
-};
+/// What comes of the stream of a sender is what a line says.
+fn filtered_comes(alloc: Global, line: &str) -> Result<(), Fail> {
+    let (case, rest) = line.split_once('|').ok_or("no sender")?;
+    let (sender, rest) = rest.split_once('|').ok_or("no receiver")?;
+    let (receiver, columns) = rest.split_once('|').unwrap_or((rest, ""));
+    let stream = stream_of_pair(alloc, sender)?;
+    comes(alloc, case, &reception_of(receiver), &stream, columns)
+}
 
-pub const WHOLE_FILES: Delivered = Delivered {
-    datagrams: &ALL_FILES,
-    heard: 24,
-    units: 14,
-    ..NOTHING
-};
-
-/// All arrives.
-pub const NO_LOSS: Loss = Loss {
-    name: "nothing",
-    form: PLAIN,
-    harms: &[],
-    records: 29,
-    tail_bytes: 0,
-    unreadable: 0,
-    tables: 1,
-    lecture: WHOLE_LECTURE,
-    files: WHOLE_FILES,
-};
-
-const NO_FILE_0: [u8; 13] = [1, 2, 3, 4, 5, 6, 7, 8, 9, 10, 11, 12, 13];
-
-const NO_FILE_2: [u8; 13] = [0, 1, 3, 4, 5, 6, 7, 8, 9, 10, 11, 12, 13];
-
-const NO_FILE_3: [u8; 13] = [0, 1, 2, 4, 5, 6, 7, 8, 9, 10, 11, 12, 13];
-
-const NO_FILE_4: [u8; 13] = [0, 1, 2, 3, 5, 6, 7, 8, 9, 10, 11, 12, 13];
-
-const NO_FILE_13: [u8; 13] = [0, 1, 2, 3, 4, 5, 6, 7, 8, 9, 10, 11, 12];
-
-const NO_FILES_1_2: [u8; 12] = [0, 3, 4, 5, 6, 7, 8, 9, 10, 11, 12, 13];
-
-const NO_FILES_2_3: [u8; 12] = [0, 1, 4, 5, 6, 7, 8, 9, 10, 11, 12, 13];
-
-const NO_FILES_1_2_4: [u8; 11] = [0, 3, 5, 6, 7, 8, 9, 10, 11, 12, 13];
-
-pub static LOSSES: [Loss; 27] = [
-    Loss {
-        name: "nothing",
-        ..NO_LOSS
-    },
-    Loss {
-        name: "nothing, stamped",
-        form: STAMPED,
-        ..NO_LOSS
-    },
-    Loss {
-        name: "nothing, m2ts",
-        form: M2TS,
-        ..NO_LOSS
-    },
-    // no packet of the service comes before the gap
-    Loss {
-        name: "the first packet of the files",
-        harms: &[Drop { first: 2, last: 2 }],
-        records: 28,
-        files: Delivered {
-            datagrams: &NO_FILE_0,
-            heard: 23,
-            units: 13,
-            ..NOTHING
-        },
-        ..NO_LOSS
-    },
-    // SNDU 1 and the start of SNDU 2: neither was under way
-    Loss {
-        name: "a packet behind a whole unit",
-        harms: &[Drop { first: 4, last: 4 }],
-        records: 28,
-        files: Delivered {
-            datagrams: &NO_FILES_1_2,
-            heard: 23,
-            gaps: 1,
-            units: 12,
-            ..NOTHING
-        },
-        ..NO_LOSS
-    },
-    // SNDU 2 is under way, and the start of SNDU 3 is lost
-    Loss {
-        name: "a packet in which one unit ends and another begins",
-        form: M2TS,
-        harms: &[Drop { first: 6, last: 6 }],
-        records: 28,
-        files: Delivered {
-            datagrams: &NO_FILES_2_3,
-            heard: 23,
-            gaps: 1,
-            units: 12,
-            delimited: 1,
-            ..NOTHING
-        },
-        ..NO_LOSS
-    },
-    Loss {
-        name: "the end of a unit",
-        form: STAMPED,
-        harms: &[Drop { first: 8, last: 8 }],
-        records: 28,
-        files: Delivered {
-            datagrams: &NO_FILE_3,
-            heard: 23,
-            gaps: 1,
-            units: 13,
-            delimited: 1,
-            ..NOTHING
-        },
-        ..NO_LOSS
-    },
-    Loss {
-        name: "packets of both services",
-        harms: &[Drop { first: 3, last: 4 }, Drop { first: 9, last: 9 }],
-        records: 26,
-        lecture: Delivered {
-            datagrams: &[0, 2],
-            heard: 3,
-            gaps: 1,
-            units: 2,
-            delimited: 1,
-            ..NOTHING
-        },
-        files: Delivered {
-            datagrams: &NO_FILES_1_2_4,
-            heard: 22,
-            gaps: 2,
-            units: 11,
-            ..NOTHING
-        },
-        ..NO_LOSS
-    },
-    Loss {
-        name: "packets come twice, three times and four times",
-        harms: &[
-            Repeat {
-                first: 1,
-                last: 1,
-                times: 2,
-            },
-            Repeat {
-                first: 4,
-                last: 4,
-                times: 3,
-            },
-            Repeat {
-                first: 6,
-                last: 6,
-                times: 4,
-            },
-        ],
-        records: 35,
-        lecture: Delivered {
-            datagrams: &ALL_LECTURE,
-            heard: 4,
-            repeats: 1,
-            units: 3,
-            ..NOTHING
-        },
-        files: Delivered {
-            datagrams: &ALL_FILES,
-            heard: 24,
-            repeats: 5,
-            units: 14,
-            ..NOTHING
-        },
-        ..NO_LOSS
-    },
-    Loss {
-        name: "packets come twice, m2ts",
-        form: M2TS,
-        harms: &[Repeat {
-            first: 0,
-            last: 28,
-            times: 2,
-        }],
-        records: 58,
-        lecture: Delivered {
-            datagrams: &ALL_LECTURE,
-            heard: 4,
-            repeats: 4,
-            units: 3,
-            ..NOTHING
-        },
-        files: Delivered {
-            datagrams: &ALL_FILES,
-            heard: 24,
-            repeats: 24,
-            units: 14,
-            ..NOTHING
-        },
-        ..NO_LOSS
-    },
-    Loss {
-        name: "a bit of a section, and one of an SNDU",
-        harms: &[
-            Flip {
-                record: 3,
-                place: 50,
-                bits: 1,
-            },
-            Flip {
-                record: 10,
-                place: 100,
-                bits: 0x80,
-            },
-        ],
-        lecture: Delivered {
-            datagrams: &[0, 2],
-            heard: 4,
-            units: 2,
-            bad_check: 1,
-            ..NOTHING
-        },
-        files: Delivered {
-            datagrams: &NO_FILE_4,
-            heard: 24,
-            units: 13,
-            bad_check: 1,
-            ..NOTHING
-        },
-        ..NO_LOSS
-    },
-    // bytes 5 and 6 are Length of SNDU 1, 111 for 110: it takes a byte of SNDU 2, which then begins with 0x6E 0x08: 28,168 bytes
-    Loss {
-        name: "a bit of a Length",
-        harms: &[Flip {
-            record: 4,
-            place: 6,
-            bits: 1,
-        }],
-        files: Delivered {
-            datagrams: &NO_FILES_1_2,
-            heard: 24,
-            units: 12,
-            bad_check: 1,
-            delimited: 1,
-            ..NOTHING
-        },
-        ..NO_LOSS
-    },
-    Loss {
-        name: "transport_error_indicator",
-        harms: &[Flip {
-            record: 6,
-            place: 1,
-            bits: 0x80,
-        }],
-        unreadable: 1,
-        files: Delivered {
-            datagrams: &NO_FILES_2_3,
-            heard: 23,
-            gaps: 1,
-            units: 12,
-            delimited: 1,
-            ..NOTHING
-        },
-        ..NO_LOSS
-    },
-    // SNDU 2 takes the pointer for its own byte, and where SNDU 3 begins is not told
-    Loss {
-        name: "payload_unit_start_indicator",
-        harms: &[Flip {
-            record: 6,
-            place: 1,
-            bits: 0x40,
-        }],
-        files: Delivered {
-            datagrams: &NO_FILES_2_3,
-            heard: 24,
-            units: 12,
-            bad_check: 1,
-            ..NOTHING
-        },
-        ..NO_LOSS
-    },
-    Loss {
-        name: "transport_priority",
-        harms: &[Flip {
-            record: 6,
-            place: 1,
-            bits: 0x20,
-        }],
-        ..NO_LOSS
-    },
-    // a gap before it and one after it, and SNDU 2 is under way at the second
-    Loss {
-        name: "continuity_counter",
-        harms: &[Flip {
-            record: 4,
-            place: 3,
-            bits: 1,
-        }],
-        files: Delivered {
-            datagrams: &NO_FILE_2,
-            heard: 24,
-            gaps: 2,
-            units: 13,
-            delimited: 1,
-            ..NOTHING
-        },
-        ..NO_LOSS
-    },
-    // the packet of the files with counter 1 comes after the one of the lecture with counter 1: a gap, at which section 1 is under
-    // way. There 0x00 0x6E 0x08 begin a section of 3,595 bytes, which the next packet ends at its pointer
-    Loss {
-        name: "the PID: 512 for 513",
-        harms: &[Flip {
-            record: 4,
-            place: 2,
-            bits: 1,
-        }],
-        lecture: Delivered {
-            datagrams: &[0, 2],
-            heard: 5,
-            gaps: 1,
-            units: 2,
-            delimited: 2,
-            ..NOTHING
-        },
-        files: Delivered {
-            datagrams: &NO_FILES_1_2,
-            heard: 23,
-            gaps: 1,
-            units: 12,
-            ..NOTHING
-        },
-        ..NO_LOSS
-    },
-    Loss {
-        name: "the sync byte",
-        harms: &[Flip {
-            record: 9,
-            place: 0,
-            bits: 1,
-        }],
-        unreadable: 1,
-        files: Delivered {
-            datagrams: &NO_FILE_4,
-            heard: 23,
-            gaps: 1,
-            units: 13,
-            ..NOTHING
-        },
-        ..NO_LOSS
-    },
-    Loss {
-        name: "the sync byte, stamped",
-        form: STAMPED,
-        harms: &[Flip {
-            record: 9,
-            place: 8,
-            bits: 0x20,
-        }],
-        unreadable: 1,
-        files: Delivered {
-            datagrams: &NO_FILE_4,
-            heard: 23,
-            gaps: 1,
-            units: 13,
-            ..NOTHING
-        },
-        ..NO_LOSS
-    },
-    Loss {
-        name: "a time of the day",
-        form: STAMPED,
-        harms: &[Flip {
-            record: 9,
-            place: 3,
-            bits: 1,
-        }],
-        ..NO_LOSS
-    },
-    // Profile: 2^62 microseconds are no moment, and the record is not read
-    Loss {
-        name: "a time that is none",
-        form: STAMPED,
-        harms: &[Flip {
-            record: 9,
-            place: 0,
-            bits: 0x40,
-        }],
-        unreadable: 1,
-        files: Delivered {
-            datagrams: &NO_FILE_4,
-            heard: 23,
-            gaps: 1,
-            units: 13,
-            ..NOTHING
-        },
-        ..NO_LOSS
-    },
-    Loss {
-        name: "the end of the recording",
-        form: M2TS,
-        harms: &[Cut {
-            record: 28,
-            place: 100,
-        }],
-        records: 28,
-        tail_bytes: 100,
-        files: Delivered {
-            datagrams: &NO_FILE_13,
-            heard: 23,
-            units: 13,
-            ..NOTHING
-        },
-        ..NO_LOSS
-    },
-    Loss {
-        name: "all packets of the lecture",
-        harms: &[
-            Drop { first: 1, last: 1 },
-            Drop { first: 3, last: 3 },
-            Drop { first: 5, last: 5 },
-            Drop { first: 7, last: 7 },
-        ],
-        records: 25,
-        lecture: NOTHING,
-        ..NO_LOSS
-    },
-    Loss {
-        name: "all packets of the files",
-        form: STAMPED,
-        harms: &[
-            Drop { first: 2, last: 2 },
-            Drop { first: 4, last: 4 },
-            Drop { first: 6, last: 6 },
-            Drop { first: 8, last: 28 },
-        ],
-        records: 5,
-        files: NOTHING,
-        ..NO_LOSS
-    },
-    Loss {
-        name: "the INT",
-        harms: &[Drop { first: 0, last: 0 }],
-        records: 28,
-        tables: 0,
-        ..NO_LOSS
-    },
-    // SNDUs 4 to 11: the counter goes on as if nothing was lost
-    Loss {
-        name: "16 packets, from the start of a unit on",
-        harms: &[Drop { first: 9, last: 24 }],
-        records: 13,
-        files: Delivered {
-            datagrams: &[0, 1, 2, 3, 12, 13],
-            heard: 8,
-            units: 6,
-            ..NOTHING
-        },
-        ..NO_LOSS
-    },
-    // the first bytes of SNDU 4 and the last of SNDU 12 make a unit, whose check fails
-    Loss {
-        name: "16 packets, from the middle of a unit on",
-        form: M2TS,
-        harms: &[Drop {
-            first: 10,
-            last: 25,
-        }],
-        records: 13,
-        files: Delivered {
-            datagrams: &[0, 1, 2, 3, 13],
-            heard: 8,
-            units: 5,
-            bad_check: 1,
-            ..NOTHING
-        },
-        ..NO_LOSS
-    },
-];
+/// A multicast datagram is for 01:00:5E and the low 23 bits of its address (RFC 1112 section 6.4). An SNDU without an NPA address
+/// (RFC 4326 section 4.1) is for all receivers: it is 6 bytes shorter, and the files have 24 packets all the same.
+#[test]
+fn a_filter_wants_its_addresses_and_what_is_for_all(rt: HostRuntime) -> Result<(), Fail> {
+    for line in FILTERS.lines() {
+        filtered_comes(rt.alloc(), line)?;
+    }
+    Ok(())
+}
