@@ -1,138 +1,117 @@
 //! Datagrams of a service of frames -> their stream; a recording -> what must be left of it: the capture and the report.
+//!
+//! A case is a line of a table of text, in columns with `|` between:
+//!
+//! 1. Its name.
+//! 2. What happens to the stream, in the words of `words`. Where a file reads other columns here, it says so.
+//! 3. The numbers of the datagrams that are given, as `0-16 22`.
+//! 4. The other columns are the report, as `report` reads them.
+use crate::report::report_of;
+use crate::words::{harms_of, numbers_in};
 use scenario_runs::{Status, expect, sent};
 use std::alloc::Global;
 use std::test::Fail;
 use test_recordings::settings::settings_of;
-use test_recordings::{
-    FileLeft, Given, Left, Numbers, Report, ServiceReport, TableReport, faultless,
-    numbered_capture, report_of,
-};
+use test_recordings::{FileLeft, Given, Left, damaged, faultless, numbered_capture};
 
-/// Settings of a service `lecture`, and how many bytes each datagram has that is sent under them, 256 of them at most.
+/// Settings of a service `lecture`, and what is sent under them.
 #[derive(Clone, Copy)]
 pub struct Cast<'a> {
     pub settings: &'a [&'a str],
-    pub sizes: &'a [u16],
-}
-
-/// Sections or datagrams by their numbers, from the first to the last.
-#[derive(Clone, Copy)]
-pub struct Span {
-    pub first: u8,
-    pub last: u8,
-}
-
-/// What is received: the numbers of the report but that of the datagrams, and these.
-#[derive(Clone, Copy)]
-pub struct Due<'a> {
-    pub records: u64,
-    pub tail_bytes: u64,
-    pub other: u64,
-    pub numbers: Numbers,
-    pub given: &'a [Span],
-    /// None where the settings have no INT.
-    pub table: Option<TableReport<'a>>,
+    /// How many bytes each datagram has, as `256*64 20`: 256 datagrams at most.
+    pub sizes: &'a str,
+    /// How many bytes a record has: 188 where it is a packet alone, 196 where it is stamped, 192 where it is m2ts.
+    pub size: usize,
 }
 
 /// How many bytes the output and the files take.
 const ROOM: usize = 5_000_000;
 
-/// The numbers of all spans.
-fn numbers_in(alloc: Global, spans: &[Span]) -> Result<Vec<u8>, Fail> {
-    let mut numbers: Vec<u8> = Vec::new(alloc);
-    for span in spans {
-        for number in span.first..=span.last {
-            numbers.push(number)?;
-        }
+/// The capture of the datagrams with these numbers.
+fn capture_with(alloc: Global, sizes: &[u16], numbers: &[u16]) -> Result<Vec<u8>, Fail> {
+    let mut bytes: Vec<u8> = Vec::new(alloc);
+    for number in numbers {
+        bytes.push(u8::try_from(*number)?)?;
     }
-    Ok(numbers)
+    numbered_capture(alloc, 1, sizes, &bytes)
 }
 
-/// The capture of all datagrams.
-fn capture_of_all(alloc: Global, cast: &Cast<'_>) -> Result<Vec<u8>, Fail> {
-    let last = cast.sizes.len().saturating_sub(1);
-    let last = u8::try_from(last).map_err(|_| "more than 256 datagrams")?;
-    let numbers = numbers_in(alloc, &[Span { first: 0, last }])?;
-    numbered_capture(alloc, 1, cast.sizes, &numbers)
+/// The capture of the datagrams with these numbers, of those of these sizes.
+pub fn capture_of(alloc: Global, sizes: &str, numbers: &str) -> Result<Vec<u8>, Fail> {
+    let sizes = numbers_in(alloc, sizes)?;
+    let numbers = numbers_in(alloc, numbers)?;
+    capture_with(alloc, &sizes, &numbers)
+}
+
+/// The capture of all datagrams of these sizes.
+fn capture_of_all(alloc: Global, sizes: &str) -> Result<Vec<u8>, Fail> {
+    let count = numbers_in(alloc, sizes)?.len();
+    let numbers = format!(in alloc; "0-{}", count.saturating_sub(1))?;
+    capture_of(alloc, sizes, &numbers)
 }
 
 /// The stream of all datagrams.
 pub fn stream_of(alloc: Global, cast: &Cast<'_>) -> Result<Vec<u8>, Fail> {
     let settings = settings_of(alloc, cast.settings)?;
-    let capture = capture_of_all(alloc, cast)?;
+    let capture = capture_of_all(alloc, cast.sizes)?;
     sent(alloc, &settings, &capture, ROOM)
 }
 
-/// The report, with so many datagrams.
-fn report_due(alloc: Global, due: &Due<'_>, datagrams: usize) -> Result<String, Fail> {
-    let lecture = ServiceReport {
-        name: "lecture",
-        numbers: Numbers {
-            datagrams: datagrams as u64,
-            ..due.numbers
-        },
-    };
-    let report = Report {
-        records: due.records,
-        tail_bytes: due.tail_bytes,
-        unreadable: 0,
-        other: due.other,
-        services: &[lecture],
-        table: due.table,
-    };
-    Ok(report_of(alloc, &report)?)
-}
-
-/// What a reception writes: the capture and the report.
-#[derive(Drop)]
-struct Written {
-    capture: Vec<u8>,
-    report: String,
-}
-
-/// What must be written of a recording.
-fn written_of(alloc: Global, cast: &Cast<'_>, due: &Due<'_>) -> Result<Written, Fail> {
-    let numbers = numbers_in(alloc, due.given)?;
-    let capture = numbered_capture(alloc, 1, cast.sizes, &numbers)?;
-    let report = report_due(alloc, due, numbers.len())?;
-    Ok(Written { capture, report })
-}
-
-/// Receives the recording, and compares all that is left.
-fn gives(
+/// Receives a recording: the report and these files are left, and nothing else.
+pub fn leaves(
     alloc: Global,
     name: &str,
     settings: &str,
     recording: &[u8],
-    due: &Written,
+    report: &str,
+    files: &[FileLeft<'_>],
 ) -> Result<(), Fail> {
-    let files = [FileLeft {
-        name: "lecture.pcap",
-        bytes: &due.capture,
-        flushed: due.capture.len(),
-    }];
-    let left = Left {
-        output: due.report.as_bytes(),
-        flushed: due.report.len(),
-        line: "",
-        files: &files,
-    };
     let given = Given {
         room: ROOM,
         ..faultless(&["receive", "a.toml"], settings.as_bytes(), recording)
     };
+    let left = Left {
+        output: report.as_bytes(),
+        flushed: report.len(),
+        line: "",
+        files,
+    };
     expect(alloc, name, &given, Status::Done, &left)
 }
 
-/// Receives the recording under the settings of the cast, and compares the capture and the report with what is due.
-pub fn comes_as_told(
+/// Receives a recording, and compares the capture and the report with the columns from the third on.
+pub fn comes(
     alloc: Global,
     name: &str,
     cast: &Cast<'_>,
     recording: &[u8],
-    due: &Due<'_>,
+    columns: &str,
 ) -> Result<(), Fail> {
+    let (given, columns) = columns.split_once('|').ok_or("no report")?;
     let settings = settings_of(alloc, cast.settings)?;
-    let written = written_of(alloc, cast, due)?;
-    gives(alloc, name, &settings, recording, &written)
+    let capture = capture_of(alloc, cast.sizes, given)?;
+    let report = report_of(alloc, columns)?;
+    let files = [FileLeft {
+        name: "lecture.pcap",
+        bytes: &capture,
+        flushed: capture.len(),
+    }];
+    leaves(alloc, name, &settings, recording, &report, &files)
+}
+
+/// Receives what is left of a stream, and compares what comes.
+fn line_comes(alloc: Global, cast: &Cast<'_>, stream: &[u8], line: &str) -> Result<(), Fail> {
+    let (name, columns) = line.split_once('|').ok_or("no harms")?;
+    let (harms, columns) = columns.split_once('|').ok_or("no datagrams")?;
+    let harms = harms_of(alloc, harms)?;
+    let recording = damaged(alloc, stream, cast.size, &harms)?;
+    comes(alloc, name, cast, &recording, columns)
+}
+
+/// Of each case of a table comes what must come.
+pub fn all_come(alloc: Global, cast: &Cast<'_>, stream: &[u8], table: &str) -> Result<(), Fail> {
+    for line in table.lines() {
+        line_comes(alloc, cast, stream, line)?;
+    }
+    Ok(())
 }

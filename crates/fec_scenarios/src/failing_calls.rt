@@ -1,8 +1,19 @@
-//! Each call of an object fails in turn, from the first one on, up to the one that does not come -> what each run must leave.
+//! Calls of an object -> what each run must leave in which one of them fails.
+//!
+//! The calls of an object are a line of text: `shelf`, `input`, `output` or `rack`, and then a word a call, from the first one on, as
+//! `rack - 0 24`. The call after the last one does not come: a run in which it would fail ends Done.
+//!
+//! | Word | What is left where the call fails |
+//! |---|---|
+//! | `-` | nothing: the file was not added |
+//! | `24`, `24*58` | the first 24 bytes of the file, none of them flushed; the same for each of 58 calls |
+//! | `840/840` | 840 bytes of the file, of which 840 are flushed |
+//! | `840/840/unflushed` | all of the output too, of which nothing is flushed |
 use scenario_runs::{Status, expect};
-use std::alloc::{AllocError as OutOfMemory, Global};
+use std::alloc::Global;
 use std::test::Fail;
-use test_recordings::{Failing, FileLeft, Given, Left, faultless};
+use test_recordings::Failing::{self, Input, Output, Rack, Shelf};
+use test_recordings::{FileLeft, Given, Left, faultless};
 
 /// What a run is given, and what it leaves where no call fails: a file, and the output.
 #[derive(Clone, Copy)]
@@ -16,85 +27,60 @@ pub struct Whole<'a> {
     pub output: &'a [u8],
 }
 
-/// What is left of the output.
-#[derive(Clone, Copy)]
-pub enum Output {
-    Nothing,
-    /// All of it, and nothing of it is flushed.
-    Unflushed,
-    /// All of it, flushed.
-    Whole,
+/// A call of an object; the status of a run in which it fails; and what is reported to have a fault.
+fn end_of(object: &str, call: u32) -> Result<(Failing, Status, &'static str), Fail> {
+    match object {
+        "shelf" => Ok((Shelf(call), Status::ShelfFault, "the settings file")),
+        "input" => Ok((Input(call), Status::SourceFault, "the input")),
+        "output" => Ok((Output(call), Status::SinkFault, "the output")),
+        "rack" => Ok((Rack(call), Status::RackFault, "a written file")),
+        _ => Err("no such object".into()),
+    }
 }
 
-/// Calls that come one after another, and what a run leaves in which one of them fails.
-#[derive(Clone, Copy)]
-pub struct Calls {
-    pub count: u32,
-    /// How many bytes the file has, the first ones of the whole file; None where it was not added.
-    pub file: Option<usize>,
-    /// How many of them are flushed.
-    pub flushed: usize,
-    pub output: Output,
+/// How many bytes of the output are left, and how many of them are flushed.
+fn counts_of(word: &str, output: &[u8]) -> Result<(usize, usize), Fail> {
+    match word {
+        "nothing" => Ok((0, 0)),
+        "unflushed" => Ok((output.len(), 0)),
+        "flushed" => Ok((output.len(), output.len())),
+        _ => Err("no such output".into()),
+    }
 }
 
-/// One call, an empty file, and nothing else.
-pub const FRONT: Calls = Calls {
-    count: 1,
-    file: Some(0),
-    flushed: 0,
-    output: Output::Nothing,
-};
-
-/// How a run ends: the status, and the line that is reported.
-#[derive(Clone, Copy)]
-pub struct End<'a> {
-    pub status: Status,
-    pub line: &'a str,
-}
-
-/// An object, how a run ends in which one of its calls fails, and its calls from the first one to the last one that comes.
-#[derive(Clone, Copy)]
-pub struct Object<'a> {
-    pub name: &'a str,
-    pub calls_of: Failing,
-    pub end: End<'a>,
-    pub calls: &'a [Calls],
-}
-
-/// Runs the program, and compares all that is left.
+/// Runs the program, which ends so, reports this line, and leaves what a word says.
 fn leaves(
     alloc: Global,
     case: &str,
     whole: &Whole<'_>,
     fails: &[Failing],
-    end: &End<'_>,
-    calls: &Calls,
+    status: Status,
+    line: &str,
+    word: &str,
 ) -> Result<(), Fail> {
-    let (size, count) = match calls.file {
-        Some(size) => (size, 1),
-        None => (0, 0),
+    let (size, rest) = word.split_once('/').unwrap_or((word, "0"));
+    let (file_flushed, output) = rest.split_once('/').unwrap_or((rest, "nothing"));
+    let (size, files) = match size {
+        "-" => (0, 0),
+        _ => (size.parse::<usize>()?, 1),
     };
-    let files = [FileLeft {
+    let file = [FileLeft {
         name: whole.name,
         bytes: whole.file.get(..size).ok_or("a longer file")?,
-        flushed: calls.flushed,
+        flushed: file_flushed.parse::<usize>()?,
     }];
-    let (output, flushed) = match calls.output {
-        Output::Nothing => ([].as_slice(), 0),
-        Output::Unflushed => (whole.output, 0),
-        Output::Whole => (whole.output, whole.output.len()),
-    };
+    let (count, flushed) = counts_of(output, whole.output)?;
     let left = Left {
-        output,
+        output: whole.output.get(..count).ok_or("a longer output")?,
         flushed,
-        line: end.line,
-        files: files.get(..count).ok_or("two files")?,
+        line,
+        files: file.get(..files).ok_or("two files")?,
     };
     let given = Given {
         fails,
         ..faultless(whole.words, whole.settings, whole.recording)
     };
-    expect(alloc, case, &given, end.status, &left)
+    expect(alloc, case, &given, status, &left)
 }
 
 /// The run ends Done: all is whole and flushed.
@@ -104,98 +90,58 @@ pub fn ends_done(
     whole: &Whole<'_>,
     fails: &[Failing],
 ) -> Result<(), Fail> {
-    let end = End {
-        status: Status::Done,
-        line: "",
-    };
-    let all = Calls {
-        count: 1,
-        file: Some(whole.file.len()),
-        flushed: whole.file.len(),
-        output: Output::Whole,
-    };
-    leaves(alloc, case, whole, fails, &end, &all)
+    let size = whole.file.len();
+    let word = format!(in alloc; "{size}/{size}/flushed")?;
+    leaves(alloc, case, whole, fails, Status::Done, "", &word)
 }
 
-/// The name of a case with a number.
-pub fn numbered(alloc: Global, name: &str, number: u32) -> Result<String, OutOfMemory> {
-    let mut text = name.to_string(alloc)?;
-    write!(&mut text, " {number}")?;
-    Ok(text)
+/// A call fails, and the run leaves what a word says; where there is none, the call does not come.
+fn call_fails(
+    alloc: Global,
+    whole: &Whole<'_>,
+    object: &str,
+    call: u32,
+    word: &str,
+) -> Result<(), Fail> {
+    let (failing, status, what) = end_of(object, call)?;
+    let case = format!(in alloc; "call of the {object} {call}")?;
+    if word.is_empty() {
+        return ends_done(alloc, &case, whole, &[failing]);
+    }
+    let line = format!(in alloc; "ipencap: fault of {what}\n")?;
+    leaves(alloc, &case, whole, &[failing], status, &line, word)
 }
 
-/// Each of these calls fails, of which the first one has this number. Answers the number of the next one.
+/// The calls of a word fail in turn, of which the first one has this number. Returns the number of the next one.
 fn each_fails(
     alloc: Global,
     whole: &Whole<'_>,
-    object: &Object<'_>,
+    object: &str,
     first: u32,
-    calls: &Calls,
+    word: &str,
 ) -> Result<u32, Fail> {
-    let next = first.saturating_add(calls.count);
+    let (left, times) = word.split_once('*').unwrap_or((word, "1"));
+    let next = first.saturating_add(times.parse::<u32>()?);
     for call in first..next {
-        let case = numbered(alloc, object.name, call)?;
-        let fails = [object.calls_of.at(call)];
-        leaves(alloc, &case, whole, &fails, &object.end, calls)?;
+        call_fails(alloc, whole, object, call, left)?;
     }
     Ok(next)
 }
 
-/// Each call of the object fails in turn. The next one does not come: a run in which it would fail ends Done.
-fn each_call_fails(alloc: Global, whole: &Whole<'_>, object: &Object<'_>) -> Result<(), Fail> {
+/// The calls of a line fail in turn, and the next one does not come.
+fn line_fails(alloc: Global, whole: &Whole<'_>, line: &str) -> Result<(), Fail> {
+    let (object, words) = line.split_once(' ').unwrap_or((line, ""));
     let mut next = 0;
-    for calls in object.calls {
-        next = each_fails(alloc, whole, object, next, calls)?;
+    for word in words.split_whitespace() {
+        next = each_fails(alloc, whole, object, next, word)?;
     }
-    let case = numbered(alloc, object.name, next)?;
-    ends_done(alloc, &case, whole, &[object.calls_of.at(next)])
+    call_fails(alloc, whole, object, next, "")
 }
 
-/// The same of each object.
-pub fn all_fail(alloc: Global, whole: &Whole<'_>, objects: &[Object<'_>]) -> Result<(), Fail> {
-    for object in objects {
-        each_call_fails(alloc, whole, object)?;
+/// The same of each line.
+pub fn all_fail(alloc: Global, whole: &Whole<'_>, calls: &str) -> Result<(), Fail> {
+    for line in calls.lines() {
+        line_fails(alloc, whole, line)?;
     }
     Ok(())
 }
-
-/// The objects, without a call.
-pub const INPUT: Object = Object {
-    name: "call of the input",
-    calls_of: Failing::Input(0),
-    end: End {
-        status: Status::SourceFault,
-        line: "ipencap: fault of the input\n",
-    },
-    calls: &[],
-};
-
-pub const RACK: Object = Object {
-    name: "call of the rack",
-    calls_of: Failing::Rack(0),
-    end: End {
-        status: Status::RackFault,
-        line: "ipencap: fault of a written file\n",
-    },
-    calls: &[],
-};
-
-pub const OUTPUT: Object = Object {
-    name: "call of the output",
-    calls_of: Failing::Output(0),
-    end: End {
-        status: Status::SinkFault,
-        line: "ipencap: fault of the output\n",
-    },
-    calls: &[],
-};
-
-pub const SHELF: Object = Object {
-    name: "call of the shelf",
-    calls_of: Failing::Shelf(0),
-    end: End {
-        status: Status::ShelfFault,
-        line: "ipencap: fault of the settings file\n",
-    },
-    calls: &[],
-};

@@ -1,12 +1,10 @@
 //! MPE-FEC frames, with time slicing and without: datagrams -> [scenario_runs] -> a stream, damaged on its way or made by hand ->
 //! [scenario_runs] -> what comes of it.
 //!
-//! Tests alone. Begin with `cast` and `burst_sent`, which say what is sent and what must come of it; `frame_losses` and `burst_losses` are
-//! tables of what happens on the way.
+//! Tests alone. Begin with `cast`, which says what the columns of the tables are, and with `frame_losses` and `burst_losses`, the tables of
+//! what happens on the way.
 #![tactic(auto)]
 
-#[cfg(test)]
-mod burst_deltas;
 #[cfg(test)]
 mod burst_losses;
 #[cfg(test)]
@@ -20,9 +18,7 @@ mod cast;
 #[cfg(test)]
 mod failing_calls;
 #[cfg(test)]
-mod failing_frame_tests;
-#[cfg(test)]
-mod failing_sndu_tests;
+mod failing_tests;
 #[cfg(test)]
 mod frame_end_faults;
 #[cfg(test)]
@@ -34,4 +30,6 @@ mod frame_rows;
 #[cfg(test)]
 mod made_sections;
 #[cfg(test)]
-mod section_starts;
+mod report;
+#[cfg(test)]
+mod words;

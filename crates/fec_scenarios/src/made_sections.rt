@@ -1,83 +1,66 @@
-//! Sections of a service of frames of 256 rows, by hand -> their packets.
+//! Words -> sections of a service of frames of 256 rows, by hand -> their packets.
+//!
+//! | Word | Section |
+//! |---|---|
+//! | `1@20` | a datagram_section (EN 301 192 clause 7) with the datagram of 20 bytes for 239.1.0.1, at address 20 |
+//! | `1@20/table`, `1@20/frame` | the same with table_boundary, or with frame_boundary (clause 9.10) |
+//! | `1@20/4095` | the same with index 4095 in the place of 0 |
+//! | `190:5/4` | an MPE-FEC section (clause 9.9) with a column of 256 zeros: 190 padding columns, section_number 5, last_section_number 4 |
+//! | `short` | one with 255 zeros, the only column of its frame |
+//! | `other` | a section of another table |
+//! | `right` | the last section of a frame with the datagrams for 239.1.0.8 and 239.1.0.9, its only column |
 use std::alloc::{AllocError as OutOfMemory, Global};
 use std::test::Fail;
-use test_recordings::units::OTHER;
-use test_recordings::{Datagram, go_on, on_pid, put_datagram, start};
+use test_recordings::{bytes_of, go_on, on_pid, start};
 
-/// A section.
-#[derive(Clone, Copy)]
-pub enum Made {
-    /// A datagram_section (EN 301 192 clause 7) with the datagram of 20 bytes for 239.1.0.x: x, and real_time_parameters.
-    Data(u8, u32),
-    /// An MPE-FEC section (clause 9.9) with a column of 256 zeros: padding_columns, section_number, last_section_number.
-    Parity(u8, u8, u8),
-    /// One with 255 zeros, the only column of its frame.
-    Short,
-    /// A section of another table.
-    Other,
-    /// The last section of a frame with the datagrams for 239.1.0.8 and 239.1.0.9, its only column.
-    Right,
-}
+/// The last section of a frame. An independent program gave the first 40 rows of its column, by long division.
+const RIGHT: &str =
+    "78B10D BE FFFF0000 000C0000 E900001E00000000609700000F00008F168F000C E900001E00000000609700000F00008F168F0083 00*216";
 
-/// Parts of real_time_parameters (clause 9.10): delta_t 1, table_boundary, frame_boundary. The address is added to them.
-pub const DELTA: u32 = 0x10_0000;
-
-pub const TABLE: u32 = 0x8_0000;
-
-pub const FRAME: u32 = 0x4_0000;
-
-/// The first column of parity of that frame in rows 0 to 39, by long division in an independent program. Those of the other rows are
-/// zeros.
-const RIGHT: [u8; 40] = [
-    0xE9, 0, 0, 0x1E, 0, 0, 0, 0, 0x60, 0x97, 0, 0, 0x0F, 0, 0, 0x8F, 0x16, 0x8F, 0, 0x0C, 0xE9, 0,
-    0, 0x1E, 0, 0, 0, 0, 0x60, 0x97, 0, 0, 0x0F, 0, 0, 0x8F, 0x16, 0x8F, 0, 0x83,
-];
-
-/// Appends a datagram_section up to its CRC_32, which counts as 4 of its 33 bytes behind section_length.
-fn put_data(into: &mut Vec<u8>, number: u8, real_time: u32) -> Result<(), Fail> {
-    into.extend_from_slice(&[0x3E, 0xB0, 33, number, 0, 0xC1, 0, 0])?;
-    into.extend_from_slice(&real_time.to_be_bytes())?;
-    let datagram = Datagram {
-        size: 20,
-        to: [239, 1, 0, number],
+/// real_time_parameters (clause 9.10), by an address and what follows it.
+fn real_time_of(words: &str) -> Result<u32, Fail> {
+    let (address, part) = words.split_once('/').unwrap_or((words, "0"));
+    let part = match part {
+        "table" => 0x8_0000,
+        "frame" => 0x4_0000,
+        _ => part.parse::<u32>()? << 20,
     };
-    put_datagram(into, &datagram)
+    Ok(part | address.parse::<u32>()?)
 }
 
-/// Appends an MPE-FEC section up to its CRC_32: bytes 1 to 3 and 6 and 7, real_time_parameters, and a column of so many rows with these
-/// bytes first and zeros after them.
-fn put_parity(
-    into: &mut Vec<u8>,
-    head: [u8; 5],
-    real_time: u32,
-    rows: usize,
-    first: &[u8],
-) -> Result<(), Fail> {
-    let [high, low, padding, number, last] = head;
-    into.extend_from_slice(&[0x78, high, low, padding, 0xFF, 0xFF, number, last])?;
-    into.extend_from_slice(&real_time.to_be_bytes())?;
-    into.extend_from_slice(first)?;
-    for _ in first.len()..rows {
-        into.push(0)?;
-    }
-    Ok(())
+/// A datagram_section up to its CRC_32, in hexadecimal, as all below. The CRC_32 counts as 4 of its 33 bytes behind section_length.
+fn data_of(alloc: Global, number: &str, words: &str) -> Result<String, Fail> {
+    let number = number.parse::<u8>()?;
+    let real_time = real_time_of(words)?;
+    Ok(format!(in alloc;
+        "3EB021 {number:02X}00C10000 {real_time:08X} 45000014 00000000 40110000 0A000001 EF0100{number:02X}"
+    )?)
 }
 
-/// A section up to its CRC_32.
-fn body_of(alloc: Global, made: Made) -> Result<Vec<u8>, Fail> {
-    let mut body = Vec::new(alloc);
-    match made {
-        Made::Data(number, real_time) => put_data(&mut body, number, real_time)?,
-        Made::Parity(padding, number, last) => {
-            put_parity(&mut body, [0xB1, 13, padding, number, last], 0, 256, &[])?;
-        }
-        Made::Short => put_parity(&mut body, [0xB1, 12, 190, 0, 0], 0, 255, &[])?,
-        Made::Other => body.extend_from_slice(&OTHER[..14])?,
-        Made::Right => {
-            put_parity(&mut body, [0xB1, 13, 190, 0, 0], TABLE + FRAME, 256, &RIGHT)?;
-        }
+/// An MPE-FEC section.
+fn parity_of(alloc: Global, padding: &str, numbers: &str) -> Result<String, Fail> {
+    let (number, last) = numbers.split_once('/').ok_or("no last section")?;
+    let padding = padding.parse::<u8>()?;
+    let number = number.parse::<u8>()?;
+    let last = last.parse::<u8>()?;
+    Ok(format!(in alloc; "78B10D {padding:02X} FFFF {number:02X} {last:02X} 00000000 00*256")?)
+}
+
+/// The section of a word.
+fn digits_of(alloc: Global, word: &str) -> Result<String, Fail> {
+    if let Some((number, words)) = word.split_once('@') {
+        return data_of(alloc, number, words);
     }
-    Ok(body)
+    if let Some((padding, numbers)) = word.split_once(':') {
+        return parity_of(alloc, padding, numbers);
+    }
+    let digits = match word {
+        "short" => "78B10C BE FFFF0000 00000000 00*255",
+        "other" => "4DF00F0101C1000000000100F000",
+        "right" => RIGHT,
+        _ => return Err("no such section".into()),
+    };
+    Ok(digits.to_string(alloc)?)
 }
 
 /// The CRC_32, bit by bit (ISO/IEC 13818-1 annex A).
@@ -96,39 +79,31 @@ fn crc_of(bytes: &[u8]) -> u32 {
     crc
 }
 
-/// A section.
-fn section_of(alloc: Global, made: Made) -> Result<Vec<u8>, Fail> {
-    let mut section = body_of(alloc, made)?;
+/// The bytes of a section.
+fn section_of(alloc: Global, word: &str) -> Result<Vec<u8>, Fail> {
+    let digits = digits_of(alloc, word)?;
+    let mut section = bytes_of(alloc, &digits)?;
     let crc = crc_of(&section);
     section.extend_from_slice(&crc.to_be_bytes())?;
     Ok(section)
 }
 
-/// Appends the packets of a section, two at most: it begins behind the pointer 0 of the first. Answers the next counter.
-fn put_packets(
-    into: &mut Vec<u8>,
-    section: &[u8],
-    counter: u8,
-    pid: u16,
-) -> Result<u8, OutOfMemory> {
+/// Appends the packets of a section, two at most: it begins behind the pointer 0 of the first.
+fn put_packets(into: &mut Vec<u8>, section: &[u8], pid: u16) -> Result<(), OutOfMemory> {
+    let counter = (into.len() / 188 % 16) as u8;
     into.extend_from_slice(&on_pid(start(counter, 0, section), pid))?;
+    let Some(rest) = section.get(183..) else {
+        return Ok(());
+    };
     let next = counter.wrapping_add(1);
-    match section.get(183..) {
-        Some(rest) => {
-            into.extend_from_slice(&on_pid(go_on(next, rest), pid))?;
-            Ok(next.wrapping_add(1))
-        }
-        None => Ok(next),
-    }
+    into.extend_from_slice(&on_pid(go_on(next, rest), pid))
 }
 
-/// The packets of these sections on a PID, the first of which has counter 0.
-pub fn packets_of(alloc: Global, sections: &[Made], pid: u16) -> Result<Vec<u8>, Fail> {
+/// The packets of the sections of words on a PID, the first of which has counter 0.
+pub fn packets_of(alloc: Global, words: &str, pid: u16) -> Result<Vec<u8>, Fail> {
     let mut packets = Vec::new(alloc);
-    let mut counter: u8 = 0;
-    for made in sections {
-        let section = section_of(alloc, *made)?;
-        counter = put_packets(&mut packets, &section, counter, pid)?;
+    for word in words.split_whitespace() {
+        put_packets(&mut packets, &section_of(alloc, word)?, pid)?;
     }
     Ok(packets)
 }
