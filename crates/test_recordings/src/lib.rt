@@ -28,7 +28,7 @@ pub use outside::{
 };
 pub use packets::{PacketOf, go_on, on_pid, recording_of, start};
 pub use pieces::{filled, is_piece, joined};
-pub use reports::{Numbers, Report, ServiceReport, TableReport, report_of};
+pub use reports::{counts_of, expect_names, number_of, put_scope, report_of};
 pub use small::{SmallPacket, mixed_recording, recording_of_two, small_capture, small_recording};
 pub use sndus::{
     ADDRESSED_FILE, Sndu, capture_of_files, capture_of_sndus, packet_of_files, stream_of,

@@ -1,117 +1,119 @@
-//! Numbers -> the text of the report of a reception.
-use std::alloc::{AllocError as OutOfMemory, Global};
+//! Words as `heard=7 units=8` -> the report of a reception, and the numbers of a service.
+//!
+//! A report has columns with `|` between, in its order:
+//!
+//! | Column | Lines of the report |
+//! |---|---|
+//! | `stream records=637 other=91` | those about the stream |
+//! | `lecture heard=637 units=148` | those about a service |
+//! | `table units=2` | those about the INT, but for its version and its rules |
+//! | `rule,239.1.0.0/16,0` | a column without a space is a line itself |
+//!
+//! What no word names is 0, what several name is their sum, and a word that names nothing fails.
+use service_counts::ServiceCounts;
+use std::alloc::Global;
+use std::test::Fail;
 
-/// What a report says of a service.
-#[derive(Clone, Copy)]
-pub struct Numbers {
-    pub heard: u64,
-    pub repeats: u64,
-    pub gaps: u64,
-    pub units: u64,
-    pub bad_check: u64,
-    pub delimited: u64,
-    pub unread: u64,
-    pub filtered: u64,
-    pub frames: u64,
-    pub rows_mended: u64,
-    pub rows_left: u64,
-    pub datagrams: u64,
+/// The lines about a service, in their order.
+const SERVICE: &str =
+    "heard repeats gaps units bad_check delimited bad_length unread filtered frames rows_mended rows_left datagrams";
+
+/// The lines of a scope, in their order.
+fn lines_of(scope: &str) -> &'static str {
+    match scope {
+        "stream" => "records tail_bytes unreadable without_payload other",
+        "table" => "units refused",
+        _ => SERVICE,
+    }
 }
 
-impl Numbers {
-    /// Nothing was counted.
-    pub const NONE: Numbers = Numbers {
-        heard: 0,
-        repeats: 0,
-        gaps: 0,
-        units: 0,
-        bad_check: 0,
-        delimited: 0,
-        unread: 0,
-        filtered: 0,
-        frames: 0,
-        rows_mended: 0,
-        rows_left: 0,
-        datagrams: 0,
-    };
-}
-
-/// A service, and what is said of it.
-#[derive(Clone, Copy)]
-pub struct ServiceReport {
-    pub name: &'static str,
-    pub numbers: Numbers,
-}
-
-/// What is said of the INT: the sections, why the one that is shown was refused or 0, the version in force where the plan changes, and
-/// the component_tag of each rule.
-#[derive(Clone, Copy)]
-pub struct TableReport<'a> {
-    pub units: u64,
-    pub refused: u64,
-    pub version: Option<u8>,
-    pub rules: &'a [(&'static str, u64)],
-}
-
-/// What a report says. Each packet has a payload.
-#[derive(Clone, Copy)]
-pub struct Report<'a> {
-    pub records: u64,
-    pub tail_bytes: u64,
-    pub unreadable: u64,
-    pub other: u64,
-    pub services: &'a [ServiceReport],
-    /// None where the settings have no INT.
-    pub table: Option<TableReport<'a>>,
-}
-
-/// Appends the lines of a service.
-fn put_service(into: &mut String, service: &ServiceReport) -> Result<(), OutOfMemory> {
-    let numbers = &service.numbers;
-    let lines = [
-        ("heard", numbers.heard),
-        ("repeats", numbers.repeats),
-        ("gaps", numbers.gaps),
-        ("units", numbers.units),
-        ("bad_check", numbers.bad_check),
-        ("delimited", numbers.delimited),
-        ("bad_length", 0),
-        ("unread", numbers.unread),
-        ("filtered", numbers.filtered),
-        ("frames", numbers.frames),
-        ("rows_mended", numbers.rows_mended),
-        ("rows_left", numbers.rows_left),
-        ("datagrams", numbers.datagrams),
-    ];
-    for (line, number) in lines {
-        write!(into, "{},{line},{number}\n", service.name)?;
+/// Fails where a word has none of these names.
+pub fn expect_names(words: &str, names: &str) -> Result<(), Fail> {
+    for word in words.split_whitespace() {
+        let (name, _) = word.split_once('=').ok_or("no number")?;
+        if !names.split_whitespace().any(|known| known == name) {
+            return Err(Fail::new(format_args!("{word} is none of {names}")));
+        }
     }
     Ok(())
 }
 
-/// The text of a report.
-pub fn report_of(alloc: Global, report: &Report<'_>) -> Result<String, OutOfMemory> {
-    let mut text = "scope,name,value\n".to_string(alloc)?;
-    write!(&mut text, "stream,records,{}\n", report.records)?;
-    write!(&mut text, "stream,tail_bytes,{}\n", report.tail_bytes)?;
-    write!(&mut text, "stream,unreadable,{}\n", report.unreadable)?;
-    text.push_str("stream,without_payload,0\n")?;
-    write!(&mut text, "stream,other,{}\n", report.other)?;
-    for service in report.services {
-        put_service(&mut text, service)?;
+/// The number that these words give a name.
+pub fn number_of(words: &str, name: &str) -> Result<u64, Fail> {
+    let mut sum = 0u64;
+    for word in words.split_whitespace() {
+        let (named, number) = word.split_once('=').ok_or("no number")?;
+        if named == name {
+            sum = sum.saturating_add(number.parse()?);
+        }
     }
-    if let Some(table) = &report.table {
-        write!(
-            &mut text,
-            "table,units,{}\ntable,refused,{}\n",
-            table.units, table.refused
-        )?;
-        if let Some(version) = table.version {
-            write!(&mut text, "table,version,{version}\n")?;
-        }
-        for (rule, tag) in table.rules {
-            write!(&mut text, "rule,{rule},{tag}\n")?;
-        }
+    Ok(sum)
+}
+
+/// Appends the lines of a scope.
+pub fn put_scope(report: &mut String, scope: &str, words: &str) -> Result<(), Fail> {
+    let lines = lines_of(scope);
+    expect_names(words, lines)?;
+    for line in lines.split_whitespace() {
+        let number = number_of(words, line)?;
+        write!(report, "{scope},{line},{number}\n")?;
+    }
+    Ok(())
+}
+
+/// Appends the lines of a column.
+fn put_column(report: &mut String, column: &str) -> Result<(), Fail> {
+    if let Some((scope, words)) = column.split_once(' ') {
+        return put_scope(report, scope, words);
+    }
+    write!(report, "{column}\n")?;
+    Ok(())
+}
+
+/// The report of these columns.
+pub fn report_of(alloc: Global, columns: &str) -> Result<String, Fail> {
+    let mut text = "scope,name,value\n".to_string(alloc)?;
+    for column in columns.split('|') {
+        put_column(&mut text, column)?;
     }
     Ok(text)
+}
+
+/// The numbers of a service that these words give.
+pub fn counts_of(words: &str) -> Result<ServiceCounts, Fail> {
+    expect_names(words, SERVICE)?;
+    let mut numbers = [0u64; 13];
+    for (number, name) in numbers.iter_mut().zip(SERVICE.split_whitespace()) {
+        *number = number_of(words, name)?;
+    }
+    let [
+        heard,
+        repeats,
+        gaps,
+        units,
+        bad_check,
+        delimited,
+        bad_length,
+        unread,
+        filtered,
+        frames,
+        rows_mended,
+        rows_left,
+        datagrams,
+    ] = numbers;
+    Ok(ServiceCounts {
+        heard,
+        repeats,
+        gaps,
+        units,
+        bad_check,
+        delimited,
+        bad_length,
+        unread,
+        filtered,
+        frames,
+        rows_mended,
+        rows_left,
+        datagrams,
+    })
 }
