@@ -1,5 +1,5 @@
 //! Bursts of one datagram each, by hand from EN 301 192 clause 9 and ISO/IEC 13818-1 clause 2.4.4.
-use crate::lines::{expect, expect_bytes};
+use crate::lines::expect_bytes;
 use crate::sendable::{HOST, UNICAST, list_of};
 use burst_packets::{BurstPackets, Shape, Timing};
 use fec_units::burst_ends;
@@ -7,6 +7,7 @@ use ipe_io::Recording;
 use std::alloc::Global;
 use std::fmt::Write;
 use std::test::Fail;
+use test_lines::expect;
 
 /// 10,000 packets in a second and a cycle of two: a packet is a tenth of a millisecond.
 const TIMING: Timing = Timing {

@@ -1,12 +1,12 @@
 //! Frames of 256 rows: what becomes of their sections, and how many of their rows are corrected.
 ghost use Rattle.std.specs.Prelude.{◌≡◌};
 
-use crate::lines::{expect, numbers_of};
 use crate::outside_parity::PARITY;
 use crate::tables::empty_table;
 use fec_frame::{Table, TableAnswer, padding_of};
 use std::alloc::{AllocError as OutOfMemory, Global};
 use std::test::Fail;
+use test_lines::{expect, numbers_of};
 
 /// The bytes of an application data table whose bytes in column j are j.
 fn data_of(alloc: Global) -> Result<Vec<u8>, Fail> {

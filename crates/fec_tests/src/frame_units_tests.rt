@@ -3,7 +3,7 @@ ghost use Rattle.std.specs.Prelude.{◌<◌, ◌≤◌, ◌^◌, length, IfOk};
 ghost use Rattle.fec_units.specs.Ends.{AreFrameEnds};
 ghost use Rattle.fec_sent_law.specs.Frames.{AreSendable};
 
-use crate::lines::{expect, expect_bytes, hex_at};
+use crate::lines::{expect_bytes, hex_at};
 use crate::sendable::{HOST, UNICAST, list_of};
 use burst_packets::{FramePackets, Shape};
 use fec_units::{BurstBuffer, FrameUnits, burst_ends, unit_ends};
@@ -11,6 +11,7 @@ use ip_datagram::DatagramList;
 use std::alloc::Global;
 use std::fmt::Write;
 use std::test::Fail;
+use test_lines::{expect, expect_lines};
 
 /// How many frames there are, and where each of their units ends.
 fn ends_of(alloc: Global, units: &FrameUnits) -> Result<String, Fail> {
@@ -165,19 +166,14 @@ fn list_in(alloc: Global, words: &str) -> Result<DatagramList, Fail>
     list_of(alloc, count.parse::<u8>()?, size.parse::<u16>()?, HOST)
 }
 
-/// Makes the burst of a line.
-fn make(alloc: Global, line: &str) -> Result<(), Fail> {
-    let (words, due) = line.split_once('|').ok_or("no bar")?;
-    let list = list_in(alloc, words)?;
-    expect(words, &burst_of(alloc, &list)?, due)
+/// The units of the burst of a line.
+fn burst_in(alloc: Global, words: &str) -> Result<String, Fail> {
+    burst_of(alloc, &list_in(alloc, words)?)
 }
 
 #[test]
 fn sections_have_the_time_of_their_packet(rt: HostRuntime) -> Result<(), Fail> {
-    for line in BURSTS.lines() {
-        make(rt.alloc(), line)?;
-    }
-    Ok(())
+    expect_lines(rt.alloc(), burst_in, BURSTS)
 }
 
 /// Slots of a window, and after `|` where the bursts of five datagrams of 100 bytes end. A window of three slots has room for two datagrams

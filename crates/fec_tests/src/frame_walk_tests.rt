@@ -1,12 +1,12 @@
 //! Datagrams found in frames of 256 rows, whether their sections came or not.
 ghost use Rattle.std.specs.Prelude.{◌≡◌};
 
-use crate::lines::expect;
 use crate::tables::empty_table;
 use fec_frame::{Table, TableAnswer};
 use frame_walk::Walk;
 use std::alloc::Global;
 use std::test::Fail;
+use test_lines::expect;
 
 /// RFC 791 clause 3.1: a datagram of 20 bytes to 239.1.2.3.
 const DATAGRAM: [u8; 20] = [

@@ -4,13 +4,13 @@ ghost use Rattle.std.specs.List.{All};
 ghost use Rattle.std.specs.List.Sorted.{IsStrictlyIncreasing};
 ghost use Rattle.std.specs.Prelude.{◌-◌, ◌<◌, ◌≤◌, length};
 
-use crate::lines::{expect, numbers_of};
 use crate::outside_parity::PARITY;
 use arrayvec::ArrayVec;
 use rs_erasure::{RowAnswer, decode_row, decode_run};
 use std::alloc::Global;
 use std::fmt::Write;
 use std::test::Fail;
+use test_lines::{expect_lines, numbers_of};
 
 /// The codeword whose data byte j is j.
 fn codeword() -> [u8; 255] {
@@ -76,18 +76,9 @@ fn decoded(alloc: Global, words: &str) -> Result<String, Fail> {
     Ok(format!(in alloc; "{}, {}", name_of(answer), state_of(&before, &row))?)
 }
 
-/// Decodes the row of a line.
-fn decode(alloc: Global, line: &str) -> Result<(), Fail> {
-    let (words, due) = line.split_once('|').ok_or("no bar")?;
-    expect(words, &decoded(alloc, words)?, due)
-}
-
 #[test]
 fn sixty_four_places_are_filled_and_sixty_five_refused(rt: HostRuntime) -> Result<(), Fail> {
-    for line in ROWS_ALONE.lines() {
-        decode(rt.alloc(), line)?;
-    }
-    Ok(())
+    expect_lines(rt.alloc(), decoded, ROWS_ALONE)
 }
 
 /// How many rows a table has.
@@ -194,16 +185,7 @@ fn after_run(alloc: Global, words: &str) -> Result<String, Fail> {
     rows_of(alloc, &before, &table, &bad, from, to, &unknown)
 }
 
-/// Decodes the run of a line.
-fn decode_all(alloc: Global, line: &str) -> Result<(), Fail> {
-    let (words, due) = line.split_once('|').ok_or("no bar")?;
-    expect(words, &after_run(alloc, words)?, due)
-}
-
 #[test]
 fn a_run_does_what_single_rows_do(rt: HostRuntime) -> Result<(), Fail> {
-    for line in RUNS.lines() {
-        decode_all(rt.alloc(), line)?;
-    }
-    Ok(())
+    expect_lines(rt.alloc(), after_run, RUNS)
 }

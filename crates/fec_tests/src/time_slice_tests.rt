@@ -1,8 +1,8 @@
 //! Each public call, on numbers worked by hand.
-use crate::lines::{expect, numbers_of};
 use mpe_section::RealTime;
 use std::alloc::Global;
 use std::test::Fail;
+use test_lines::{expect, expect_lines, numbers_of};
 use time_slice::{Membership, Window, Windows, delta};
 
 /// A moment, the next one and the units of time in ten milliseconds; after `|` delta_t: whole tens of milliseconds, rounded down, and 4,095
@@ -21,18 +21,9 @@ fn delta_of(alloc: Global, words: &str) -> Result<String, Fail> {
     Ok(format!(in alloc; "{}", delta(now, next, ten))?)
 }
 
-/// Works out delta_t of a line.
-fn work_out(alloc: Global, line: &str) -> Result<(), Fail> {
-    let (words, due) = line.split_once('|').ok_or("no bar")?;
-    expect(words, &delta_of(alloc, words)?, due)
-}
-
 #[test]
 fn delta_is_rounded_down(rt: HostRuntime) -> Result<(), Fail> {
-    for line in DELTAS.lines() {
-        work_out(rt.alloc(), line)?;
-    }
-    Ok(())
+    expect_lines(rt.alloc(), delta_of, DELTAS)
 }
 
 /// Sections that are seen or asked about, each with its moment and its delta_t; after `|` whether they are of the frame under way. Time
