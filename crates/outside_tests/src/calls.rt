@@ -1,29 +1,8 @@
-//! Cases as text, one a line: what is given, or a call, `|`, what must come of it.
+//! Calls as text, one a line: a call, `|`, what must come of it.
 use ipe_io::{LoadFault, Shelf, Sink, put_all};
 use std::alloc::{AllocError as OutOfMemory, Global};
-use std::process::Abort;
 use std::test::Fail;
-
-/// Asserts that a text is what must come of a case.
-pub(crate) fn assert_text(rt: &impl Abort, text: String, want: &str, case: &str) {
-    assert_eq!(rt; text.as_str(), want, "of {case}");
-}
-
-/// Asserts that `answer` of what each line gives, which may have bars itself, is what must come of it.
-pub(crate) fn assert_cases(
-    rt: &impl Abort,
-    alloc: Global,
-    answer: fn(Global, &str) -> Result<String, Fail>,
-    lines: &str,
-) -> Result<(), Fail>
-    requires { (alloc : _) (given : _) → pre answer alloc given }
-{
-    for line in lines.lines() {
-        let (given, want) = line.rsplit_once('|').ok_or("no bar")?;
-        assert_text(rt, answer(alloc, given)?, want, given);
-    }
-    Ok(())
-}
+use test_lines::expect;
 
 /// An object whose calls a table names.
 pub(crate) trait Calls {
@@ -31,16 +10,15 @@ pub(crate) trait Calls {
     fn answer(&mut self, alloc: Global, call: &str) -> Result<String, Fail>;
 }
 
-/// Asserts that an object answers the call of each line as it must.
-pub(crate) fn assert_calls<C: Calls>(
-    rt: &impl Abort,
+/// Fails where an object answers the call of a line otherwise than it must.
+pub(crate) fn expect_calls<C: Calls>(
     alloc: Global,
     object: &mut C,
     lines: &str,
 ) -> Result<(), Fail> {
     for line in lines.lines() {
-        let (call, want) = line.split_once('|').ok_or("no bar")?;
-        assert_text(rt, object.answer(alloc, call)?, want, call);
+        let (call, due) = line.split_once('|').ok_or("no bar")?;
+        expect(call, &object.answer(alloc, call)?, due)?;
     }
     Ok(())
 }

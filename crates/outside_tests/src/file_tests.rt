@@ -1,5 +1,5 @@
 //! What no clause says of the real objects: what the system sees of them. The files stand in the current folder.
-use crate::calls::{Calls, assert_calls, assert_text, loaded, sink_answer};
+use crate::calls::{Calls, expect_calls, loaded, sink_answer};
 use ipe_io::{
     AddFault, Failed, FileRack, FileShelf, Rack, Shelf, Sink, Source, StdSink, StdSource, fill,
     put_all, put_file,
@@ -7,9 +7,9 @@ use ipe_io::{
 use std::alloc::{AllocError as OutOfMemory, Global};
 use std::fs::File;
 use std::io::Write;
-use std::process::Abort;
 use std::test::Fail;
 use std::{fs, io};
+use test_lines::expect;
 
 /// That many bytes, in which no two that are 65,536 apart are equal.
 fn long_text(alloc: Global, size: u32) -> Result<Vec<u8>, OutOfMemory> {
@@ -110,8 +110,8 @@ fn runs_that_rewrite(rt: HostRuntime) -> Result<u32, Fail> {
 #[test]
 fn a_rack_writes_files(rt: HostRuntime) -> Result<(), Fail> {
     let want = "true [] Ok(()) [123] Failed";
-    assert_text(&rt, held_back(rt)?, want, "a flush");
-    assert_text(&rt, dropped(rt)?, "true [567]", "a drop");
+    expect("a flush", &held_back(rt)?, want)?;
+    expect("a drop", &dropped(rt)?, "true [567]")?;
     assert_eq!(rt; runs_that_rewrite(rt)?, 3);
     fs::remove_file(&rt, "ipe_io_a")?;
     fs::remove_file(&rt, "ipe_io_b")?;
@@ -165,25 +165,25 @@ flush|Ok(())
 load|987";
 
 /// Makes the calls of the first sink.
-fn write_byte_by_byte(test: &impl Abort, rt: HostRuntime) -> Result<(), Fail> {
+fn write_byte_by_byte(rt: HostRuntime) -> Result<(), Fail> {
     let file = fs::create(&rt, "ipe_io_c")?;
     let sink = StdSink::new(ByteByByte { file });
     let shelf = FileShelf::new(rt);
-    assert_calls(test, rt.alloc(), &mut Written { sink, shelf }, BYTE_BY_BYTE)
+    expect_calls(rt.alloc(), &mut Written { sink, shelf }, BYTE_BY_BYTE)
 }
 
 /// Makes the calls of the second sink.
-fn write_buffered(test: &impl Abort, rt: HostRuntime) -> Result<(), Fail> {
+fn write_buffered(rt: HostRuntime) -> Result<(), Fail> {
     let sink = StdSink::buffered(rt.alloc(), fs::create(&rt, "ipe_io_c")?)?;
     let shelf = FileShelf::new(rt);
-    assert_calls(test, rt.alloc(), &mut Written { sink, shelf }, BUFFERED)
+    expect_calls(rt.alloc(), &mut Written { sink, shelf }, BUFFERED)
 }
 
 /// A sink reports what its writer took, and no more. One that holds nothing back writes at once, the other at the flush.
 #[test]
 fn a_sink_writes_a_file(rt: HostRuntime) -> Result<(), Fail> {
-    write_byte_by_byte(&rt, rt)?;
-    write_buffered(&rt, rt)?;
+    write_byte_by_byte(rt)?;
+    write_buffered(rt)?;
     fs::remove_file(&rt, "ipe_io_c")?;
     Ok(())
 }
@@ -257,7 +257,7 @@ fn longest(rt: HostRuntime) -> Result<String, Fail> {
 #[test]
 fn the_longest_file_is_read_as_it_was_written(rt: HostRuntime) -> Result<(), Fail> {
     let want = "Ok(()) true Ok(()) Some(TooLong), 5577 5561 101 Some(56)";
-    assert_text(&rt, longest(rt)?, want, "the longest file");
+    expect("the longest file", &longest(rt)?, want)?;
     fs::remove_file(&rt, "ipe_io_d")?;
     Ok(())
 }

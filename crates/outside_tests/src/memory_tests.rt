@@ -1,9 +1,8 @@
 //! What no clause says of the objects in memory: that the calls succeed with ample memory.
-use crate::calls::{Calls, assert_calls, loaded, sink_answer};
+use crate::calls::{Calls, expect_calls, loaded, sink_answer};
 use ipe_io::{MemRack, MemShelf, MemSink, MemSource, Rack, Source, fill, put_file};
 use std::alloc::Global;
 use std::fmt::Write;
-use std::process::Abort;
 use std::test::Fail;
 
 /// A source, and what its bytes are read into.
@@ -26,12 +25,12 @@ impl Calls for Reading {
 }
 
 /// Makes calls of a source of seven bytes in chunks of three, of whose reads one fails.
-fn read_source(rt: &impl Abort, alloc: Global, fails: u32, lines: &str) -> Result<(), Fail> {
+fn read_source(alloc: Global, fails: u32, lines: &str) -> Result<(), Fail> {
     let mut reading = Reading {
         source: MemSource::new(alloc, b"abcdefg", 3, &[fails])?,
         into: *b".....",
     };
-    assert_calls(rt, alloc, &mut reading, lines)
+    expect_calls(alloc, &mut reading, lines)
 }
 
 /// The second read fails.
@@ -49,8 +48,8 @@ fill|Err(Failed) fgcde 1";
 /// A read gives at most the chunk, a listed call fails and takes nothing, and `fill` goes on up to the end.
 #[test]
 fn a_source_in_memory_gives_chunks(rt: HostRuntime) -> Result<(), Fail> {
-    read_source(&rt, rt.alloc(), 1, READS)?;
-    read_source(&rt, rt.alloc(), 4, FILLS)
+    read_source(rt.alloc(), 1, READS)?;
+    read_source(rt.alloc(), 4, FILLS)
 }
 
 /// The answer, the bytes held, how many of them are flushed, and the faults.
@@ -64,15 +63,9 @@ impl Calls for MemSink {
 }
 
 /// Makes calls of a sink with this room, of whose calls one fails.
-fn write_sink(
-    rt: &impl Abort,
-    alloc: Global,
-    room: usize,
-    fails: u32,
-    lines: &str,
-) -> Result<(), Fail> {
+fn write_sink(alloc: Global, room: usize, fails: u32, lines: &str) -> Result<(), Fail> {
     let mut sink = MemSink::new(alloc, room, &[fails])?;
-    assert_calls(rt, alloc, &mut sink, lines)
+    expect_calls(alloc, &mut sink, lines)
 }
 
 /// There is room for five bytes, and the third call fails.
@@ -91,8 +84,8 @@ put cd|Err(Failed) abc 0 1";
 /// every other.
 #[test]
 fn a_sink_in_memory_takes_what_fits(rt: HostRuntime) -> Result<(), Fail> {
-    write_sink(&rt, rt.alloc(), 5, 2, WRITES)?;
-    write_sink(&rt, rt.alloc(), 3, 99, PUTS)
+    write_sink(rt.alloc(), 5, 2, WRITES)?;
+    write_sink(rt.alloc(), 3, 99, PUTS)
 }
 
 /// What a rack answers to a call of the file at a place, or the name, the bytes and how many of them are flushed.
@@ -149,7 +142,7 @@ file 1|b uvw 0 2 4";
 #[test]
 fn a_rack_in_memory_has_two_files(rt: HostRuntime) -> Result<(), Fail> {
     let mut rack = MemRack::new(rt.alloc(), 2, 3, &[3, 7])?;
-    assert_calls(&rt, rt.alloc(), &mut rack, RACK)
+    expect_calls(rt.alloc(), &mut rack, RACK)
 }
 
 /// What the load of a name answers, and the faults of the names a, b and c.
@@ -173,21 +166,21 @@ const TWO_FILES: &str = "b|3 0 0 0
 c|Failed 0 0 1";
 
 /// Makes the loads of a shelf with one file.
-fn load_one_file(rt: &impl Abort, alloc: Global) -> Result<(), Fail> {
+fn load_one_file(alloc: Global) -> Result<(), Fail> {
     let mut shelf = MemShelf::new(alloc, "a", b"12", &[1])?;
-    assert_calls(rt, alloc, &mut shelf, ONE_FILE)
+    expect_calls(alloc, &mut shelf, ONE_FILE)
 }
 
 /// Makes the loads of a shelf with two files.
-fn load_two_files(rt: &impl Abort, alloc: Global) -> Result<(), Fail> {
+fn load_two_files(alloc: Global) -> Result<(), Fail> {
     let mut shelf = MemShelf::new(alloc, "a", b"12", &[])?;
     shelf.also(alloc, "b", b"3")?;
-    assert_calls(rt, alloc, &mut shelf, TWO_FILES)
+    expect_calls(alloc, &mut shelf, TWO_FILES)
 }
 
 /// Faults are counted by name, and those of a second file begin with those of all other names.
 #[test]
 fn a_shelf_in_memory_counts_faults_by_name(rt: HostRuntime) -> Result<(), Fail> {
-    load_one_file(&rt, rt.alloc())?;
-    load_two_files(&rt, rt.alloc())
+    load_one_file(rt.alloc())?;
+    load_two_files(rt.alloc())
 }

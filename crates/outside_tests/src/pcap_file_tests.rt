@@ -1,9 +1,9 @@
 //! Captures written by hand from the format's fields (draft-ietf-opsawg-pcap sections 4 and 5).
-use crate::calls::assert_cases;
 use ipe_io::{MemSource, Source};
 use pcap_file::{CaptureReader, LinkType, NextFault, datagram_of, record_head, write_head};
 use std::alloc::Global;
 use std::test::Fail;
+use test_lines::expect_lines;
 use test_recordings::bytes_of;
 
 /// A capture of raw IP, least significant byte first, with two records of 20 bytes; the second is no IP.
@@ -151,7 +151,7 @@ raw to=60 times=10000 by=360024|10000 10000 Ok(())";
 /// Fields of both heads, each place at which a capture may end or a read may fail, and more than the reader holds at once.
 #[test]
 fn captures_are_read_up_to_their_first_fault(rt: HostRuntime) -> Result<(), Fail> {
-    assert_cases(&rt, rt.alloc(), answers_of, CAPTURES)
+    expect_lines(rt.alloc(), answers_of, CAPTURES)
 }
 
 /// The head of a capture, or that of a record of so many bytes.
@@ -174,5 +174,5 @@ const HEADS: &str = "capture|D4C3B2A10200040000000000000000000000040065000000
 /// Each byte of a head is written.
 #[test]
 fn heads_are_written(rt: HostRuntime) -> Result<(), Fail> {
-    assert_cases(&rt, rt.alloc(), head_of, HEADS)
+    expect_lines(rt.alloc(), head_of, HEADS)
 }

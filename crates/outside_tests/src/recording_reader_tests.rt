@@ -2,12 +2,12 @@
 ghost use Rattle.std.specs.Prelude.{◌≡◌, [], IfOk};
 ghost use Rattle.recording_reader.specs.Any.{HasReadIn, count_in};
 
-use crate::calls::assert_cases;
 use ipe_io::{Failed, MemSource, Recording, Source, StdSource};
 use recording_reader::{FramePieces, PacketPieces, RecordingPieces, Taker, read_to_end};
 use std::alloc::{AllocError as OutOfMemory, Global};
 use std::fmt::Write;
 use std::test::Fail;
+use test_lines::expect_lines;
 use test_recordings::bytes_of;
 
 /// Notes the records that it is given, and stops at one.
@@ -99,25 +99,25 @@ fn noted<I: Source>(alloc: Global, form: &str, source: &mut I, last: u32) -> Res
 }
 
 /// A form and a recording; what is noted, and the answer.
-const RECORDINGS: &str = "Plain||left 0
-Plain|00*187 01|0:188:01 left 0
-Plain|00*187 01 00*187 02 EE*187|0:188:01 0:188:02 left 187
-Stamped|EE*195|left 195
-Stamped|0000000000000005 00*187 01 4000000000000000 00*187 02|5:188:01 none:188:02 left 0
-Stamped|0000000000000005 00*187 01 0000000000000009 00*187 02 EE|5:188:01 9:188:02 left 1
-M2ts|40000007 00*187 01|7:188:01 left 0
-M2ts|3FFFFFFF 00*187 01 80000009 00*187 02 EE*4|1073741823:188:01 1073741833:188:02 left 4
-10||left 0
-10|00*9 01|0:10:01 left 0
-10|00*9 01 00*9 02 EE*9|0:10:01 0:10:02 left 9
-7274|EE*7273|left 7273
-7274|00*7273 01 00*7273 02|0:7274:01 0:7274:02 left 0
-7274|00*7273 01 00*7273 02 EE|0:7274:01 0:7274:02 left 1
+const RECORDINGS: &str = "Plain: |left 0
+Plain: 00*187 01|0:188:01 left 0
+Plain: 00*187 01 00*187 02 EE*187|0:188:01 0:188:02 left 187
+Stamped: EE*195|left 195
+Stamped: 0000000000000005 00*187 01 4000000000000000 00*187 02|5:188:01 none:188:02 left 0
+Stamped: 0000000000000005 00*187 01 0000000000000009 00*187 02 EE|5:188:01 9:188:02 left 1
+M2ts: 40000007 00*187 01|7:188:01 left 0
+M2ts: 3FFFFFFF 00*187 01 80000009 00*187 02 EE*4|1073741823:188:01 1073741833:188:02 left 4
+10: |left 0
+10: 00*9 01|0:10:01 left 0
+10: 00*9 01 00*9 02 EE*9|0:10:01 0:10:02 left 9
+7274: EE*7273|left 7273
+7274: 00*7273 01 00*7273 02|0:7274:01 0:7274:02 left 0
+7274: 00*7273 01 00*7273 02 EE|0:7274:01 0:7274:02 left 1
 ";
 
 /// What is noted of a form and a recording whose source lends, after the first piece.
 fn noted_lent(alloc: Global, given: &str) -> Result<String, Fail> {
-    let (form, text) = given.split_once('|').ok_or("no form")?;
+    let (form, text) = given.split_once(": ").ok_or("no form")?;
     let bytes = bytes_of(alloc, text)?;
     let mut source = StdSource::new(alloc, bytes.as_slice())?;
     noted(alloc, form, &mut source, 9)
@@ -125,47 +125,47 @@ fn noted_lent(alloc: Global, given: &str) -> Result<String, Fail> {
 
 /// What is noted of a form and a recording whose source never lends.
 fn noted_moved(alloc: Global, given: &str) -> Result<String, Fail> {
-    let (form, text) = given.split_once('|').ok_or("no form")?;
+    let (form, text) = given.split_once(": ").ok_or("no form")?;
     let mut source = MemSource::new(alloc, &bytes_of(alloc, text)?, 100, &[])?;
     noted(alloc, form, &mut source, 9)
 }
 
 #[test]
 fn each_piece_is_given_once_and_in_order(rt: HostRuntime) -> Result<(), Fail> {
-    assert_cases(&rt, rt.alloc(), noted_lent, RECORDINGS)?;
-    assert_cases(&rt, rt.alloc(), noted_moved, RECORDINGS)
+    expect_lines(rt.alloc(), noted_lent, RECORDINGS)?;
+    expect_lines(rt.alloc(), noted_moved, RECORDINGS)
 }
 
 /// Two pieces of 188 bytes and one byte more, in reads of 100 bytes.
 const TWO: &str = "00*187 01 00*187 02 EE";
 
 /// A form, which call of the source fails, and at which record the taker stops; what is noted, and the answer.
-const STOPS: &str = "Plain|0|9|Source
-Plain|1|9|Source
-Plain|2|9|0:188:01 Source
-Plain|3|9|0:188:01 Source
-Plain|4|9|0:188:01 0:188:02 Source
-Plain|5|9|0:188:01 0:188:02 Source
-Plain|6|9|0:188:01 0:188:02 left 1
-188|0|9|Source
-188|1|9|Source
-188|2|9|0:188:01 Source
-188|3|9|0:188:01 Source
-188|4|9|0:188:01 0:188:02 Source
-188|5|9|0:188:01 0:188:02 Source
-188|6|9|0:188:01 0:188:02 left 1
-Plain|9|0|Taker
-Plain|9|1|0:188:01 Taker
-Plain|9|2|0:188:01 0:188:02 left 1
-188|9|0|Taker
-188|9|1|0:188:01 Taker
-188|9|2|0:188:01 0:188:02 left 1
+const STOPS: &str = "Plain: 0 9|Source
+Plain: 1 9|Source
+Plain: 2 9|0:188:01 Source
+Plain: 3 9|0:188:01 Source
+Plain: 4 9|0:188:01 0:188:02 Source
+Plain: 5 9|0:188:01 0:188:02 Source
+Plain: 6 9|0:188:01 0:188:02 left 1
+188: 0 9|Source
+188: 1 9|Source
+188: 2 9|0:188:01 Source
+188: 3 9|0:188:01 Source
+188: 4 9|0:188:01 0:188:02 Source
+188: 5 9|0:188:01 0:188:02 Source
+188: 6 9|0:188:01 0:188:02 left 1
+Plain: 9 0|Taker
+Plain: 9 1|0:188:01 Taker
+Plain: 9 2|0:188:01 0:188:02 left 1
+188: 9 0|Taker
+188: 9 1|0:188:01 Taker
+188: 9 2|0:188:01 0:188:02 left 1
 ";
 
 /// What is noted of those two pieces.
 fn stopped(alloc: Global, given: &str) -> Result<String, Fail> {
-    let (form, rest) = given.split_once('|').ok_or("no form")?;
-    let (call, last) = rest.split_once('|').ok_or("no record")?;
+    let (form, rest) = given.split_once(": ").ok_or("no form")?;
+    let (call, last) = rest.split_once(' ').ok_or("no record")?;
     let call = call.parse::<u32>()?;
     let last = last.parse::<u32>()?;
     let mut source = MemSource::new(alloc, &bytes_of(alloc, TWO)?, 100, &[call])?;
@@ -175,5 +175,5 @@ fn stopped(alloc: Global, given: &str) -> Result<String, Fail> {
 /// Each call of the source fails in turn, and the taker stops at each record in turn: all pieces before that are given.
 #[test]
 fn a_reading_stops_where_the_source_or_the_taker_does(rt: HostRuntime) -> Result<(), Fail> {
-    assert_cases(&rt, rt.alloc(), stopped, STOPS)
+    expect_lines(rt.alloc(), stopped, STOPS)
 }

@@ -1,9 +1,9 @@
 //! Recordings in memory, by hand.
-use crate::calls::assert_cases;
 use ipe_io::{MemSource, Recording, Source, StdSource};
 use std::alloc::{AllocError as OutOfMemory, Global};
 use std::fmt::Write;
 use std::test::Fail;
+use test_lines::expect_lines;
 use test_recordings::bytes_of;
 use ts_record::{Record, RecordReader, lend_record};
 
@@ -77,7 +77,7 @@ fn put_all_answers(
 
 /// All that a reader answers over the recording of a form, after `!` the call that fails, and bytes.
 fn answers_of(alloc: Global, given: &str) -> Result<String, Fail> {
-    let (form, bytes) = given.split_once('|').ok_or("no form")?;
+    let (form, bytes) = given.split_once(": ").ok_or("no form")?;
     let (form, call) = form.split_once(" !").unwrap_or((form, "99"));
     let mut reader = RecordReader::new(form_of(form)?);
     let mut source = source_of(alloc, bytes, call)?;
@@ -92,23 +92,23 @@ fn answers_of(alloc: Global, given: &str) -> Result<String, Fail> {
 /// Of Stamped: 2^32 + 5 microseconds; the last moment, and the first stamp that is none. Of m2ts: both permission bits are set in the
 /// first stamp, and ten units later the stamps have gone round; one permission bit; two records of three calls each: the stamp, 100
 /// and 88 bytes of the packet.
-const RECORDINGS: &str = "Plain||end end 0 0
-Plain|00*188 01*188 EE*187|0 0 end end 187 0
-Stamped|0000000100000005 00*188 EE*195|4294967301 end end 195 0
-Stamped|3FFFFFFFFFFFFFFF 00*188 4000000000000000 01*188|4611686018427387903 none end end 0 0
-M2ts|FFFFFFFF 00*188 00000009 01*188 80000009 02*188 EE*4|1073741823 1073741833 1073741833 end end 4 0
-M2ts|40000007 00*188 EE*191|7 end end 191 0
-M2ts !0|00000001 00*188 00000002 01*188|Failed closed 0 1
-M2ts !1|00000001 00*188 00000002 01*188|Failed closed 0 1
-M2ts !2|00000001 00*188 00000002 01*188|Failed closed 0 1
-M2ts !3|00000001 00*188 00000002 01*188|1 Failed closed 0 1
-M2ts !4|00000001 00*188 00000002 01*188|1 Failed closed 0 1
-M2ts !5|00000001 00*188 00000002 01*188|1 Failed closed 0 1";
+const RECORDINGS: &str = "Plain: |end end 0 0
+Plain: 00*188 01*188 EE*187|0 0 end end 187 0
+Stamped: 0000000100000005 00*188 EE*195|4294967301 end end 195 0
+Stamped: 3FFFFFFFFFFFFFFF 00*188 4000000000000000 01*188|4611686018427387903 none end end 0 0
+M2ts: FFFFFFFF 00*188 00000009 01*188 80000009 02*188 EE*4|1073741823 1073741833 1073741833 end end 4 0
+M2ts: 40000007 00*188 EE*191|7 end end 191 0
+M2ts !0: 00000001 00*188 00000002 01*188|Failed closed 0 1
+M2ts !1: 00000001 00*188 00000002 01*188|Failed closed 0 1
+M2ts !2: 00000001 00*188 00000002 01*188|Failed closed 0 1
+M2ts !3: 00000001 00*188 00000002 01*188|1 Failed closed 0 1
+M2ts !4: 00000001 00*188 00000002 01*188|1 Failed closed 0 1
+M2ts !5: 00000001 00*188 00000002 01*188|1 Failed closed 0 1";
 
 /// Records have moments, the rest is the tail, and a failed read closes the reader.
 #[test]
 fn recordings_are_read_so(rt: HostRuntime) -> Result<(), Fail> {
-    assert_cases(&rt, rt.alloc(), answers_of, RECORDINGS)
+    expect_lines(rt.alloc(), answers_of, RECORDINGS)
 }
 
 /// 1,024 records of m2ts, the packet of each filled with its number, and five bytes after them.
