@@ -1,9 +1,9 @@
 //! What no clause says: that with ample memory words are read so.
 
-use crate::cases::assert_cases;
 use command_words::{Carrier, Command, WordsFault, parse_words};
 use std::alloc::{AllocError, Global};
 use std::test::Fail;
+use test_lines::expect_lines;
 
 /// The words of a text with a slash between two; none where the text is empty.
 fn words_of(alloc: Global, text: &str) -> Result<Vec<String>, Fail> {
@@ -133,5 +133,5 @@ relay/a/-b|usage";
 
 #[test]
 fn words_are_read_so(rt: HostRuntime) -> Result<(), Fail> {
-    assert_cases(&rt, rt.alloc(), read_of, LINES)
+    expect_lines(rt.alloc(), read_of, LINES)
 }

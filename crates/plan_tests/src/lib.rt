@@ -1,11 +1,9 @@
 //! Tests of what an operator gives: words and settings by hand -> [command_words, service_plan, settings_load] -> commands, plans and
 //! faults.
 //!
-//! Tests alone. They stand apart from the crates that they test, so that a change of a test proves none of them anew. Begin with `cases`.
+//! Tests alone. They stand apart from the crates that they test, so that a change of a test proves none of them anew.
 #![tactic(auto)]
 
-#[cfg(test)]
-mod cases;
 #[cfg(test)]
 mod command_words_tests;
 #[cfg(test)]

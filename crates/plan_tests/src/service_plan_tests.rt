@@ -1,6 +1,5 @@
 //! Settings by hand: those of a realistic run, and each fault beside neighbours that are accepted.
 
-use crate::cases::{assert_cases, assert_text};
 use ip_datagram::IpAddress;
 use service_plan::{
     Change, Kind, Plan, PlanError, Service, longest, pid_in, read_plan, route, route_in,
@@ -8,6 +7,7 @@ use service_plan::{
 };
 use std::alloc::{AllocError, Global};
 use std::test::Fail;
+use test_lines::{expect, expect_lines};
 
 /// An INT.
 const INT: &str = "[int]
@@ -240,10 +240,9 @@ INT FILES MOVE rules=['10.0.0.1/8']|Rules";
 #[test]
 fn each_fault_is_named(rt: HostRuntime) -> Result<(), Fail> {
     for table in &[WHOLES, KEYS, URGENT, CHANGES, CHANGE_KEYS, VERSIONS] {
-        assert_cases(&rt, rt.alloc(), fault_of, table)?;
+        expect_lines(rt.alloc(), fault_of, table)?;
     }
-    assert_text(&rt, fault_in(rt.alloc(), &[0xFF])?, "Text");
-    Ok(())
+    expect("FF", &fault_in(rt.alloc(), &[0xFF])?, "Text")
 }
 
 /// A kind and its values; of urgent rules how many there are.
@@ -397,12 +396,11 @@ fn read_of(alloc: Global, words: &str, records: &[u32]) -> Result<String, Fail> 
 fn plans_are_read(rt: HostRuntime) -> Result<(), Fail> {
     let alloc = rt.alloc();
     let run = "recording='stamped' INT LECTURE window_start=100 window_length=1500 FILES";
-    assert_text(&rt, read_of(alloc, run, &[])?, RUN);
+    expect("a run", &read_of(alloc, run, &[])?, RUN)?;
     let changing = "INT OTHER FILES
 [[change]] at=3 [[change.service]] name='files' pid=514 rules=['10.0.0.0/8']
 [[change]] at=5 [[change.service]] name='files' [[change.service]] name='other' pid=516";
-    assert_text(&rt, read_of(alloc, changing, &[2, 4, 5])?, CHANGING);
-    Ok(())
+    expect("changes", &read_of(alloc, changing, &[2, 4, 5])?, CHANGING)
 }
 
 /// The plan of one PID.
@@ -426,7 +424,6 @@ files Ule pid 513, address true, packing true up to 32757 bytes, unicast [255, 2
 #[test]
 fn plans_without_settings_are_made(rt: HostRuntime) -> Result<(), Fail> {
     let alloc = rt.alloc();
-    assert_text(&rt, text_of(alloc, &ule_plan(alloc, 17)?)?, ONE_PID);
-    assert_text(&rt, text_of(alloc, &sample_plan(alloc)?)?, SAMPLE);
-    Ok(())
+    expect("ule 17", &text_of(alloc, &ule_plan(alloc, 17)?)?, ONE_PID)?;
+    expect("sample", &text_of(alloc, &sample_plan(alloc)?)?, SAMPLE)
 }

@@ -1,11 +1,11 @@
 //! What no clause says: that with ample memory settings files are loaded so; and lines by hand.
 
-use crate::cases::assert_text;
 use ipe_io::{MemShelf, MemSink};
 use service_plan::{Key, Plan, PlanFault};
 use settings_load::{FileFault, SettingsError, list_services, load_plan, put_fault};
 use std::alloc::Global;
 use std::test::Fail;
+use test_lines::expect;
 
 /// Two services in baseband frames.
 const FRAMES: &str = "carrier = 'bb'
@@ -57,12 +57,15 @@ fn listed(alloc: Global, name: &str, file: &str, fails: &[u32]) -> Result<String
 fn files_are_loaded_and_listed(rt: HostRuntime) -> Result<(), Fail> {
     let alloc = rt.alloc();
     let lines = "a gse 0\nb-2 gse 255\n20 bytes flushed";
-    assert_text(&rt, listed(alloc, "a", FRAMES, &[])?, lines);
-    assert_text(&rt, listed(alloc, "b", FRAMES, &[])?, "ShelfFault");
-    assert_text(&rt, listed(alloc, "a", FRAMES, &[0])?, "ShelfFault");
+    expect("a file", &listed(alloc, "a", FRAMES, &[])?, lines)?;
+    expect("no file", &listed(alloc, "b", FRAMES, &[])?, "ShelfFault")?;
+    expect(
+        "a load that fails",
+        &listed(alloc, "a", FRAMES, &[0])?,
+        "ShelfFault",
+    )?;
     let fault = "File(Plan(Missing(Service)))";
-    assert_text(&rt, listed(alloc, "a", "", &[])?, fault);
-    Ok(())
+    expect("no service", &listed(alloc, "a", "", &[])?, fault)
 }
 
 /// What is told of a fault.
@@ -93,7 +96,7 @@ const FAULTS: [(FileFault, &str); 5] = [
 #[test]
 fn faults_have_their_lines(rt: HostRuntime) -> Result<(), Fail> {
     for (fault, want) in &FAULTS {
-        assert_text(&rt, told(rt.alloc(), *fault)?, want);
+        expect(want, &told(rt.alloc(), *fault)?, want)?;
     }
     Ok(())
 }
