@@ -5,12 +5,6 @@
 #![tactic(auto)]
 
 #[cfg(test)]
-mod lines;
-#[cfg(test)]
-mod plans;
-#[cfg(test)]
-mod relay_cases;
-#[cfg(test)]
 mod relay_gather_tests;
 #[cfg(test)]
 mod relay_tests;
@@ -24,3 +18,5 @@ mod sample_draws_tests;
 mod send_tests;
 #[cfg(test)]
 mod stream_tests;
+#[cfg(test)]
+mod words;

@@ -2,8 +2,7 @@
 ghost use Rattle.std.specs.Prelude.{◌≡◌};
 ghost use Rattle.plan.specs.PlanView.{plan_fields};
 
-use crate::plans::plan_of;
-use crate::relay_cases::SECTIONS;
+use crate::words::{SECTIONS, plan_of};
 use datagram_routing::Offered;
 use ipe_io::{OutOfMemory, Outlet};
 use relay_core::{Gather, GatherFault, OuterPlan};

@@ -1,15 +1,23 @@
 //! Relays of small recordings: from SNDUs to datagram_sections, from MPE-FEC frames, of two services into one.
-use crate::plans::plan_of;
-use crate::relay_cases::{CASES, Case, SECTIONS, SNDUS};
+use crate::words::{SECTIONS, named, plan_of};
 use capture_intake::CaptureEnd;
 use ipe_io::{MemSink, MemSource};
 use relay_command::{RelayEnd, relay};
 use send_command::send;
 use std::alloc::{AllocError as OutOfMemory, Global};
 use std::test::Fail;
+use test_lines::expect_lines;
 use test_recordings::settings::{FRAMES, ONE_AND_TWO};
 use test_recordings::units::{SECTION, SNDU};
 use test_recordings::{filled, joined, on_pid, small_capture, start};
+
+/// A service of SNDUs on PID 256.
+const SNDUS: &str = "[[service]]
+name = \"sndus\"
+kind = \"ule\"
+pid = 256
+rules = [\"239.0.0.0/8\"]
+";
 
 /// How a relay of a recording ends, and what it wrote. A read gives 100 bytes at most.
 fn relayed(
@@ -40,42 +48,54 @@ fn stream_of(alloc: Global, outer: &str, count: usize) -> Result<MemSink, Fail> 
     }
 }
 
-/// The recording of a case.
-fn recording_of(alloc: Global, case: &Case<'_>) -> Result<Vec<u8>, OutOfMemory> {
+/// Packets of PID 256 with one SNDU each, by their continuity_counters; after `;` how many bytes stand after them, and the call of the input
+/// or of the output that fails; after `|` how the relay ends, and how many bytes of the packet with the section are written and flushed.
+///
+/// A read gives 100 bytes at most: two for a packet, and one at the end.
+const CASES: &str = "\
+0|Done(Tally { offered: 1, not_ip: 0, unrouted: 0, too_long: 0 }), 188 written, 188 flushed|one datagram
+0 0|Done(Tally { offered: 1, not_ip: 0, unrouted: 0, too_long: 0 }), 188 written, 188 flushed|a duplicate packet
+0; tail=187|Done(Tally { offered: 1, not_ip: 0, unrouted: 0, too_long: 0 }), 188 written, 188 flushed|187 bytes after the last packet
+|Done(Tally { offered: 0, not_ip: 0, unrouted: 0, too_long: 0 }), 0 written, 0 flushed|an empty recording
+0; input=0|SourceFault, 0 written, 0 flushed|the input fails
+0; input=2|SourceFault, 0 written, 0 flushed|the input fails at the end
+0; output=0|SinkFault, 0 written, 0 flushed|the output fails
+0; output=1|SinkFault, 188 written, 0 flushed|the output is not flushed
+; output=0|SinkFault, 0 written, 0 flushed|an empty stream is not flushed";
+
+/// A recording of packets, and as many bytes after them.
+fn recording_of(alloc: Global, counters: &str, tail: u32) -> Result<Vec<u8>, Fail> {
     let mut recording = Vec::new(alloc);
-    for counter in case.counters {
-        recording.extend_from_slice(&start(*counter, 0, &SNDU))?;
+    for counter in counters.split_whitespace() {
+        recording.extend_from_slice(&start(counter.parse::<u8>()?, 0, &SNDU))?;
     }
-    recording.extend_from_slice(&filled(alloc, 0x47, case.tail)?)?;
+    recording.extend_from_slice(&filled(alloc, 0x47, tail as usize)?)?;
     Ok(recording)
 }
 
-/// Whether the relay of a case ends as it says, and has written so much of this packet.
-fn is_relayed_so(alloc: Global, case: &Case<'_>, packet: &[u8]) -> Result<bool, Fail> {
-    let recording = recording_of(alloc, case)?;
-    let (end, output) = relayed(
-        alloc,
-        SNDUS,
-        SECTIONS,
-        &recording,
-        case.input_fails,
-        case.output_fails,
-    )?;
-    Ok(
-        end == case.end
-            && Some(output.bytes()) == packet.get(..case.written)
-            && output.flushed() == case.flushed,
-    )
+/// How a relay ends, and how many bytes of the packet with the section its output has written and flushed: pointer_field 0 and bytes FF after
+/// the section.
+fn told(alloc: Global, end: RelayEnd, output: &MemSink) -> Result<String, Fail> {
+    if !on_pid(start(0, 0, &SECTION), 300).starts_with(output.bytes()) {
+        return Err(Fail::new("another packet"));
+    }
+    let written = output.bytes().len();
+    let flushed = output.flushed();
+    Ok(format!(in alloc; "{end:?}, {written} written, {flushed} flushed")?)
 }
 
-/// The packet with the datagram_section of the datagram, pointer_field 0 and bytes FF after it.
+/// How the relay of a line ends.
+fn end_of(alloc: Global, given: &str) -> Result<String, Fail> {
+    let (counters, words) = given.split_once(';').unwrap_or((given, ""));
+    let [tail, input, output] = named(words, "tail input output", [0, u32::MAX, u32::MAX])?;
+    let recording = recording_of(alloc, counters, tail)?;
+    let (end, output) = relayed(alloc, SNDUS, SECTIONS, &recording, &[input], &[output])?;
+    told(alloc, end, &output)
+}
+
 #[test]
 fn a_datagram_comes_again_in_a_section(rt: HostRuntime) -> Result<(), Fail> {
-    let packet = on_pid(start(0, 0, &SECTION), 300);
-    for case in &CASES {
-        assert!(rt; is_relayed_so(rt.alloc(), case, &packet)?, "{}", case.name);
-    }
-    Ok(())
+    expect_lines(rt.alloc(), end_of, CASES)
 }
 
 /// Whether a recording is relayed to its end, and these bytes are written.

@@ -1,20 +1,12 @@
 //! What services are offered of captures, counted by hand.
-use crate::plans::plan_in;
+use crate::words::{datagram_in, plan_in};
 use datagram_routing::Offered;
 use ip_datagram::DatagramList;
 use service_plan::Plan;
-use std::alloc::Global;
+use std::alloc::{AllocError as OutOfMemory, Global};
 use std::test::Fail;
-use test_recordings::settings::{FILES, LECTURE};
+use test_lines::expect_lines;
 use test_recordings::{Datagram, datagram_of};
-
-/// Files in SNDUs for the whole of 239.0.0.0/8.
-const ALL_FILES: &str = "[[service]]
-name = \"files\"
-kind = \"ule\"
-pid = 513
-rules = [\"239.0.0.0/8\"]
-";
 
 /// What three datagrams and a record without a datagram give.
 fn offered_of(alloc: Global, plan: &Plan, datagrams: [Datagram; 3]) -> Result<Offered, Fail> {
@@ -27,159 +19,66 @@ fn offered_of(alloc: Global, plan: &Plan, datagrams: [Datagram; 3]) -> Result<Of
     Ok(offered)
 }
 
-/// Datagrams, and what becomes of them.
-#[derive(Clone, Copy)]
-struct Case<'a> {
-    name: &'a str,
-    settings: &'a [&'a str],
-    datagrams: [Datagram; 3],
-    /// The sizes that each service is offered.
-    sizes: &'a [&'a [u16]],
-    unrouted: u32,
-    too_long: u32,
-}
-
+/// Pieces of settings, and after `;` three datagrams; what each service is offered, by its sizes, and what becomes of the others.
+///
 /// The first service with a rule that matches takes a datagram, or none does: 4,080 bytes go into a section, 32,757 into an SNDU.
-static CASES: [Case; 4] = [
-    Case {
-        name: "a rule matches",
-        settings: &[FILES],
-        datagrams: [
-            Datagram {
-                size: 28,
-                to: [239, 2, 0, 9],
-            },
-            Datagram {
-                size: 28,
-                to: [10, 0, 0, 9],
-            },
-            Datagram {
-                size: 20,
-                to: [239, 3, 0, 0],
-            },
-        ],
-        sizes: &[&[28]],
-        unrouted: 2,
-        too_long: 0,
-    },
-    Case {
-        name: "rules of two services match",
-        settings: &[LECTURE, ALL_FILES],
-        datagrams: [
-            Datagram {
-                size: 20,
-                to: [239, 1, 0, 9],
-            },
-            Datagram {
-                size: 21,
-                to: [239, 2, 0, 9],
-            },
-            Datagram {
-                size: 22,
-                to: [239, 1, 9, 9],
-            },
-        ],
-        sizes: &[&[20, 22], &[21]],
-        unrouted: 0,
-        too_long: 0,
-    },
-    Case {
-        name: "a section has 4,080 bytes of a datagram at most",
-        settings: &[LECTURE, ALL_FILES],
-        datagrams: [
-            Datagram {
-                size: 4080,
-                to: [239, 1, 0, 9],
-            },
-            Datagram {
-                size: 4081,
-                to: [239, 1, 0, 9],
-            },
-            Datagram {
-                size: 20,
-                to: [10, 0, 0, 9],
-            },
-        ],
-        sizes: &[&[4080], &[]],
-        unrouted: 1,
-        too_long: 1,
-    },
-    Case {
-        name: "an SNDU has 32,757 bytes of a datagram at most",
-        settings: &[LECTURE, ALL_FILES],
-        datagrams: [
-            Datagram {
-                size: 32757,
-                to: [239, 2, 0, 9],
-            },
-            Datagram {
-                size: 32758,
-                to: [239, 2, 0, 9],
-            },
-            Datagram {
-                size: 4081,
-                to: [239, 2, 0, 9],
-            },
-        ],
-        sizes: &[&[], &[32757, 4081]],
-        unrouted: 0,
-        too_long: 1,
-    },
-];
+const CASES: &str = "\
+FILES; 28>239.2.0.9 28>10.0.0.9 20>239.3.0.0|offered 28; not IP 1, unrouted 2, too long 0|a rule matches
+LECTURE ALL_FILES; 20>239.1.0.9 21>239.2.0.9 22>239.1.9.9|offered 20 22; offered 21; not IP 1, unrouted 0, too long 0|rules of two services match
+LECTURE ALL_FILES; 4080>239.1.0.9 4081>239.1.0.9 20>10.0.0.9|offered 4080; offered; not IP 1, unrouted 1, too long 1|a section has 4,080 bytes of a datagram at most
+LECTURE ALL_FILES; 32757>239.2.0.9 32758>239.2.0.9 4081>239.2.0.9|offered; offered 32757 4081; not IP 1, unrouted 0, too long 1|an SNDU has 32,757 bytes of a datagram at most";
 
-/// Whether each service is offered datagrams of these sizes.
-fn are_sizes(offered: &Offered, sizes: &[&[u16]]) -> bool {
-    if offered.lists.versions() == 0 || offered.lists.services(0) != sizes.len() {
-        return false;
-    }
-    for (k, wanted) in sizes.iter().enumerate() {
-        let Ok(place) = u32::try_from(k) else {
-            return false;
-        };
-        if k >= offered.lists.services(0) || !has_sizes(offered.lists.at(0, place), wanted) {
-            return false;
-        }
-    }
-    true
-}
-
-/// Whether the datagrams of a list have these sizes.
-fn has_sizes(list: &DatagramList, sizes: &[u16]) -> bool {
-    if list.len() != sizes.len() {
-        return false;
-    }
+/// Appends the sizes of the datagrams of a list.
+fn put_sizes(text: &mut String, list: &DatagramList) -> Result<(), OutOfMemory> {
+    text.push_str("offered")?;
     for i in 0..list.len() {
-        match sizes.get(i) {
-            Some(size) => {
-                if list.at(i).len() != usize::from(*size) {
-                    return false;
-                }
-            }
-            None => return false,
-        }
+        write!(text, " {}", list.at(i).len())?;
     }
-    true
+    text.push_str("; ")
 }
 
-/// Whether this is what becomes of the datagrams of a case.
-fn is_of(offered: &Offered, case: &Case<'_>) -> bool {
-    are_sizes(offered, case.sizes)
-        && offered.not_ip == 1
-        && offered.unrouted == case.unrouted
-        && offered.too_long == case.too_long
+/// Appends what each service is offered, there being no changes.
+fn put_services(text: &mut String, offered: &Offered) -> Result<(), Fail> {
+    if offered.lists.versions() != 1 {
+        return Err(Fail::new("other lists"));
+    }
+    for service in 0..offered.lists.services(0) {
+        put_sizes(text, offered.lists.at(0, u32::try_from(service)?))?;
+    }
+    Ok(())
 }
 
-/// Whether the datagrams of a case are routed as it says.
-fn is_routed(alloc: Global, case: &Case<'_>) -> Result<bool, Fail> {
-    let plan = plan_in(alloc, case.settings)?;
-    let offered = offered_of(alloc, &plan, case.datagrams)?;
-    Ok(is_of(&offered, case))
+/// What becomes of datagrams.
+fn told(alloc: Global, offered: &Offered) -> Result<String, Fail> {
+    let mut text = String::new(alloc);
+    put_services(&mut text, offered)?;
+    let (not_ip, unrouted, too_long) = (offered.not_ip, offered.unrouted, offered.too_long);
+    write!(
+        &mut text,
+        "not IP {not_ip}, unrouted {unrouted}, too long {too_long}"
+    )?;
+    Ok(text)
+}
+
+/// The three datagrams of words.
+fn datagrams_in(words: &str) -> Result<[Datagram; 3], Fail> {
+    let (first, rest) = words.split_once(' ').ok_or("no second datagram")?;
+    let (second, third) = rest.split_once(' ').ok_or("no third datagram")?;
+    Ok([
+        datagram_in(first)?,
+        datagram_in(second)?,
+        datagram_in(third)?,
+    ])
+}
+
+/// What becomes of the datagrams of a line.
+fn routed(alloc: Global, given: &str) -> Result<String, Fail> {
+    let (settings, words) = given.split_once("; ").ok_or("no datagrams")?;
+    let plan = plan_in(alloc, settings)?;
+    told(alloc, &offered_of(alloc, &plan, datagrams_in(words)?)?)
 }
 
 #[test]
 fn the_first_service_with_a_rule_takes_what_fits_it(rt: HostRuntime) -> Result<(), Fail> {
-    for case in &CASES {
-        assert!(rt; is_routed(rt.alloc(), case)?, "{}", case.name);
-    }
-    Ok(())
+    expect_lines(rt.alloc(), routed, CASES)
 }

@@ -1,10 +1,10 @@
 //! Samples whose summaries were computed by two models in another language, apart from this code.
-use crate::lines::{expect, numbers_of};
 use ipe_io::MemSink;
 use sample_command::sample;
 use std::alloc::Global;
 use std::fmt::Write;
 use std::test::Fail;
+use test_lines::{expect_lines, numbers_of};
 
 /// The lines that an output holds from a line on, how its sample ended, and how many of its bytes are flushed.
 fn summary(alloc: Global, number: u32, output: &mut MemSink, from: usize) -> Result<String, Fail> {
@@ -22,28 +22,12 @@ fn summary(alloc: Global, number: u32, output: &mut MemSink, from: usize) -> Res
     Ok(text)
 }
 
-/// The summary over an output of this room whose call of this number fails.
+/// The summary of a line: a sample's number, the room of its output, the call of the output that fails, and the line of the summary from which
+/// on it is shown; after `|` these lines, the end, and how many bytes of the summary are flushed.
 fn summary_of(alloc: Global, asked: &str) -> Result<String, Fail> {
     let [number, room, fail, from] = numbers_of::<4>(asked)?;
-    let mut output = MemSink::new(alloc, room as usize, &[fail])?;
-    summary(alloc, number, &mut output, from as usize)
-}
-
-/// Runs the sample of a line.
-fn run_sample(alloc: Global, line: &str) -> Result<(), Fail> {
-    let (asked, due) = line.split_once('|').ok_or("no bar")?;
-    expect(asked, &summary_of(alloc, asked)?, due)
-}
-
-/// Runs the samples of all lines.
-///
-/// A line has a sample's number, the room of its output, the call of the output that fails, and the line of the summary from which on it
-/// is shown; after `|` these lines, the end, and how many bytes of the summary are flushed.
-fn run_samples(alloc: Global, lines: &str) -> Result<(), Fail> {
-    for line in lines.lines() {
-        run_sample(alloc, line)?;
-    }
-    Ok(())
+    let mut output = MemSink::new(alloc, room as usize, &[u32::try_from(fail)?])?;
+    summary(alloc, u32::try_from(number)?, &mut output, from as usize)
 }
 
 /// The output has room.
@@ -55,7 +39,7 @@ const SUMMARIES: &str =
 /// The whole summary of sample 1, and the lines of the services of two other numbers, the last number among them.
 #[test]
 fn samples_have_their_summaries(rt: HostRuntime) -> Result<(), Fail> {
-    run_samples(rt.alloc(), SUMMARIES)
+    expect_lines(rt.alloc(), summary_of, SUMMARIES)
 }
 
 /// The summary of sample 1 has 73 bytes. The first call writes, and the second flushes where there is room for all of them.
@@ -66,5 +50,5 @@ const PREFIXES: &str = "1 100 0 0|Err(Sink) 0 of 0
 /// An output that fails has a prefix of the summary.
 #[test]
 fn an_output_that_fails_has_a_prefix(rt: HostRuntime) -> Result<(), Fail> {
-    run_samples(rt.alloc(), PREFIXES)
+    expect_lines(rt.alloc(), summary_of, PREFIXES)
 }

@@ -1,21 +1,18 @@
 //! Draws and datagrams of samples, worked out apart from this code.
-use crate::lines::expect;
 use datagram_routing::Offered;
 use ip_datagram::DatagramList;
 use plan::sample_plan;
 use sample_draws::{Draws, offer_sample};
 use std::alloc::{AllocError as OutOfMemory, Global};
-use std::fmt::Write;
 use std::test::Fail;
+use test_lines::expect_lines;
 
 /// The first three draws of a number.
 fn draws_of(alloc: Global, number: u32) -> Result<String, OutOfMemory> {
     let mut draws = Draws::new(number);
-    let mut text = String::new(alloc);
-    for _ in 0..3 {
-        write!(&mut text, "{} ", draws.next())?;
-    }
-    Ok(text)
+    let first = draws.next();
+    let second = draws.next();
+    format!(in alloc; "{first} {second} {}", draws.next())
 }
 
 /// What a service is offered, there being no changes.
@@ -49,7 +46,9 @@ fn first_of(alloc: Global, offered: &Offered, service: u32) -> Result<String, Fa
 }
 
 /// What is said of the sample of a number.
-fn told_of(alloc: Global, number: u32, what: &str) -> Result<String, Fail> {
+fn told_of(alloc: Global, asked: &str) -> Result<String, Fail> {
+    let (number, what) = asked.split_once(' ').ok_or("nothing asked")?;
+    let number = number.parse::<u32>()?;
     if what == "draws" {
         return Ok(draws_of(alloc, number)?);
     }
@@ -58,7 +57,8 @@ fn told_of(alloc: Global, number: u32, what: &str) -> Result<String, Fail> {
     match what {
         "counts" => counts_of(alloc, &offered),
         "lecture" => first_of(alloc, &offered, 0),
-        _ => first_of(alloc, &offered, 1),
+        "files" => first_of(alloc, &offered, 1),
+        _ => Err(Fail::new("nothing asked")),
     }
 }
 
@@ -74,19 +74,8 @@ const SAMPLES: &str = "1 draws|1817669548 2187888307 2784682393
 1 lecture|478 450001DE00000000401100000A000001EF010001000102 C8C9
 1 files|1335 4500053700000000401100000A000001EF020001010203 2223";
 
-/// Asks what a line asks.
-fn ask(alloc: Global, line: &str) -> Result<(), Fail> {
-    let (asked, due) = line.split_once('|').ok_or("no bar")?;
-    let (number, what) = asked.split_once(' ').ok_or("nothing asked")?;
-    let told = told_of(alloc, number.parse::<u32>()?, what)?;
-    expect(asked, told.as_str().trim_end(), due)
-}
-
 /// Draws are the upper half of the state, two draws make a datagram, and each service is offered so many of them.
 #[test]
 fn samples_are_drawn_so(rt: HostRuntime) -> Result<(), Fail> {
-    for line in SAMPLES.lines() {
-        ask(rt.alloc(), line)?;
-    }
-    Ok(())
+    expect_lines(rt.alloc(), told_of, SAMPLES)
 }

@@ -1,11 +1,12 @@
 //! Small captures, and the streams that are sent of them; packets by hand from RFC 4326 and ISO/IEC 13818-1.
-use crate::plans::plan_of;
+use crate::words::{named, plan_of};
 use capture_intake::CaptureEnd;
 use ipe_io::{Failed, MemSink, MemSource};
 use pcap_file::CaptureFault;
 use send_command::{Tally, send, tell_fault, tell_tally};
 use std::alloc::Global;
 use std::test::Fail;
+use test_lines::expect_lines;
 use test_recordings::settings::FILES;
 use test_recordings::{capture_of_files, packet_of_files};
 
@@ -23,159 +24,57 @@ fn sent(
     Ok((end, output))
 }
 
-/// A capture of the files and two other records, and how its send ends.
-#[derive(Clone, Copy)]
-struct Case<'a> {
-    name: &'a str,
-    /// How many of the files' datagrams the capture has, and how many of its bytes come.
-    datagrams: usize,
-    bytes: usize,
-    input_fails: &'a [u32],
-    output_fails: &'a [u32],
+/// How many of the files' datagrams a capture has, how many of its bytes come, and the call of the input or of the output that fails; after
+/// `|` how the send ends, and how many bytes of the packet are written and flushed.
+///
+/// After the datagrams the capture has two other records. With one datagram the third record begins at byte 112, and has a head of 16 bytes
+/// and 10 others. What stands before a fault of the capture is sent. Both SNDUs of two datagrams begin in one packet (RFC 4326 section 7.2).
+const CASES: &str = "\
+datagrams=1 bytes=138|Done(Tally { offered: 1, not_ip: 1, unrouted: 1, too_long: 0 }), 188 written, 188 flushed|one datagram
+datagrams=2 bytes=182|Done(Tally { offered: 2, not_ip: 1, unrouted: 1, too_long: 0 }), 188 written, 188 flushed|two datagrams
+datagrams=2 bytes=0|Capture { fault: Empty, place: 0 }, 0 written, 0 flushed|no byte
+datagrams=2 bytes=23|Capture { fault: CutHead, place: 0 }, 0 written, 0 flushed|a cut head of the capture
+datagrams=2 bytes=39|Capture { fault: CutHead, place: 1 }, 0 written, 0 flushed|a cut head of the first record
+datagrams=2 bytes=127|Capture { fault: CutHead, place: 3 }, 188 written, 188 flushed|a cut head of the third record
+datagrams=2 bytes=137|Capture { fault: CutRecord, place: 3 }, 188 written, 188 flushed|a cut third record
+datagrams=1 bytes=138 input=0|SourceFault, 0 written, 0 flushed|the input fails
+datagrams=1 bytes=138 input=9|SourceFault, 0 written, 0 flushed|the input fails
+datagrams=1 bytes=138 output=0|SinkFault, 0 written, 0 flushed|the output fails
+datagrams=1 bytes=138 output=1|SinkFault, 188 written, 0 flushed|the output fails";
+
+/// How a send ends, and how many bytes of a packet its output has written and flushed.
+fn told(
+    alloc: Global,
     end: CaptureEnd<Tally>,
-    /// How many bytes of the packet are written, and flushed.
-    written: usize,
-    flushed: usize,
+    output: &MemSink,
+    packet: &[u8],
+) -> Result<String, Fail> {
+    if !packet.starts_with(output.bytes()) {
+        return Err(Fail::new("another packet"));
+    }
+    let written = output.bytes().len();
+    let flushed = output.flushed();
+    Ok(format!(in alloc; "{end:?}, {written} written, {flushed} flushed")?)
 }
 
-/// Both SNDUs of two datagrams begin in one packet (RFC 4326 section 7.2).
-const SENT: Case = Case {
-    name: "two datagrams",
-    datagrams: 2,
-    bytes: 182,
-    input_fails: &[],
-    output_fails: &[],
-    end: CaptureEnd::Done(Tally {
-        offered: 2,
-        not_ip: 1,
-        unrouted: 1,
-        too_long: 0,
-    }),
-    written: 188,
-    flushed: 188,
-};
-
-const ONE: Case = Case {
-    name: "one datagram",
-    datagrams: 1,
-    bytes: 138,
-    end: CaptureEnd::Done(Tally {
-        offered: 1,
-        not_ip: 1,
-        unrouted: 1,
-        too_long: 0,
-    }),
-    ..SENT
-};
-
-const INPUT: Case = Case {
-    name: "the input fails",
-    end: CaptureEnd::SourceFault,
-    written: 0,
-    flushed: 0,
-    ..ONE
-};
-
-const OUTPUT: Case = Case {
-    name: "the output fails",
-    end: CaptureEnd::SinkFault,
-    flushed: 0,
-    ..ONE
-};
-
-/// The third record begins at byte 112, and has a head of 16 bytes and 10 others. What stands before a fault of the capture is sent.
-static CASES: [Case; 11] = [
-    ONE,
-    SENT,
-    Case {
-        name: "no byte",
-        bytes: 0,
-        end: CaptureEnd::Capture {
-            fault: CaptureFault::Empty,
-            place: 0,
-        },
-        written: 0,
-        flushed: 0,
-        ..SENT
-    },
-    Case {
-        name: "a cut head of the capture",
-        bytes: 23,
-        end: CaptureEnd::Capture {
-            fault: CaptureFault::CutHead,
-            place: 0,
-        },
-        written: 0,
-        flushed: 0,
-        ..SENT
-    },
-    Case {
-        name: "a cut head of the first record",
-        bytes: 39,
-        end: CaptureEnd::Capture {
-            fault: CaptureFault::CutHead,
-            place: 1,
-        },
-        written: 0,
-        flushed: 0,
-        ..SENT
-    },
-    Case {
-        name: "a cut head of the third record",
-        bytes: 127,
-        end: CaptureEnd::Capture {
-            fault: CaptureFault::CutHead,
-            place: 3,
-        },
-        ..SENT
-    },
-    Case {
-        name: "a cut third record",
-        bytes: 137,
-        end: CaptureEnd::Capture {
-            fault: CaptureFault::CutRecord,
-            place: 3,
-        },
-        ..SENT
-    },
-    Case {
-        input_fails: &[0],
-        ..INPUT
-    },
-    Case {
-        input_fails: &[9],
-        ..INPUT
-    },
-    Case {
-        output_fails: &[0],
-        written: 0,
-        ..OUTPUT
-    },
-    Case {
-        output_fails: &[1],
-        ..OUTPUT
-    },
-];
-
-/// Whether the send of a case ends as it says, and has written so much of its packet.
-fn is_sent(alloc: Global, case: &Case<'_>) -> Result<bool, Fail> {
-    let packet = packet_of_files(alloc, case.datagrams)?;
-    let capture = capture_of_files(alloc, case.datagrams)?;
-    let bytes = capture.get(..case.bytes).ok_or("no such front")?;
-    let (end, output) = sent(alloc, bytes, case.input_fails, case.output_fails)?;
-    Ok(
-        end == case.end
-            && Some(output.bytes()) == packet.get(..case.written)
-            && output.flushed() == case.flushed,
-    )
+/// How the send of a line ends.
+fn end_of(alloc: Global, words: &str) -> Result<String, Fail> {
+    let otherwise = [0, 0, u32::MAX, u32::MAX];
+    let [datagrams, bytes, input, output] = named(
+        words,
+        "datagrams bytes input output",
+        otherwise,
+    )?;
+    let packet = packet_of_files(alloc, datagrams as usize)?;
+    let capture = capture_of_files(alloc, datagrams as usize)?;
+    let bytes = capture.get(..bytes as usize).ok_or("no such front")?;
+    let (end, output) = sent(alloc, bytes, &[input], &[output])?;
+    told(alloc, end, &output, &packet)
 }
 
 #[test]
 fn a_capture_is_sent_up_to_a_fault(rt: HostRuntime) -> Result<(), Fail> {
-    for case in &CASES {
-        assert!(rt; is_sent(rt.alloc(), case)?, "{}", case.name);
-    }
-    Ok(())
+    expect_lines(rt.alloc(), end_of, CASES)
 }
 
 /// Reports a tally and two faults, with the least and the largest numbers.
