@@ -4,6 +4,8 @@
 #![tactic(auto)]
 
 #[cfg(test)]
+mod receive_lines;
+#[cfg(test)]
 mod receive_tests;
 #[cfg(test)]
 mod receiver_cases;
