@@ -1,4 +1,19 @@
 //! Plans and records by hand, for tests.
+//!
+//! A word says what the packet of a record carries, then its PID and its continuity_counter: `256/0` or `section:258/1`.
+//!
+//! | Word | What the packet carries |
+//! |---|---|
+//! | `256/0` | an SNDU |
+//! | `head:256/0`, `tail:256/1` | the first 10 bytes of an SNDU, which end the packet; its other 18 bytes |
+//! | `section:258/0` | a datagram_section |
+//! | `int:600/0`, `next:600/1` | the sections of two versions of an INT |
+//! | `frame:512/0` | three datagram_sections of a frame that goes on |
+//! | `timeless:256/0` | an SNDU, in a record without a moment |
+//! | `marked:256/0` | an SNDU, with transport_error_indicator |
+//! | `scrambled:256/0` | an SNDU, scrambled |
+//! | `unsynced:256/0` | an SNDU, after another sync_byte |
+//! | `unloaded:256/0` | an adaptation field alone |
 use service_plan::{Plan, read_plan};
 use std::alloc::Global;
 use std::test::Fail;
@@ -14,31 +29,6 @@ pub(crate) fn plan_of(alloc: Global, settings: &[&str]) -> Result<Plan, Fail> {
         Ok(plan) => Ok(plan),
         Err(_) => Err("settings".into()),
     }
-}
-
-/// A record, by what its packet holds.
-#[derive(Clone, Copy)]
-pub(crate) enum Part {
-    /// An SNDU.
-    Sndu { pid: u16, counter: u8 },
-    /// The first 10 bytes of an SNDU, which end the packet.
-    Head { pid: u16, counter: u8 },
-    /// Its other 18 bytes.
-    Tail { pid: u16, counter: u8 },
-    /// A datagram_section on PID 258.
-    Section { counter: u8 },
-    /// Sections of an INT on PID 600.
-    Int { counter: u8 },
-    NextInt { counter: u8 },
-    /// Three datagram_sections of a frame that goes on, on PID 512.
-    Frame,
-    /// An SNDU on PID 256, in a record without a moment.
-    WithoutMoment,
-    /// The same with transport_error_indicator, scrambled, with another sync_byte, and with an adaptation field alone.
-    Marked,
-    Scrambled,
-    NoSync,
-    WithoutPayload,
 }
 
 /// Three datagram_sections of one MPE-FEC frame (EN 301 192 clauses 7 and 9), with the addresses 0, 20 and 40. The last has
@@ -65,41 +55,41 @@ fn head_of_sndu(counter: u8) -> [u8; 188] {
     start(counter, 173, &bytes)
 }
 
-/// The packet of an SNDU with one byte set.
-fn with_byte(place: usize, byte: u8) -> [u8; 188] {
-    let mut bytes = start(0, 0, &SNDU);
+/// The packet of an SNDU with another byte at a place of its head.
+fn with_byte(counter: u8, place: usize, byte: u8) -> [u8; 188] {
+    let mut bytes = start(counter, 0, &SNDU);
     if place < 188 {
         bytes[place] = byte;
     }
     bytes
 }
 
-/// The packet of a part.
-fn packet_of(part: &Part) -> [u8; 188] {
-    match *part {
-        Part::Sndu { pid, counter } => on_pid(start(counter, 0, &SNDU), pid),
-        Part::Head { pid, counter } => on_pid(head_of_sndu(counter), pid),
-        Part::Tail { pid, counter } => on_pid(go_on(counter, &SNDU[10..]), pid),
-        Part::Section { counter } => on_pid(start(counter, 0, &SECTION), 258),
-        Part::Int { counter } => on_pid(start(counter, 0, &INT), 600),
-        Part::NextInt { counter } => on_pid(start(counter, 0, &NEXT_INT), 600),
-        Part::Frame => packet_of_frame(),
-        Part::WithoutMoment => start(0, 0, &SNDU),
-        Part::Marked => with_byte(1, 0xC1),
-        Part::Scrambled => with_byte(3, 0x90),
-        Part::NoSync => with_byte(0, 0x46),
-        Part::WithoutPayload => with_byte(3, 0x20),
+/// The packet of PID 256 that carries what a word says.
+fn packet_of(what: &str, counter: u8) -> Result<[u8; 188], Fail> {
+    let count = counter % 16;
+    match what {
+        "sndu" | "timeless" => Ok(start(counter, 0, &SNDU)),
+        "head" => Ok(head_of_sndu(counter)),
+        "tail" => Ok(go_on(counter, &SNDU[10..])),
+        "section" => Ok(start(counter, 0, &SECTION)),
+        "int" => Ok(start(counter, 0, &INT)),
+        "next" => Ok(start(counter, 0, &NEXT_INT)),
+        "frame" => Ok(start(counter, 0, &FRAME)),
+        "marked" => Ok(with_byte(counter, 1, 0xC1)),
+        "scrambled" => Ok(with_byte(counter, 3, 0x90 + count)),
+        "unsynced" => Ok(with_byte(counter, 0, 0x46)),
+        "unloaded" => Ok(with_byte(counter, 3, 0x20 + count)),
+        _ => Err("no such packet".into()),
     }
 }
 
-/// The record of a part, at moment 0.
-pub(crate) fn record_of(part: &Part) -> Record {
-    let moment = match *part {
-        Part::WithoutMoment => None,
-        _ => Some(0),
-    };
-    Record {
-        moment,
-        bytes: packet_of(part),
-    }
+/// The record of a word, at moment 0.
+pub(crate) fn record_of(word: &str) -> Result<Record, Fail> {
+    let (what, place) = word.split_once(':').unwrap_or(("sndu", word));
+    let (pid, counter) = place.split_once('/').ok_or("no counter")?;
+    let packet = packet_of(what, counter.parse()?)?;
+    Ok(Record {
+        moment: if what == "timeless" { None } else { Some(0) },
+        bytes: on_pid(packet, pid.parse()?),
+    })
 }

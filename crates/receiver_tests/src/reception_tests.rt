@@ -1,14 +1,14 @@
 //! What is counted of packets by hand, and which datagrams are delivered.
-use crate::reception_cases::{Case, SECTIONS, SNDUS, TWO};
+use crate::reception_cases::{Case, SECTIONS, SNDUS, read_line};
 use addr_rules::MacList;
 use ipe_io::Failed;
 use section_codec::SectionForm;
 use service_counts::ServiceCounts;
-use service_reception::{IntReception, Reception, UnitReader};
+use service_reception::{Reception, UnitReader};
 use std::alloc::Global;
 use std::test::Fail;
-use test_recordings::units::{DATAGRAM, INT, INT_OF_TWO, NEXT_INT, OTHER, SECTION, SNDU};
-use test_recordings::{NotedOutlet, go_on, start};
+use test_recordings::units::{DATAGRAM, SECTION, SNDU};
+use test_recordings::{NotedOutlet, counts_of, go_on, start};
 use ts_packet::parse;
 use ule_unit::UleForm;
 use unit_stream::UnitForm;
@@ -52,9 +52,8 @@ fn take_case<K: UnitReader>(
     good: &[u8],
     noted: &mut NotedOutlet,
 ) -> Result<(), Failed> {
-    let first = start(0, case.pointer, case.unit);
     for _ in 0..case.times {
-        take(reception, &first, filter, noted)?;
+        take(reception, &case.packet, filter, noted)?;
     }
     take(reception, &start(1, 0, good), filter, noted)
 }
@@ -69,17 +68,21 @@ fn is_counted<K: UnitReader>(alloc: Global, good: &[u8], case: &Case<'_>) -> Res
     Ok(reception.counts() == case.counts && right == case.counts.datagrams)
 }
 
-#[test]
-fn each_packet_and_a_good_unit_after_it_are_counted(rt: HostRuntime) -> Result<(), Fail> {
-    for case in &SNDUS {
-        let counted = is_counted::<UleForm>(rt.alloc(), &SNDU, case)?;
-        assert!(rt; counted, "{}", case.name);
-    }
-    for case in &SECTIONS {
-        let counted = is_counted::<SectionForm>(rt.alloc(), &SECTION, case)?;
-        assert!(rt; counted, "{}", case.name);
+/// Fails where a case of a table gives other numbers.
+fn all_counted<K: UnitReader>(alloc: Global, good: &[u8], table: &str) -> Result<(), Fail> {
+    for line in table.lines() {
+        let case = read_line(alloc, line)?;
+        if !is_counted::<K>(alloc, good, &case)? {
+            return Err(Fail::new(case.name));
+        }
     }
     Ok(())
+}
+
+#[test]
+fn each_packet_and_a_good_unit_after_it_are_counted(rt: HostRuntime) -> Result<(), Fail> {
+    all_counted::<UleForm>(rt.alloc(), &SNDU, SNDUS)?;
+    all_counted::<SectionForm>(rt.alloc(), &SECTION, SECTIONS)
 }
 
 /// An SNDU with 2,000 optional headers of two bytes (RFC 4326 section 5) and the datagram.
@@ -115,11 +118,7 @@ fn two_thousand_headers_are_passed(rt: HostRuntime) -> Result<(), Fail> {
     let mut reception = reception_of::<UleForm>(rt.alloc())?;
     let mut noted = NotedOutlet::new(100);
     take_headers(&mut reception, &filter, &mut noted)?;
-    let counts = ServiceCounts {
-        heard: 23,
-        gaps: 1,
-        ..TWO
-    };
+    let counts = counts_of("heard=23 gaps=1 units=2 datagrams=2")?;
     assert_eq!(rt; reception.counts(), counts);
     assert_eq!(rt; noted.order().len(), 2);
     Ok(())
@@ -190,149 +189,6 @@ fn after_a_refused_datagram_none_is_offered(rt: HostRuntime) -> Result<(), Fail>
     Ok(())
 }
 
-/// A section on the INT's PID, and after it how many sections are counted and whether the first of an INT is kept.
-#[derive(Clone, Copy)]
-struct Table<'a> {
-    section: &'a [u8],
-    units: u64,
-    is_kept: bool,
-}
-
-/// The INT with another CRC-32.
-const DAMAGED_INT: [u8; 18] = [
-    0x4C, 0xF0, 0x0F, 0x01, 0x01, 0xC1, 0, 0, 0, 0, 1, 0, 0xF0, 0, 0x07, 0xE9, 0x3F, 0,
-];
-
-static TABLES: [Table; 5] = [
-    Table {
-        section: &DAMAGED_INT,
-        units: 0,
-        is_kept: false,
-    },
-    Table {
-        section: &OTHER,
-        units: 1,
-        is_kept: false,
-    },
-    Table {
-        section: &INT,
-        units: 2,
-        is_kept: true,
-    },
-    Table {
-        section: &NEXT_INT,
-        units: 3,
-        is_kept: true,
-    },
-    Table {
-        section: &OTHER,
-        units: 4,
-        is_kept: true,
-    },
-];
-
-/// A reception of an INT that has taken nothing.
-fn table_of(alloc: Global, platform: u32, last_version: u8) -> Result<IntReception<Global>, Fail> {
-    let buffer = vec![in alloc; 0u8; SectionForm::LONGEST]?;
-    let kept = vec![in alloc; 0u8; SectionForm::LONGEST]?;
-    Ok(IntReception::over(buffer, kept, platform, last_version))
-}
-
-/// Takes the packet with a section.
-fn take_section(reception: &mut IntReception<Global>, counter: u8, section: &[u8]) {
-    let bytes = start(counter, 0, section);
-    if let Ok(packet) = parse(&bytes) {
-        reception.take(&bytes, &packet, 0);
-    }
-}
-
-/// EN 301 192 clause 8.4: each section counts, and the first with table_id 0x4C is kept.
-#[test]
-fn the_first_section_of_an_int_is_kept(rt: HostRuntime) -> Result<(), Fail> {
-    let mut reception = table_of(rt.alloc(), 1, 0)?;
-    for (counter, case) in TABLES.iter().enumerate() {
-        take_section(&mut reception, counter as u8, case.section);
-        assert_eq!(rt; reception.units(), case.units);
-        let want: Option<&[u8]> = if case.is_kept { Some(&INT) } else { None };
-        assert_eq!(rt; reception.section(), want);
-    }
-    Ok(())
-}
-
-/// INT_OF_TWO as of versions 1 and 2: version_number stands in bits 1 to 5 of byte 5.
-const VERSION_1: [u8; 67] = [
-    0x4C, 0xF0, 0x40, 0x01, 0x01, 0xC3, 0x00, 0x00, 0x00, 0x00, 0x01, 0x00, 0xF0, 0x00, 0xF0, 0x07,
-    0x0F, 0x05, 0xEF, 0x01, 0x00, 0x00, 0x10, 0xF0, 0x10, 0x13, 0x09, 0x00, 0x02, 0x00, 0x03, 0x00,
-    0x04, 0x00, 0x0A, 0x01, 0x77, 0x03, 0xBB, 0x07, 0x70, 0xF0, 0x07, 0x0F, 0x05, 0xEF, 0x02, 0x00,
-    0x00, 0x10, 0xF0, 0x0B, 0x13, 0x09, 0x00, 0x02, 0x00, 0x03, 0x00, 0x04, 0x00, 0x0A, 0x02, 0x7E,
-    0x8B, 0xE1, 0xC2,
-];
-
-const VERSION_2: [u8; 67] = [
-    0x4C, 0xF0, 0x40, 0x01, 0x01, 0xC5, 0x00, 0x00, 0x00, 0x00, 0x01, 0x00, 0xF0, 0x00, 0xF0, 0x07,
-    0x0F, 0x05, 0xEF, 0x01, 0x00, 0x00, 0x10, 0xF0, 0x10, 0x13, 0x09, 0x00, 0x02, 0x00, 0x03, 0x00,
-    0x04, 0x00, 0x0A, 0x01, 0x77, 0x03, 0xBB, 0x07, 0x70, 0xF0, 0x07, 0x0F, 0x05, 0xEF, 0x02, 0x00,
-    0x00, 0x10, 0xF0, 0x0B, 0x13, 0x09, 0x00, 0x02, 0x00, 0x03, 0x00, 0x04, 0x00, 0x0A, 0x02, 0xD1,
-    0x3D, 0x00, 0xD5,
-];
-
-/// A section on the INT's PID, and after it the version in force and the section that is shown, where the plan has versions 0 and 1.
-#[derive(Clone, Copy)]
-struct InForce<'a> {
-    section: &'a [u8],
-    version: u8,
-    shown: &'a [u8],
-}
-
-static VERSIONS: [InForce; 4] = [
-    InForce {
-        section: &INT_OF_TWO,
-        version: 0,
-        shown: &INT_OF_TWO,
-    },
-    InForce {
-        section: &VERSION_2,
-        version: 0,
-        shown: &INT_OF_TWO,
-    },
-    InForce {
-        section: &VERSION_1,
-        version: 1,
-        shown: &VERSION_1,
-    },
-    InForce {
-        section: &INT_OF_TWO,
-        version: 1,
-        shown: &VERSION_1,
-    },
-];
-
-/// EN 301 192 clause 8.4: of the platform's sections the greatest version of the plan is in force.
-#[test]
-fn a_later_version_is_put_in_force(rt: HostRuntime) -> Result<(), Fail> {
-    let mut reception = table_of(rt.alloc(), 1, 1)?;
-    for (counter, case) in VERSIONS.iter().enumerate() {
-        take_section(&mut reception, counter as u8, case.section);
-        assert_eq!(rt; reception.version(), case.version);
-        assert_eq!(rt; reception.section(), Some(case.shown));
-    }
-    assert_eq!(rt; reception.units(), 4);
-    Ok(())
-}
-
-/// The sections of another platform put none in force, and the first of them is shown.
-#[test]
-fn sections_of_another_platform_put_none_in_force(rt: HostRuntime) -> Result<(), Fail> {
-    let mut reception = table_of(rt.alloc(), 2, 1)?;
-    for (counter, case) in VERSIONS.iter().enumerate() {
-        take_section(&mut reception, counter as u8, case.section);
-        assert_eq!(rt; reception.version(), 0);
-        assert_eq!(rt; reception.section(), Some(INT_OF_TWO.as_slice()));
-    }
-    assert_eq!(rt; reception.units(), 4);
-    Ok(())
-}
-
 /// Takes the beginning of a unit, begins anew, and takes the rest of the unit and a whole one. Whether nothing is counted where the
 /// reception begins anew.
 fn begin_anew_in_a_unit(
@@ -358,12 +214,7 @@ fn a_unit_under_way_ends_where_a_reception_begins_anew(rt: HostRuntime) -> Resul
     let mut noted = NotedOutlet::new(100);
     let is_anew = begin_anew_in_a_unit(&mut reception, &filter, &mut noted)?;
     assert!(rt; is_anew);
-    let counts = ServiceCounts {
-        heard: 2,
-        units: 1,
-        datagrams: 1,
-        ..ServiceCounts::default()
-    };
+    let counts = counts_of("heard=2 units=1 datagrams=1")?;
     assert_eq!(rt; reception.counts(), counts);
     Ok(())
 }

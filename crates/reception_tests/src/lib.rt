@@ -1,13 +1,9 @@
-//! Tests of what receives frames: packets and frames by hand -> [fec_reception, gse_reception, bridge_frame, demux_core] -> datagrams,
-//! Ethernet frames and counts.
+//! Tests of what receives frames: packets and frames by hand -> [fec_reception, gse_reception, bridge_frame] -> datagrams, Ethernet
+//! frames and counts.
 //!
-//! Tests alone. They stand apart from the crates that they test, so that those are proved once and know nothing of settings.
+//! Tests alone. They stand apart from the crates that they test, so that those are proved once.
 #![tactic(auto)]
 
-#[cfg(test)]
-mod bb_frame_cases;
-#[cfg(test)]
-mod bb_receiver_tests;
 #[cfg(test)]
 mod bridge_outlet;
 #[cfg(test)]
