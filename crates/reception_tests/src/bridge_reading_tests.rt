@@ -1,5 +1,6 @@
 //! Recordings by hand, read to their end by a bridge: a packet with an SNDU, and a baseband frame of 2,000 bytes with a GSE packet.
-use crate::bridge_outlet::{Noted, empty_slots, text_of, zeros};
+use crate::bridge_outlet::{outlet_of, text_of};
+use crate::buffers::{empty_slots, zeros};
 use crate::lines::expect;
 use bridge_frame::Bridge;
 use ipe_io::{Recording, StdSource};
@@ -20,7 +21,7 @@ fn of_packets(alloc: Global, bytes: &[u8]) -> Result<String, Fail> {
     bridge.select(256);
     let mut pieces = PacketPieces::new(Recording::Plain);
     let mut source = StdSource::new(alloc, bytes)?;
-    let mut outlet = Noted::new(9);
+    let mut outlet = outlet_of(9);
     let tail = match read_to_end(&mut pieces, &mut source, &mut bridge, &mut outlet) {
         Ok(tail) => tail,
         Err(_) => return Err(Fail::new("not read to its end")),
@@ -37,7 +38,7 @@ fn of_frames(alloc: Global, bytes: &[u8]) -> Result<String, Fail> {
     bridge.select(7);
     let mut pieces = FramePieces::over(2000, zeros(alloc, 2000)?);
     let mut source = StdSource::new(alloc, bytes)?;
-    let mut outlet = Noted::new(9);
+    let mut outlet = outlet_of(9);
     let tail = match read_to_end(&mut pieces, &mut source, &mut bridge, &mut outlet) {
         Ok(tail) => tail,
         Err(_) => return Err(Fail::new("not read to its end")),

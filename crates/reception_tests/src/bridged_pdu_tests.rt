@@ -2,7 +2,9 @@
 ghost use Rattle.std.specs.Prelude.{◌≡◌, ◌+◌, ◌^◌, ◌<◌, true, false, is_some};
 ghost use Rattle.bridge_frame.specs.Bridge.{is_of_sndus};
 
-use crate::bridge_outlet::{Noted, empty_slots, put_text, text_of, zeros};
+use crate::bridge_outlet::{outlet_of, put_text, text_of};
+use crate::buffers::{empty_slots, zeros};
+use crate::counting_outlet::Noted;
 use bridge_frame::Bridge;
 use std::alloc::Global;
 use std::test::Fail;
@@ -67,7 +69,7 @@ fn receive(alloc: Global, bridge: &mut Bridge<Global>, case: &str) -> Result<(),
 {
     let (name, case) = case.split_once('|').ok_or("no name")?;
     let (texts, want) = case.split_once('|').ok_or("no frames")?;
-    let mut outlet = Noted::new(9);
+    let mut outlet = outlet_of(9);
     let mut texts = texts.split(';');
     let first = take(alloc, bridge, texts.next(), &mut outlet)?;
     let second = take(alloc, bridge, texts.next(), &mut outlet)?;

@@ -1,5 +1,6 @@
 //! SNDUs by hand (RFC 4326 sections 4 and 5), each whole in one packet; their CRC-32 was worked out apart from this program.
-use crate::bridge_outlet::{Noted, empty_slots, put_text, text_of, zeros};
+use crate::bridge_outlet::{outlet_of, put_text, text_of};
+use crate::buffers::{empty_slots, zeros};
 use crate::lines::expect;
 use bridge_frame::Bridge;
 use std::alloc::Global;
@@ -51,7 +52,7 @@ fn outcome_of(
     let mut bridge = Bridge::over(zeros(alloc, 32_771)?, empty_slots(alloc, 0)?, true);
     bridge.select(256);
     let item = Record { moment, bytes };
-    let mut outlet = Noted::new(room);
+    let mut outlet = outlet_of(room);
     let first = bridge.step(&item, &mut outlet);
     let again = bridge.step(&item, &mut outlet);
     if first.is_ok() != (outlet.refused == 0) || again.is_err() {

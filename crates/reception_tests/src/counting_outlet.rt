@@ -10,23 +10,29 @@ pub(crate) const DATAGRAM: [u8; 20] = [
     0x45, 0, 0, 20, 0, 0, 0, 0, 0x40, 0x11, 0, 0, 10, 0, 0, 1, 239, 1, 2, 3,
 ];
 
-/// An outlet of eight services that takes so many datagrams and refuses all after them.
+/// An outlet of eight services that takes so many datagrams or frames and refuses all after them.
 #[derive(Clone, Copy)]
 pub(crate) struct Noted {
     /// How many more it takes.
     room: u64,
-    /// How often it took `DATAGRAM` for the service.
-    delivered: u64,
-    /// How often it took another, or one for another service.
-    others: u64,
-    /// How often it refused one.
-    refused: u64,
+    /// What must come, and for which service.
+    due: &'static [u8],
+    service: u32,
+    /// How often it took what must come.
+    pub(crate) delivered: u64,
+    /// How often it took something else, or for another service.
+    pub(crate) others: u64,
+    /// How often it refused.
+    pub(crate) refused: u64,
 }
 
 impl Noted {
-    pub(crate) fn new(room: u64) -> Noted {
+    /// An outlet for these bytes and this service.
+    pub(crate) fn new(due: &'static [u8], service: u32, room: u64) -> Noted {
         Noted {
             room,
+            due,
+            service,
             delivered: 0,
             others: 0,
             refused: 0,
@@ -51,7 +57,7 @@ impl Outlet for Noted {
             return Err(Failed);
         }
         self.room -= 1;
-        if service == SERVICE && datagram == DATAGRAM.as_slice() {
+        if service == self.service && datagram == self.due {
             self.delivered = self.delivered.saturating_add(1);
         } else {
             self.others = self.others.saturating_add(1);

@@ -1,6 +1,7 @@
 //! Frames of 256 rows, packet by packet: when each is closed, and what is counted (EN 301 192 clauses 7 and 9).
-ghost use Rattle.std.specs.Prelude.{◌≡◌, ◌<◌, ◌^◌, IfOk, vec_len};
+ghost use Rattle.std.specs.Prelude.{◌≡◌, ◌<◌, ◌^◌, IfOk};
 
+use crate::buffers::zeros;
 use crate::counting_outlet::{DATAGRAM, Noted, SERVICE, put_deliveries, put_rise};
 use crate::lines::expect;
 use fec_frame::Table;
@@ -75,13 +76,6 @@ fn column_section(delta: u16) -> [u8; 272]
     unit
 }
 
-/// A buffer of zeros.
-fn zeros(alloc: Global, count: usize) -> Result<Vec<u8>, OutOfMemory>
-    ensures { IfOk result (λ v. vec_len v ≡ count) }
-{
-    vec![in alloc; 0u8; count]
-}
-
 /// A table of 256 rows.
 fn new_table(alloc: Global) -> Result<Table<Global>, OutOfMemory>
     ensures rows { IfOk result (λ table. table.rows ≡ 256) }
@@ -104,7 +98,7 @@ fn new_receiver(alloc: Global, sliced: bool, room: u64) -> Result<Receiver, OutO
     let table = new_table(alloc)?;
     Ok(Receiver {
         reception: FecReception::over(zeros(alloc, 4096)?, table, sliced, 10),
-        outlet: Noted::new(room),
+        outlet: Noted::new(&DATAGRAM, SERVICE, room),
         packets: 0,
     })
 }

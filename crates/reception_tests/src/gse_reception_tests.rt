@@ -1,11 +1,9 @@
 //! Data fields by hand (TS 102 606-1 clause 4.2); their CRC-32 was worked out apart from this program.
-ghost use Rattle.std.specs.Prelude.{◌≡◌, vec_len, length, IfOk};
-
-use crate::counting_outlet::{Noted, SERVICE, put_deliveries, put_rise};
+use crate::buffers::{empty_slots, zeros};
+use crate::counting_outlet::{DATAGRAM, Noted, SERVICE, put_deliveries, put_rise};
 use crate::lines::expect;
 use addr_rules::MacList;
 use bb_frame::Frame;
-use gse_reassembly::Slot;
 use gse_reception::GseReception;
 use ipe_io::Failed;
 use service_counts::ServiceCounts;
@@ -50,18 +48,6 @@ fn field_of(alloc: Global, text: &str) -> Result<Vec<u8>, Fail> {
     Ok(field)
 }
 
-fn zeros(alloc: Global, count: usize) -> Result<Vec<u8>, OutOfMemory>
-    ensures { IfOk result (λ v. vec_len v ≡ count) }
-{
-    vec![in alloc; 0u8; count]
-}
-
-fn empty_slots(alloc: Global, count: usize) -> Result<Vec<Slot>, OutOfMemory>
-    ensures { IfOk result (λ v. vec_len v ≡ count) }
-{
-    vec![in alloc; Slot::new(); count]
-}
-
 /// A service, its filter, and its outlet.
 #[derive(Drop)]
 struct Receiver {
@@ -76,7 +62,7 @@ fn new_receiver(alloc: Global, room: u64) -> Result<Receiver, OutOfMemory> {
     Ok(Receiver {
         reception: GseReception::over(buffer, empty_slots(alloc, 256)?),
         filter: MacList::new(alloc),
-        outlet: Noted::new(room),
+        outlet: Noted::new(&DATAGRAM, SERVICE, room),
     })
 }
 

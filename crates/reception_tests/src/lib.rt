@@ -13,6 +13,8 @@ mod bridged_pdu_tests;
 #[cfg(test)]
 mod bridged_sndu_tests;
 #[cfg(test)]
+mod buffers;
+#[cfg(test)]
 mod counting_outlet;
 #[cfg(test)]
 mod fec_reception_tests;
