@@ -6,6 +6,7 @@ use loss_report::{Report, ServiceCounts, StreamCounts};
 use std::alloc::{AllocError, Global};
 use std::process::Abort;
 use std::test::Fail;
+use test_recordings::counts_of;
 
 /// Two services, a table and a version: an MPE-FEC service of which 56 packets were lost in a row, and a ULE service that lost none.
 const REALISTIC: &[u8] = b"scope,name,value
@@ -62,22 +63,6 @@ rule,0000:0000:0000:0000:0000:0000:0000:0000/0,255
 rule,10.0.255.99/32,10
 ";
 
-const NOTHING: ServiceCounts = ServiceCounts {
-    heard: 0,
-    repeats: 0,
-    gaps: 0,
-    units: 0,
-    bad_check: 0,
-    delimited: 0,
-    bad_length: 0,
-    unread: 0,
-    filtered: 0,
-    frames: 0,
-    rows_mended: 0,
-    rows_left: 0,
-    datagrams: 0,
-};
-
 /// Counts of a stream of no record.
 const EMPTY: StreamCounts = StreamCounts {
     records: 0,
@@ -113,30 +98,20 @@ fn assert_printed(
     Ok(())
 }
 
-/// The service that lost packets.
-const LECTURE: ServiceCounts = ServiceCounts {
-    heard: 1046,
-    gaps: 1,
-    units: 155,
-    delimited: 1,
-    frames: 1,
-    rows_mended: 1024,
-    datagrams: 100,
-    ..NOTHING
-};
+/// The service that lost packets, and the one that lost none.
+const LECTURE: &str =
+    "heard=1046 gaps=1 units=155 delimited=1 frames=1 rows_mended=1024 datagrams=100";
 
-/// The service that lost none.
-const FILES: ServiceCounts = ServiceCounts {
-    heard: 770,
-    units: 100,
-    datagrams: 100,
-    ..NOTHING
-};
+const FILES: &str = "heard=770 units=100 datagrams=100";
 
 /// Adds the two services, the table and its rules.
-fn add_all(report: &mut Report) -> Result<(), AllocError> {
-    report.add_service("lecture", LECTURE)?;
-    report.add_service("files", FILES)?;
+fn add_all(
+    report: &mut Report,
+    lecture: ServiceCounts,
+    files: ServiceCounts,
+) -> Result<(), AllocError> {
+    report.add_service("lecture", lecture)?;
+    report.add_service("files", files)?;
     report.add_table(1, 0)?;
     report.add_version(31)?;
     report.add_rule(&v4([239, 1, 0, 0], 16), 1)?;
@@ -149,8 +124,10 @@ fn a_whole_report_is_printed(rt: HostRuntime) -> Result<(), Fail> {
         records: 1817,
         ..EMPTY
     };
+    let lecture = counts_of(LECTURE)?;
+    let files = counts_of(FILES)?;
     let mut report = Report::new(rt.alloc(), stream);
-    add_all(&mut report)?;
+    add_all(&mut report, lecture, files)?;
     assert_printed(&rt, rt.alloc(), &report, REALISTIC)
 }
 
