@@ -2,12 +2,12 @@
 use crate::bridge_outlet::{outlet_of, text_of};
 use crate::buffers::{empty_slots, zeros};
 use crate::counting_outlet::Noted;
-use crate::lines::expect;
 use bridge_frame::Bridge;
 use ipe_io::{Recording, StdSource};
 use recording_reader::{FramePieces, PacketPieces, ReadFault, read_to_end};
 use std::alloc::Global;
 use std::test::Fail;
+use test_lines::expect;
 use test_recordings::{bytes_of, joined};
 
 /// The SNDU of a frame of 60 bytes on PID 256: pointer 0, then the SNDU and 115 bytes FF.

@@ -1,10 +1,10 @@
 //! SNDUs by hand (RFC 4326 sections 4 and 5), each whole in one packet; their CRC-32 was worked out apart from this program.
 use crate::bridge_outlet::{outlet_of, put_text, text_of};
 use crate::buffers::{empty_slots, zeros};
-use crate::lines::expect;
 use bridge_frame::Bridge;
 use std::alloc::Global;
 use std::test::Fail;
+use test_lines::expect;
 use ts_record::Record;
 
 /// What it is; the packet's header and pointer; the SNDU, where FRAME is an Ethernet frame of 60 bytes; and what a bridge of PID 256 delivers of

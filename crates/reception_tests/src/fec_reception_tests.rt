@@ -3,7 +3,6 @@ ghost use Rattle.std.specs.Prelude.{◌≡◌, ◌<◌, ◌^◌, IfOk};
 
 use crate::buffers::zeros;
 use crate::counting_outlet::{DATAGRAM, Noted, SERVICE, put_deliveries, put_rise};
-use crate::lines::expect;
 use fec_frame::Table;
 use fec_reception::FecReception;
 use ipe_io::Failed;
@@ -11,6 +10,7 @@ use mpe_section::{Fec, RealTime, write_fec, write_mpe};
 use service_counts::ServiceCounts;
 use std::alloc::{AllocError as OutOfMemory, Global};
 use std::test::Fail;
+use test_lines::expect;
 use ts_packet::parse;
 
 /// EN 301 192 clause 9: the first parity byte of rows with the bytes of `DATAGRAM` in column 0 and zeros in the others, by long

@@ -1,7 +1,6 @@
 //! Data fields by hand (TS 102 606-1 clause 4.2); their CRC-32 was worked out apart from this program.
 use crate::buffers::{empty_slots, zeros};
 use crate::counting_outlet::{DATAGRAM, Noted, SERVICE, put_deliveries, put_rise};
-use crate::lines::expect;
 use addr_rules::MacList;
 use bb_frame::Frame;
 use gse_reception::GseReception;
@@ -9,6 +8,7 @@ use ipe_io::Failed;
 use service_counts::ServiceCounts;
 use std::alloc::{AllocError as OutOfMemory, Global};
 use std::test::Fail;
+use test_lines::expect;
 
 /// What a word stands for: DATAGRAM for that of all tests, FRONT, BODY and TAIL for its first 8 bytes, the next 10 and the last 2, GROUP
 /// for the address of its group, and OTHER for another address; WHOLE for a complete packet of it for all receivers; and FIRST, NEXT and

@@ -20,5 +20,3 @@ mod counting_outlet;
 mod fec_reception_tests;
 #[cfg(test)]
 mod gse_reception_tests;
-#[cfg(test)]
-mod lines;

@@ -1,10 +1,10 @@
 //! Addresses and texts from the standards, and texts at their edges.
-use crate::cases::assert_cases;
 use addr_rules::{Label, MacList, Rule, RuleList, mac_of, matches, parse_mac, parse_rule, wants};
 use hex::FromHex;
 use ip_datagram::IpAddress;
 use std::alloc::Global;
 use std::test::Fail;
+use test_lines::expect_lines;
 
 /// What the text of a rule is read as: the bytes of its address, and how many bits count.
 fn rule_of(alloc: Global, given: &str) -> Result<String, Fail> {
@@ -70,8 +70,8 @@ const MACS: &str = "\
 
 #[test]
 fn rules_and_mac_addresses_are_read(rt: HostRuntime) -> Result<(), Fail> {
-    assert_cases(&rt, rt.alloc(), rule_of, RULES)?;
-    assert_cases(&rt, rt.alloc(), mac_in, MACS)
+    expect_lines(rt.alloc(), rule_of, RULES)?;
+    expect_lines(rt.alloc(), mac_in, MACS)
 }
 
 /// The MAC address of the destination that a rule has, where that of unicast is 02:02:02:02:02:02.
@@ -91,7 +91,7 @@ ff0e::102:304/128|333301020304
 
 #[test]
 fn destinations_have_their_mac_address(rt: HostRuntime) -> Result<(), Fail> {
-    assert_cases(&rt, rt.alloc(), mac_to, DESTINATIONS)
+    expect_lines(rt.alloc(), mac_to, DESTINATIONS)
 }
 
 /// Whether the first rule matches the address of the second.
@@ -137,8 +137,8 @@ none 010203|true
 
 #[test]
 fn bits_and_labels_are_compared(rt: HostRuntime) -> Result<(), Fail> {
-    assert_cases(&rt, rt.alloc(), is_matched, MATCHES)?;
-    assert_cases(&rt, rt.alloc(), is_wanted, LABELS)
+    expect_lines(rt.alloc(), is_matched, MATCHES)?;
+    expect_lines(rt.alloc(), is_wanted, LABELS)
 }
 
 #[test]

@@ -1,9 +1,9 @@
 //! Check values from outside: catalogues of check sums, RFC 4326, a section, and long division by hand; and pieces of all lengths beside
 //! their bytes one by one.
-use crate::cases::assert_cases;
 use crc_unit::{crc8, crc32, crc32_step};
 use std::alloc::Global;
 use std::test::Fail;
+use test_lines::expect_lines;
 use test_recordings::bytes_of;
 
 /// CRC-32 as text.
@@ -33,8 +33,8 @@ const SHORT: &str = "\
 
 #[test]
 fn check_sums_are_those_known_elsewhere(rt: HostRuntime) -> Result<(), Fail> {
-    assert_cases(&rt, rt.alloc(), crc32_of, LONG)?;
-    assert_cases(&rt, rt.alloc(), crc8_of, SHORT)
+    expect_lines(rt.alloc(), crc32_of, LONG)?;
+    expect_lines(rt.alloc(), crc8_of, SHORT)
 }
 
 /// Appendix B of RFC 4326: an SNDU with an IPv6 datagram, and its CRC-32, 7C171763.

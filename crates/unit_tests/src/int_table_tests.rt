@@ -3,7 +3,6 @@ ghost use Rattle.std.specs.Prelude.{◌≡◌, true, IfOk};
 ghost use Rattle.std.specs.List.{list_all};
 ghost use Rattle.int_spec.specs.Descriptors.{has_right_slash};
 
-use crate::cases::{assert_cases, assert_text};
 use addr_rules::{Rule, RuleList};
 use int_table::{IntEntry, IntFault, IntReadFault, IntTable, version_of};
 use ip_datagram::IpAddress;
@@ -11,6 +10,7 @@ use section_codec::write;
 use std::alloc::{AllocError, Global};
 use std::process::Abort;
 use std::test::Fail;
+use test_lines::{expect, expect_lines};
 
 /// Two streams of one transport stream, 239.1.0.0/16, sliced, and 239.2.0.0/16 (EN 301 192 clause 8.4): the head, a target loop,
 /// its operational loop, another target loop, its operational loop and the CRC_32.
@@ -165,7 +165,7 @@ fn a_table_is_read(rt: HostRuntime) -> Result<(), Fail> {
     let versions = [version_of(&section, 1), version_of(&section, 2)];
     assert_eq!(rt; versions, [Some(0), None]);
     let table = IntTable::read(alloc, &section).map_err(|_| "no table")?;
-    assert_text(&rt, entries_of(alloc, &table)?, ENTRIES, "the two streams");
+    expect("the two streams", &entries_of(alloc, &table)?, ENTRIES)?;
     assert_eq!(rt; written(alloc, &table)?, section);
     Ok(())
 }
@@ -193,10 +193,9 @@ HEAD TARGET F00B LOCATION TARGET F00B 1309 0002 0003 0005 000A 01|Descriptor|two
 
 #[test]
 fn each_fault_is_named(rt: HostRuntime) -> Result<(), Fail> {
-    assert_cases(&rt, rt.alloc(), read_of_body, BODIES)?;
+    expect_lines(rt.alloc(), read_of_body, BODIES)?;
     let section = bytes_of(rt.alloc(), WRONG_HASH)?;
-    assert_text(&rt, read_of(rt.alloc(), &section)?, "Hash", "a wrong hash");
-    Ok(())
+    expect("a wrong hash", &read_of(rt.alloc(), &section)?, "Hash")
 }
 
 /// Places in a section, and the bytes there: action_type, the hash, version 31 and platform_id; the head of a loop, a descriptor of

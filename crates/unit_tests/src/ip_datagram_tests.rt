@@ -1,8 +1,8 @@
 //! Headers from the standards' syntax, written by hand.
-use crate::cases::assert_cases;
 use ip_datagram::{DatagramList, destination, front, length_hint};
 use std::alloc::Global;
 use std::test::Fail;
+use test_lines::expect_lines;
 use test_recordings::bytes_of;
 
 /// The length and the destination of the datagram that bytes begin with, or the fault.
@@ -33,7 +33,7 @@ const FRONTS: &str = "\
 /// The header says the length, and the destination; each fault has its name.
 #[test]
 fn fronts_are_measured_and_each_fault_is_named(rt: HostRuntime) -> Result<(), Fail> {
-    assert_cases(&rt, rt.alloc(), front_of, FRONTS)
+    expect_lines(rt.alloc(), front_of, FRONTS)
 }
 
 /// What bytes tell of the length of a datagram that begins with them.
@@ -56,7 +56,7 @@ const HINTS: &str = "\
 
 #[test]
 fn prefixes_tell_what_they_can(rt: HostRuntime) -> Result<(), Fail> {
-    assert_cases(&rt, rt.alloc(), hint_of, HINTS)
+    expect_lines(rt.alloc(), hint_of, HINTS)
 }
 
 #[test]

@@ -1,10 +1,11 @@
 //! Sections by the syntax of EN 301 192, written by hand; an independent program gave their CRC_32.
-use crate::cases::{assert_cases, assert_digits};
+use crate::cases::assert_digits;
 use hex::FromHex;
 use mpe_section::{Fec, Mpe, RealTime, read_fec, read_mpe, write_fec, write_mpe, write_mpe_around};
 use section_codec::SectionRef;
 use std::alloc::Global;
 use std::test::Fail;
+use test_lines::expect_lines;
 use test_recordings::bytes_of;
 
 const MAC: [u8; 6] = [1, 0, 0x5E, 1, 2, 3];
@@ -63,7 +64,7 @@ const DATAGRAMS: &str = "\
 
 #[test]
 fn datagrams_are_read_and_each_fault_is_named(rt: HostRuntime) -> Result<(), Fail> {
-    assert_cases(&rt, rt.alloc(), mpe_of, DATAGRAMS)
+    expect_lines(rt.alloc(), mpe_of, DATAGRAMS)
 }
 
 /// The same section is written, and no byte after it; what it has around the datagram; and one with delta_t 200, table_boundary
@@ -145,7 +146,7 @@ const COLUMNS: &str = "\
 
 #[test]
 fn columns_are_read_and_each_fault_is_named(rt: HostRuntime) -> Result<(), Fail> {
-    assert_cases(&rt, rt.alloc(), fec_of, COLUMNS)
+    expect_lines(rt.alloc(), fec_of, COLUMNS)
 }
 
 /// EN 301 192 clause 9: a column of 256 rows is written, and read again.

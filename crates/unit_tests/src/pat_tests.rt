@@ -1,8 +1,8 @@
 //! PATs by hand, each with its CRC_32 by an independent program, and sections with one fault or two.
-use crate::cases::assert_cases;
 use psi_tables::{Pat, PatReadFault, Program, read_pat, write_pat};
 use std::alloc::Global;
 use std::test::Fail;
+use test_lines::expect_lines;
 use test_recordings::bytes_of;
 
 /// Sections, transport_stream_id with number and PID of each program or the fault, and what the section has (ISO/IEC 13818-1 clause
@@ -57,7 +57,7 @@ fn read_of(alloc: Global, section: &str) -> Result<String, Fail> {
 
 #[test]
 fn a_pat_is_read_or_its_first_fault_is_named(rt: HostRuntime) -> Result<(), Fail> {
-    assert_cases(&rt, rt.alloc(), read_of, SECTIONS)
+    expect_lines(rt.alloc(), read_of, SECTIONS)
 }
 
 /// Two programs, byte for byte, and the byte after the section.

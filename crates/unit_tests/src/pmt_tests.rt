@@ -1,8 +1,8 @@
 //! PMTs by hand, each with its CRC_32 by an independent program, and sections with one fault or two.
-use crate::cases::assert_cases;
 use psi_tables::{Pmt, PmtReadFault, Stream, read_pmt, write_pmt};
 use std::alloc::Global;
 use std::test::Fail;
+use test_lines::expect_lines;
 use test_recordings::bytes_of;
 
 /// Sections, program_number with PID and component_tag of each stream or the fault, and what the section has (ISO/IEC 13818-1 clause
@@ -78,7 +78,7 @@ fn read_of(alloc: Global, section: &str) -> Result<String, Fail> {
 
 #[test]
 fn a_pmt_is_read_or_its_first_fault_is_named(rt: HostRuntime) -> Result<(), Fail> {
-    assert_cases(&rt, rt.alloc(), read_of, SECTIONS)
+    expect_lines(rt.alloc(), read_of, SECTIONS)
 }
 
 /// A stream with component_tag 1 and one without, byte for byte, and the byte after the section.

@@ -1,9 +1,10 @@
 //! A section from outside: a program association section, whose CRC_32 an independent program gave.
-use crate::cases::{assert_cases, assert_digits};
+use crate::cases::assert_digits;
 use hex::FromHex;
 use section_codec::{SectionForm, parse, write, write_around};
 use std::alloc::Global;
 use std::test::Fail;
+use test_lines::expect_lines;
 use test_recordings::bytes_of;
 use unit_stream::UnitForm;
 
@@ -32,7 +33,7 @@ const SECTIONS: &str = "\
 
 #[test]
 fn fields_are_read_and_each_fault_is_named(rt: HostRuntime) -> Result<(), Fail> {
-    assert_cases(&rt, rt.alloc(), fields_of, SECTIONS)
+    expect_lines(rt.alloc(), fields_of, SECTIONS)
 }
 
 /// The same section is written of its fields, and no byte after it; and what it has around a piece of its body.
@@ -82,6 +83,6 @@ const CHECKS: &str = "\
 
 #[test]
 fn three_bytes_tell_a_section_and_its_end_is_checked(rt: HostRuntime) -> Result<(), Fail> {
-    assert_cases(&rt, rt.alloc(), span_of, SPANS)?;
-    assert_cases(&rt, rt.alloc(), check_of, CHECKS)
+    expect_lines(rt.alloc(), span_of, SPANS)?;
+    expect_lines(rt.alloc(), check_of, CHECKS)
 }

@@ -1,9 +1,9 @@
 //! Packets by hand, after ISO/IEC 13818-1 clause 2.4.3.2.
-use crate::cases::{assert_cases, assert_text};
 use hex::FromHex;
 use std::alloc::Global;
 use std::process::Abort;
 use std::test::Fail;
+use test_lines::{expect, expect_lines};
 use ts_packet::{Continuity, parse, write_header, write_null, write_packet};
 
 /// The packet that begins with 6 bytes, and has FF after them.
@@ -49,7 +49,7 @@ const PACKETS: &str = "\
 
 #[test]
 fn packets_are_read_and_each_fault_is_named(rt: HostRuntime) -> Result<(), Fail> {
-    assert_cases(&rt, rt.alloc(), fields_of, PACKETS)
+    expect_lines(rt.alloc(), fields_of, PACKETS)
 }
 
 /// How the next packet follows.
@@ -77,7 +77,7 @@ fn packets_follow_by_counter_and_bytes(rt: HostRuntime) -> Result<(), Fail> {
     for line in FOLLOWING.lines() {
         let (given, want) = line.split_once('|').ok_or("no bar")?;
         let link = link_of(rt.alloc(), &mut continuity, given)?;
-        assert_text(&rt, link, want, given);
+        expect(given, &link, want)?;
     }
     Ok(())
 }

@@ -1,8 +1,8 @@
 //! Chains by hand, after RFC 4326 sections 4.4 and 5.
-use crate::cases::assert_cases;
 use hex::FromHex;
 use std::alloc::Global;
 use std::test::Fail;
+use test_lines::expect_lines;
 use test_recordings::bytes_of;
 use ule_extension::{bridged, datagram, walk};
 
@@ -41,7 +41,7 @@ const CHAINS: &str = "\
 
 #[test]
 fn chains_are_followed_and_each_fault_is_named(rt: HostRuntime) -> Result<(), Fail> {
-    assert_cases(&rt, rt.alloc(), end_of, CHAINS)
+    expect_lines(rt.alloc(), end_of, CHAINS)
 }
 
 /// The datagram after a chain, or the fault.
@@ -65,7 +65,7 @@ const DATAGRAMS: &str = "\
 
 #[test]
 fn datagrams_are_lent_and_each_fault_is_named(rt: HostRuntime) -> Result<(), Fail> {
-    assert_cases(&rt, rt.alloc(), datagram_of, DATAGRAMS)
+    expect_lines(rt.alloc(), datagram_of, DATAGRAMS)
 }
 
 /// The bridged frame after a chain.
@@ -87,5 +87,5 @@ const FRAMES: &str = "\
 
 #[test]
 fn frames_are_lent(rt: HostRuntime) -> Result<(), Fail> {
-    assert_cases(&rt, rt.alloc(), frame_of, FRAMES)
+    expect_lines(rt.alloc(), frame_of, FRAMES)
 }

@@ -1,8 +1,9 @@
 //! SNDUs from outside: the example of RFC 4326 appendix B, and one whose CRC-32 an independent program gave.
-use crate::cases::{assert_cases, assert_digits};
+use crate::cases::assert_digits;
 use hex::FromHex;
 use std::alloc::Global;
 use std::test::Fail;
+use test_lines::expect_lines;
 use test_recordings::bytes_of;
 use ule_unit::{Sndu, UleForm, read, read_checked, write, write_around};
 use unit_stream::UnitForm;
@@ -50,8 +51,8 @@ const CHECKED: &str = "\
 
 #[test]
 fn fields_are_read_and_each_fault_is_named(rt: HostRuntime) -> Result<(), Fail> {
-    assert_cases(&rt, rt.alloc(), fields_of, SNDUS)?;
-    assert_cases(&rt, rt.alloc(), checked_of, CHECKED)
+    expect_lines(rt.alloc(), fields_of, SNDUS)?;
+    expect_lines(rt.alloc(), checked_of, CHECKED)
 }
 
 /// The example of RFC 4326 appendix B is written, and no byte after it; and what it has around its datagram.
@@ -107,6 +108,6 @@ const CHECKS: &str = "\
 
 #[test]
 fn two_bytes_tell_an_sndu_and_its_end_is_checked(rt: HostRuntime) -> Result<(), Fail> {
-    assert_cases(&rt, rt.alloc(), span_of, SPANS)?;
-    assert_cases(&rt, rt.alloc(), check_of, CHECKS)
+    expect_lines(rt.alloc(), span_of, SPANS)?;
+    expect_lines(rt.alloc(), check_of, CHECKS)
 }

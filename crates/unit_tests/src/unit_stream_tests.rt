@@ -1,9 +1,8 @@
 //! Packets by hand and the events that they give; units by hand and the packets that they fill.
-use crate::cases::{assert_cases, assert_text};
 use crate::small_form::SmallForm;
 use std::alloc::{AllocError, Global};
-use std::process::Abort;
 use std::test::Fail;
+use test_lines::{expect, expect_lines};
 use test_recordings::bytes_of;
 use ts_packet::{Link, Packet};
 use unit_stream::{JoinEvent, Joiner, Listener, Packer, UnitForm, count_packets};
@@ -145,9 +144,8 @@ Next 1 00 06 07|
 Next 0 07 07|
 Next 0 08 08 09|unit 17 [6, 7, 7, 7, 8, 8];";
 
-/// Asserts that a joiner gives the events of a line, and that another one tells them to a listener.
-fn assert_events(
-    rt: &impl Abort,
+/// Fails where a joiner does not give the events of a line, or another one does not tell them to a listener.
+fn expect_events(
     alloc: Global,
     joiner: &mut Joiner<SmallForm, Global>,
     telling: &mut Joiner<SmallForm, Global>,
@@ -156,9 +154,8 @@ fn assert_events(
 ) -> Result<(), Fail> {
     let (given, want) = line.split_once('|').ok_or("no bar")?;
     let step = Step::of(alloc, given)?;
-    assert_text(rt, events_of(alloc, joiner, &step, moment)?, want, line);
-    assert_text(rt, heard_events(alloc, telling, &step, moment)?, want, line);
-    Ok(())
+    expect(line, &events_of(alloc, joiner, &step, moment)?, want)?;
+    expect(line, &heard_events(alloc, telling, &step, moment)?, want)
 }
 
 #[test]
@@ -167,7 +164,7 @@ fn packets_give_their_events_in_order(rt: HostRuntime) -> Result<(), Fail> {
     let mut joiner = Joiner::<SmallForm, Global>::over(vec![in alloc; 0u8; SmallForm::LONGEST]?);
     let mut telling = Joiner::<SmallForm, Global>::over(vec![in alloc; 0u8; SmallForm::LONGEST]?);
     for (place, line) in STEPS.lines().enumerate() {
-        assert_events(&rt, alloc, &mut joiner, &mut telling, line, place as u64)?;
+        expect_events(alloc, &mut joiner, &mut telling, line, place as u64)?;
     }
     Ok(())
 }
@@ -204,5 +201,5 @@ without|47410010000407 47410011000307 4741001200c807 47010013070707 4; Some(Room
 
 #[test]
 fn units_are_packetized(rt: HostRuntime) -> Result<(), Fail> {
-    assert_cases(&rt, rt.alloc(), packets_of, PACKETS)
+    expect_lines(rt.alloc(), packets_of, PACKETS)
 }
