@@ -4,6 +4,7 @@ ghost use Rattle.slice_spec.specs.Moments.{ten, units_per_second};
 ghost use Rattle.plan.specs.Parts.{form_of};
 
 use ipe_io::Recording;
+use plan::ten_milliseconds;
 use slice_law::windows_leave_gaps;
 use time_slice::delta;
 
@@ -35,16 +36,6 @@ fn units_in_second(recording: Recording) -> u32
     }
 }
 
-/// Units of time in ten milliseconds.
-fn ten_in(recording: Recording) -> u32
-    ensures { result ≡ ten (form_of recording) }
-{
-    match recording {
-        Recording::Plain | Recording::Stamped => 10_000,
-        Recording::M2ts => 270_000,
-    }
-}
-
 impl Timing {
     ghost use Rattle.std.specs.Prelude.{◌≡◌, ◌^◌, ◌<◌, ◌≤◌};
     ghost use Rattle.slice_spec.specs.Bursts.{IsSliceable};
@@ -71,7 +62,7 @@ impl Timing {
         windows_leave_gaps();
         let now = self.moment(u128::from(cycle), packet);
         let next = self.moment(u128::from(cycle) + 1, 0);
-        let ten = u64::from(ten_in(self.recording));
+        let ten = u64::from(ten_milliseconds(self.recording));
         delta(0, next.saturating_sub(now) as u64, ten)
     }
 }

@@ -23,7 +23,7 @@ use byte_slices::zeros;
 use fec_frame::Table;
 use fec_reception::FecReception;
 use ipe_io::{Failed, OutOfMemory, Outlet, Recording};
-use plan::Kind;
+use plan::{Kind, ten_milliseconds};
 use section_codec::SectionForm;
 use service_counts::ServiceCounts;
 use service_reception::Reception;
@@ -69,16 +69,6 @@ fn mpe_reception(arena: &Bump) -> Result<ByKind<'_>, OutOfMemory>
     Ok(ByKind::Mpe(Reception::over(buffer)))
 }
 
-/// Ten milliseconds in the unit of the moments of a recording: microseconds, or ticks at 27 MHz.
-fn ten_milliseconds(recording: Recording) -> u64
-    ensures read { result ≡ ten (form_of recording) }
-{
-    match recording {
-        Recording::Plain | Recording::Stamped => 10_000,
-        Recording::M2ts => 270_000,
-    }
-}
-
 /// A reception of frames with so many rows, with time slicing (`sliced`) or without, that was given nothing. The table of the frame under
 /// way has 255 bytes and as many marks for each row, and 65 bytes of work.
 fn fec_reception(
@@ -97,7 +87,7 @@ fn fec_reception(
     let work = zeros(arena, 65 * count)?;
     let buffer = zeros(arena, SectionForm::LONGEST)?;
     let table = Table::over(rows, bytes, marks, work);
-    let ten = ten_milliseconds(recording);
+    let ten = u64::from(ten_milliseconds(recording));
     Ok(ByKind::Fec(FecReception::over(buffer, table, sliced, ten)))
 }
 

@@ -19,7 +19,7 @@ use Rattle.settings_spec.specs.Refusal.{AreRules, AreNewRules, IsSpelledMoved, I
 use Rattle.plan_law.proofs.Kept.{by_moves, name_stays}
 use Rattle.plan.specs.Parts.{service_seen, services_seen, moved_seen, change_seen, changes_seen}
 use Rattle.plan.specs.declared.service.Service.{Service}
-use Rattle.service_plan.specs.Moves.{services_after}
+use Rattle.plan.specs.Moves.{services_after}
 use Rattle.service_plan.specs.Keys.{Faults}
 use Rattle.service_plan.specs.declared.fault.PlanError.{PlanError}
 use Rattle.plan.specs.declared.change.Moved.{Moved}

@@ -81,38 +81,38 @@ or_assoc : (a b c : Bool) → (a || (b || c)) ≡ ((a || b) || c)
 or_assoc true b c = refl
 or_assoc false b c = refl
 
-pub pid_checked : (table : Option IntFields) (services : List Service) (r int pids isis : Bool) → r ≡ (int || (pids || isis)) → int ≡ int_shares table (ids_seen false services)
+pub pid_checked : (table : Option IntFields) (services : List Service) (int pids isis : Bool) → int ≡ int_shares table (ids_seen false services)
     → pids ≡ has_pair (λ a b. a == b) (ids_seen false services) → isis ≡ has_pair (λ a b. a == b) (ids_seen true services)
-    → r ≡ (has_pair (λ a b. a == b) (table_pids table ++ filter_map pid_of (kinds_seen services)) || has_pair (λ a b. a == b) (filter_map isi_of (kinds_seen services)))
-pid_checked table services r int pids isis all i p q =
-    rw (kinds_found pid_of services, kinds_found isi_of services, pid_pairs table (ids_seen false services), ← i, ← p, ← q) (all ∙ or_assoc int pids isis)
+    → (int || (pids || isis)) ≡ (has_pair (λ a b. a == b) (table_pids table ++ filter_map pid_of (kinds_seen services)) || has_pair (λ a b. a == b) (filter_map isi_of (kinds_seen services)))
+pid_checked table services int pids isis i p q =
+    rw (kinds_found pid_of services, kinds_found isi_of services, pid_pairs table (ids_seen false services), ← i, ← p, ← q) (or_assoc int pids isis)
 
 -- the checks of windows
-pub window_checked : (t : ℕ) (plan : PlanFields) (services : List Service) (r wrong overlap : Bool) → r ≡ (nat_le plan.cycle t || (wrong || overlap))
+pub window_checked : (t : ℕ) (plan : PlanFields) (services : List Service) (wrong overlap : Bool)
     → wrong ≡ list_any (λ (s : Service). holds (is_wrong_window t plan) (sliced_of (kind_seen s.kind))) services
     → overlap ≡ has_pair overlaps (filter_map (λ (s : Service). sliced_of (kind_seen s.kind)) services)
-    → r ≡ (nat_le plan.cycle t || (list_any (is_wrong_window t plan) (filter_map sliced_of (kinds_seen services)) || has_pair overlaps (filter_map sliced_of (kinds_seen services))))
-window_checked t plan services r wrong overlap all w o =
-    rw (kinds_found sliced_of services, any_found (is_wrong_window t plan) (λ (s : Service). sliced_of (kind_seen s.kind)) services, ← w, ← o) all
+    → (nat_le plan.cycle t || (wrong || overlap)) ≡ (nat_le plan.cycle t || (list_any (is_wrong_window t plan) (filter_map sliced_of (kinds_seen services)) || has_pair overlaps (filter_map sliced_of (kinds_seen services))))
+window_checked t plan services wrong overlap w o =
+    rw (kinds_found sliced_of services, any_found (is_wrong_window t plan) (λ (s : Service). sliced_of (kind_seen s.kind)) services, ← w, ← o) refl
 
 pub gap_checked : (plan : PlanFields) (services : List Service) (r : Bool) → r ≡ list_any (λ (s : Service). holds (is_small_gap plan) (sliced_of (kind_seen s.kind))) services
     → r ≡ list_any (is_small_gap plan) (filter_map sliced_of (kinds_seen services))
 gap_checked plan services r all = rw (kinds_found sliced_of services, any_found (is_small_gap plan) (λ (s : Service). sliced_of (kind_seen s.kind)) services) all
 
-pub sliced_and : (services : List Service) (r some other test : Bool) → r ≡ (some && other) → some ≡ list_any (λ (s : Service). has_slices (kind_seen s.kind)) services → other ≡ test
-    → r ≡ (nat_lt 0 (length (filter_map sliced_of (kinds_seen services))) && test)
-sliced_and services r some other test all s t = rw (kinds_found sliced_of services, sliced_found services, ← s, ← t) all
+pub sliced_and : (services : List Service) (some other test : Bool) → some ≡ list_any (λ (s : Service). has_slices (kind_seen s.kind)) services → other ≡ test
+    → (some && other) ≡ (nat_lt 0 (length (filter_map sliced_of (kinds_seen services))) && test)
+sliced_and services some other test s t = rw (kinds_found sliced_of services, sliced_found services, ← s, ← t) refl
 
 -- the carrier
 some_mapped : {X Y : Type 0} (f : X → Y) (o : Option X) → is_some (option_map f o) ≡ is_some o
 some_mapped f None = refl
 some_mapped f (Some x) = refl
 
-pub frames_checked : (frame : Option ℕ) (table : Option IntPlan) (form : RecordingForm) (services : List Service) (r gse there plain : Bool) → true ≡ is_some frame
-    → r ≡ (not gse || (there || not plain)) → gse ≡ list_all (λ (s : Service). is_gse (kind_seen s.kind)) services → there ≡ is_some table → plain ≡ is_plain form
-    → r ≡ (if is_some frame then (not (list_all is_gse (kinds_seen services)) || (is_some (option_map int_seen table) || not (is_plain form))) else list_any is_gse (kinds_seen services))
-frames_checked frame table form services r gse there plain bb all g t p =
-    rw (← bb, all_kinds is_gse services, some_mapped int_seen table, ← g, ← t, ← p) all
+pub frames_checked : (frame : Option ℕ) (table : Option IntPlan) (form : RecordingForm) (services : List Service) (gse there plain : Bool) → true ≡ is_some frame
+    → gse ≡ list_all (λ (s : Service). is_gse (kind_seen s.kind)) services → there ≡ is_some table → plain ≡ is_plain form
+    → (not gse || (there || not plain)) ≡ (if is_some frame then (not (list_all is_gse (kinds_seen services)) || (is_some (option_map int_seen table) || not (is_plain form))) else list_any is_gse (kinds_seen services))
+frames_checked frame table form services gse there plain bb g t p =
+    rw (← bb, all_kinds is_gse services, some_mapped int_seen table, ← g, ← t, ← p) refl
 
 pub packets_checked : (frame : Option ℕ) (table : Option IntPlan) (form : RecordingForm) (services : List Service) (r : Bool) → false ≡ is_some frame
     → r ≡ list_any (λ (s : Service). is_gse (kind_seen s.kind)) services

@@ -8,12 +8,10 @@ use Rattle.plan_spec.specs.Plan.{WindowFields, KindFields, ule, mpe, fec, gse, S
 use Rattle.plan_spec.specs.Signalling.{frame_slices, slices_of, entry_of, table_of, table_packets}
 use Rattle.plan_spec.specs.Changes.{with_pid, no_service}
 use Rattle.plan.specs.Parts.{kind_seen, service_seen}
-use Rattle.plan.specs.Moves.{last_move, moves_of}
+use Rattle.plan.specs.Moves.{last_move, moves_of, service_after}
 use Rattle.plan.specs.declared.service.Service.{Service}
 use Rattle.plan.specs.declared.change.Change.{Change}
-use Rattle.plan.proofs.VersionLemmas.{moved_so}
-use Rattle.service_plan.specs.Moves.{service_after}
-use Rattle.service_plan.proofs.MoveLemmas.{service_moved}
+use Rattle.plan.proofs.VersionLemmas.{moved_so, moved_after}
 use Rattle.service_plan.proofs.CheckLemmas.{rules_of}
 
 -- a time_slice_fec_identifier has three bytes
@@ -36,7 +34,7 @@ pub slices_after : (services : List Service) (changes : List Change) (k : ℕ) (
     → slices_of packet_rate (kind_seen kept.kind) ≡ slices_of packet_rate (service_after services changes k).kind
 slices_after services changes k kept packet_rate within is =
     sym (slices_moved packet_rate (service_seen kept) (last_move k None (moves_of changes)))
-    ∙ ap (λ (s : ServiceFields). slices_of packet_rate s.kind) (sym (service_moved services changes k kept within is))
+    ∙ ap (λ (s : ServiceFields). slices_of packet_rate s.kind) (sym (moved_after services changes k kept within is))
 
 -- the bytes of the entries of services, and how many rules these have
 abbrev pub entries_length : TableFields → ℕ → List ServiceFields → ℕ

@@ -11,8 +11,9 @@ use Rattle.plan.specs.Parts.{services_seen, moved_seen, change_seen, changes_see
 use Rattle.plan.specs.declared.change.Moved.{Moved}
 use Rattle.plan.specs.declared.change.Change.{Change}
 use Rattle.plan.specs.declared.service.Service.{Service}
-use Rattle.service_plan.specs.Moves.{services_after, pid_seen, pids_seen, ends_so}
-use Rattle.service_plan.proofs.MoveLemmas.{services_of_version}
+use Rattle.plan.specs.Moves.{services_after, pid_after}
+use Rattle.service_plan.specs.Moves.{pids_seen, ends_so}
+use Rattle.plan.proofs.VersionLemmas.{services_of_version}
 
 -- Numbers that stand twice.
 
@@ -96,7 +97,7 @@ module _ (plan : PlanFields) (services : List Service) (changes : List Change) (
       ap₂ (λ (s : List ServiceFields) (c : List ChangeFields). fold with_change s (take version c)) of_services of_changes
       ∙ services_of_version services changes version
 
-  pid_is : (version k : ℕ) → pid_in plan version k ≡ pid_seen services (take version changes) k
+  pid_is : (version k : ℕ) → pid_in plan version k ≡ pid_after services (take version changes) k
   unfolding pid_in
   pid_is version k = ap (λ (s : List ServiceFields). pid_of (get_or s k no_service).kind) (services_in_version version)
 
@@ -108,7 +109,7 @@ module _ (plan : PlanFields) (services : List Service) (changes : List Change) (
   pids_are k =
       ap (λ (n : ℕ). fold with_pid_behind [] (map (λ version. pid_in plan version k) (range_with_len 0 (n + 1)))) count_is
       ∙ ap (λ (l : List (Option ℕ)). fold with_pid_behind [] l)
-      (map_same (λ version. pid_in plan version k) (λ version. pid_seen services (take version changes) k) (λ version. pid_is version k) (range_with_len 0 (length changes + 1)))
+      (map_same (λ version. pid_in plan version k) (λ version. pid_after services (take version changes) k) (λ version. pid_is version k) (range_with_len 0 (length changes + 1)))
 
   -- its rules
   pub rules_are : has_wrong_rules plan ≡ list_any (λ version. has_wrong_count (services_after services (take version changes))) (range_with_len 0 (length changes + 1))

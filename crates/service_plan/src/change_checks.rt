@@ -1,5 +1,5 @@
 //! Change: what a list of changes may not have.
-ghost use Rattle.std.specs.Prelude.{◌≡◌, ℕ, ◌+◌, ◌<◌, ◌≤◌, ◌==◌, ◌||◌, length, drop, slice_index, map, nat_le, option_map, IfOk, OnOk};
+ghost use Rattle.std.specs.Prelude.{◌≡◌, ◌+◌, ◌<◌, ◌≤◌, ◌==◌, ◌||◌, length, drop, slice_index, map, nat_le, option_map, IfOk, OnOk};
 ghost use Rattle.std.specs.List.{list_any};
 ghost use Rattle.plan_spec.specs.Plan.{PlanFields, table_pids as pids_of_table};
 ghost use Rattle.plan_spec.specs.Checks.{has_pair as has_pair_of};
@@ -8,10 +8,8 @@ ghost use Rattle.plan.specs.Parts.{int_seen, changes_seen};
 ghost use Rattle.service_plan.specs.Moves.{ends_so, pids_seen};
 ghost use Rattle.service_plan.specs.Plans.{draft_seen};
 
-use crate::moves::pid_after;
-use crate::services::either;
 use crate::settings_draft::Draft;
-use plan::{Change, IntPlan, Moved, Service};
+use plan::{Change, IntPlan, Moved, Service, pid_after};
 use std::alloc::{AllocError as OutOfMemory, Global};
 
 /// Whether the numbers of the changes' records rise, from 2 on.
@@ -88,7 +86,7 @@ fn moves_wrongly(alloc: Global, moved: &[Moved], count: usize) -> Result<bool, O
 {
     let services = moved_services(alloc, moved)?;
     let twice = has_pair(services.as_slice());
-    Ok(either(twice, has_stranger(services.as_slice(), count)))
+    Ok(twice | has_stranger(services.as_slice(), count))
 }
 
 /// Whether those of one of the changes are.

@@ -7,14 +7,12 @@ ghost use Rattle.settings_spec.specs.Settings.{moved_fault, moved_keys, change_f
 ghost use Rattle.plan.specs.Parts.{services_seen};
 ghost use Rattle.settings_keys.specs.Lists.{views, tables_of, texts_of};
 ghost use Rattle.service_plan.specs.Reading.{AnswersOrWants};
-ghost use Rattle.service_plan.specs.Moves.{services_after, service_after, pid_seen};
+ghost use Rattle.plan.specs.Moves.{services_after, service_after, pid_after as pid_seen};
 ghost use Rattle.service_plan.specs.Changes.{AreNew, IsMoveOf, AreMovesOf, IsChangeOf, AreChangesOf};
 
 use crate::fault::PlanError;
-use crate::moves::{pid_after, rules_after};
-use crate::services::both;
 use addr_rules::RuleList;
-use plan::{Change, ChangeList, Moved, MovedList, Service};
+use plan::{Change, ChangeList, Moved, MovedList, Service, pid_after, rules_after};
 use settings_keys::{
     Key, moved_name, moved_pid, moved_rules, number, refuse_unknown, rules, table_items,
 };
@@ -190,7 +188,7 @@ fn read_moves(
             None => continue,
         };
         let draft = read_moved(alloc, services, before, table)?;
-        spelled = both(spelled, draft.spelled);
+        spelled &= draft.spelled;
         moved.push(draft.moved)?;
     }
     Ok(MovesDraft { moved, spelled })
@@ -238,7 +236,7 @@ pub(crate) fn read_changes(
             None => continue,
         };
         let draft = read_change(alloc, services, changes.items(), table)?;
-        spelled = both(spelled, draft.spelled);
+        spelled &= draft.spelled;
         changes.push(draft.change)?;
     }
     Ok(ChangesDraft { changes, spelled })

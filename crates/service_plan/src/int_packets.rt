@@ -8,13 +8,12 @@ ghost use Rattle.plan_spec.specs.Signalling.{entry_of, slices_of, table_packets 
 ghost use Rattle.plan_spec.specs.Changes.{plan_in};
 ghost use Rattle.plan_spec.specs.Wholes.{has_wrong_rules, most_table_packets as most_packets};
 ghost use Rattle.plan.specs.Parts.{kind_seen};
-ghost use Rattle.service_plan.specs.Moves.{services_after};
+ghost use Rattle.plan.specs.Moves.{services_after};
 ghost use Rattle.service_plan.specs.Plans.{draft_seen};
 
-use crate::moves::rules_after;
 use crate::settings_draft::Draft;
 use int_table::{entry_size, section_size};
-use plan::{Change, Kind, Service};
+use plan::{Change, Kind, Service, rules_after};
 
 /// Whether the entry of a service has a time_slice_fec_identifier_descriptor, as those with frames have.
 fn has_identifier(kind: &Kind) -> bool

@@ -9,7 +9,6 @@ ghost use Rattle.service_plan.specs.Services.{IsServiceOf, IsWindowOf, mode_keys
 
 use crate::fault::{PlanError, PlanFault};
 use crate::service_draft::{ServiceDraft, filter, finish};
-use crate::services::both;
 use addr_rules::MacList;
 use plan::Kind;
 use settings_keys::{
@@ -152,7 +151,7 @@ fn gse(alloc: Global, place: u8, table: &Table) -> Result<ServiceDraft, PlanErro
     let draft = finish(alloc, place, table, name, kind, items, filter)?;
     Ok(ServiceDraft {
         service: draft.service,
-        spelled: both(draft.spelled, spelled),
+        spelled: draft.spelled & spelled,
     })
 }
 

@@ -10,7 +10,6 @@ mod fault;
 mod int;
 mod int_packets;
 mod kinds;
-mod moves;
 mod plan_checks;
 mod read;
 mod service_draft;

@@ -5,7 +5,7 @@ ghost use Rattle.std.specs.List.{list_all, list_any, range_with_len};
 ghost use Rattle.plan_spec.specs.Checks.{is_gse as is_gse_kind, has_wrong_carrier as has_bad_carrier, has_wrong_count};
 ghost use Rattle.plan_spec.specs.Wholes.{has_wrong_rules as has_bad_rules};
 ghost use Rattle.plan.specs.Parts.{kind_seen, urgent_seen};
-ghost use Rattle.service_plan.specs.Moves.{services_after, service_after};
+ghost use Rattle.plan.specs.Moves.{services_after, service_after};
 ghost use Rattle.service_plan.specs.Plans.{draft_seen};
 ghost use Rattle.service_plan.specs.Reading.{AnswersOrWants, Always};
 ghost use Rattle.service_plan.specs.Order.{whole_fault};
@@ -13,14 +13,12 @@ ghost use Rattle.service_plan.specs.Order.{whole_fault};
 use crate::change_checks::has_wrong_change;
 use crate::fault::{PlanError, PlanFault};
 use crate::int_packets::most_table_packets;
-use crate::moves::rules_after;
-use crate::services::either;
 use crate::settings_draft::Draft;
-use crate::unique_checks::{any_of, has_same_name, has_same_pid};
+use crate::unique_checks::{has_same_name, has_same_pid};
 use crate::window_checks::{
     has_long_cycle, has_short_gap, has_wrong_window, is_plain, needs_stamps,
 };
-use plan::{Change, Kind, Service};
+use plan::{Change, Kind, Service, rules_after};
 use std::alloc::Global;
 
 /// The rules of all services together, the urgent ones among them, at most.
@@ -55,11 +53,7 @@ fn has_wrong_carrier(draft: &Draft) -> bool
 {
     let services = draft.services.items();
     if draft.frame_bytes.is_some() {
-        return any_of(
-            !are_gse(services),
-            draft.table.is_some(),
-            !is_plain(draft.recording),
-        );
+        return !are_gse(services) | (draft.table.is_some() | !is_plain(draft.recording));
     }
     has_gse(services)
 }
@@ -130,7 +124,7 @@ fn has_wrong_rules(draft: &Draft) -> bool
     ensures read { result ≡ (not draft.now.spelled || has_bad_rules (draft_seen draft.now)) }
 {
     let wrong = any_wrong_counts(draft.services.items(), draft.changes.items());
-    either(!draft.spelled, wrong)
+    !draft.spelled | wrong
 }
 
 /// Answers the first check over the whole that fails.

@@ -1,5 +1,5 @@
 //! The list of services in settings.
-ghost use Rattle.std.specs.Prelude.{◌≡◌, ◌≤◌, ◌&&◌, ◌||◌, length};
+ghost use Rattle.std.specs.Prelude.{◌≤◌, length};
 ghost use Rattle.settings_spec.specs.Settings.{services_fault};
 ghost use Rattle.settings_keys.specs.Lists.{views, tables_of};
 ghost use Rattle.service_plan.specs.Reading.{AnswersOrWants};
@@ -18,20 +18,6 @@ pub(crate) struct ServicesDraft {
     pub(crate) spelled: bool,
 }
 
-/// Both of two.
-pub(crate) fn both(one: bool, other: bool) -> bool
-    ensures { result ≡ (one && other) }
-{
-    one && other
-}
-
-/// One of two.
-pub(crate) fn either(one: bool, other: bool) -> bool
-    ensures { result ≡ (one || other) }
-{
-    one || other
-}
-
 /// Reads the services, of which there are 64 at most.
 pub(crate) fn read_services(alloc: Global, items: &[Value]) -> Result<ServicesDraft, PlanError>
     requires { length items.now ≤ 64 }
@@ -46,7 +32,7 @@ pub(crate) fn read_services(alloc: Global, items: &[Value]) -> Result<ServicesDr
         };
         let place = list.len() as u8;
         let draft = read_service(alloc, place, table)?;
-        spelled = both(spelled, draft.spelled);
+        spelled &= draft.spelled;
         list.push(draft.service)?;
     }
     Ok(ServicesDraft {

@@ -8,7 +8,7 @@ ghost use Rattle.service_plan.specs.Plans.{IsDraftOf, parts_fault};
 use crate::changes::read_changes;
 use crate::fault::PlanError;
 use crate::int::read_int;
-use crate::services::{both, read_services};
+use crate::services::read_services;
 use crate::top::{int_table, top_values};
 use ipe_io::Recording;
 use plan::{ChangeList, IntPlan, ServiceList};
@@ -77,6 +77,6 @@ pub(crate) fn read_tables(alloc: Global, top: &Table) -> Result<Draft, PlanError
         table,
         services: read.services,
         changes: changed.changes,
-        spelled: both(read.spelled, changed.spelled),
+        spelled: read.spelled & changed.spelled,
     })
 }

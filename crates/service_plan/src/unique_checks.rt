@@ -1,5 +1,5 @@
 //! Two services with one name, or one PID or ISI.
-ghost use Rattle.std.specs.Prelude.{◌≡◌, ◌+◌, ◌<◌, length, drop, Bool, false, ◌==◌, ◌||◌, bytes_eq, Some, option_map};
+ghost use Rattle.std.specs.Prelude.{◌≡◌, ◌+◌, ◌<◌, length, drop, false, ◌==◌, bytes_eq, Some, option_map};
 ghost use Rattle.std.specs.List.{list_any, filter_map};
 ghost use Rattle.plan_spec.specs.Checks.{has_pair, has_same_name as has_one_name, has_same_pid as has_one_pid};
 ghost use Rattle.settings_spec.specs.Keys.{holds};
@@ -97,13 +97,6 @@ pub(crate) fn has_same_name(draft: &Draft) -> bool
     has_pair_of_names(draft.services.items())
 }
 
-/// One of three.
-pub(crate) fn any_of(one: bool, two: bool, three: bool) -> bool
-    ensures { result ≡ (one || (two || three)) }
-{
-    one || two || three
-}
-
 /// A service has the PID of the INT.
 fn has_int_pid(table: &Option<IntPlan>, services: &[Service]) -> bool
     ensures read { result ≡ int_shares (option_map int_seen table.now) (ids_seen false services.now) }
@@ -119,9 +112,6 @@ pub(crate) fn has_same_pid(draft: &Draft) -> bool
     ensures read { result ≡ has_one_pid (draft_seen draft.now) }
 {
     let services = draft.services.items();
-    any_of(
-        has_int_pid(&draft.table, services),
-        has_pair_of_ids(services, false),
-        has_pair_of_ids(services, true),
-    )
+    has_int_pid(&draft.table, services)
+        | (has_pair_of_ids(services, false) | has_pair_of_ids(services, true))
 }

@@ -1,16 +1,15 @@
 //! The windows of sliced services.
-ghost use Rattle.std.specs.Prelude.{◌≡◌, ◌≤◌, ◌+◌, ◌-◌, ◌*◌, ◌/◌, nat_lt, Bool, ◌||◌, option_map};
+ghost use Rattle.std.specs.Prelude.{◌≡◌, ◌≤◌, ◌+◌, ◌-◌, ◌*◌, ◌/◌, nat_lt, ◌||◌, option_map};
 ghost use Rattle.std.specs.List.{list_any, filter_map};
 ghost use Rattle.plan_spec.specs.Plan.{sliced_of};
-ghost use Rattle.plan_spec.specs.Checks.{has_pair, overlaps as overlaps_other, is_wrong_window, is_too_short as is_short, is_too_long as is_long, leaves_cycle as leaves, has_wrong_window as has_bad_window, has_short_gap as has_small_gap, has_long_cycle as has_great_cycle, needs_stamps as needs_times, is_sliced, is_plain as is_plain_form};
+ghost use Rattle.plan_spec.specs.Checks.{has_pair, overlaps as overlaps_other, is_wrong_window, is_too_short as is_short, is_too_long as is_long, leaves_cycle as leaves, has_wrong_window as has_bad_window, has_short_gap as has_small_gap, has_long_cycle as has_great_cycle, needs_stamps as needs_times, is_plain as is_plain_form};
 ghost use Rattle.settings_spec.specs.Keys.{holds};
 ghost use Rattle.plan.specs.Parts.{kind_seen, form_of};
 ghost use Rattle.service_plan.specs.Plans.{draft_seen};
 ghost use Rattle.service_plan.specs.Wholes.{has_slices, sliced_view, is_small_gap};
 
-use crate::services::both;
 use crate::settings_draft::Draft;
-use crate::unique_checks::{after, any_of};
+use crate::unique_checks::after;
 use ipe_io::Recording;
 use plan::{Kind, Service};
 
@@ -136,11 +135,8 @@ pub(crate) fn has_wrong_window(draft: &Draft, table_packets: u32) -> bool
     ensures read { result ≡ has_bad_window table_packets (draft_seen draft.now) }
 {
     let services = draft.services.items();
-    any_of(
-        draft.cycle <= table_packets,
-        has_wrong(draft, table_packets, services),
-        has_overlap(services),
-    )
+    (draft.cycle <= table_packets)
+        | (has_wrong(draft, table_packets, services) | has_overlap(services))
 }
 
 /// Fewer than 10 ms lie between two bursts of a service.
@@ -198,17 +194,14 @@ pub(crate) fn has_long_cycle(draft: &Draft) -> bool
     requires { 1 ≤ draft.now.packet_rate }
     ensures read { result ≡ has_great_cycle (draft_seen draft.now) }
 {
-    both(has_sliced(draft.services.items()), is_long_cycle(draft))
+    has_sliced(draft.services.items()) & is_long_cycle(draft)
 }
 
 /// NeedsStamps: a sliced service in a recording without time stamps.
 pub(crate) fn needs_stamps(draft: &Draft) -> bool
     ensures read { result ≡ needs_times (draft_seen draft.now) }
 {
-    both(
-        has_sliced(draft.services.items()),
-        is_plain(draft.recording),
-    )
+    has_sliced(draft.services.items()) & is_plain(draft.recording)
 }
 
 /// Whether a recording has no time stamps.

@@ -1,5 +1,5 @@
 -- A service of a plan in a version: all but its PID and its rules stays.
-use Rattle.std.proofs.Common.{◌≡◌, ℕ, zero, suc, ◌<◌, ◌≤◌, ◌&&◌, true, List, [], ◌∷◌, length, get_or, refl, ap, subst, sym, ◌∙◌, arith, Option, Some, None}
+use Rattle.std.proofs.Common.{◌≡◌, ℕ, zero, suc, ◌<◌, ◌≤◌, ◌&&◌, true, List, [], ◌∷◌, length, take, get_or, refl, ap, subst, sym, ◌∙◌, arith, Option, Some, None}
 use Rattle.std.specs.Prelude.{slice_get}
 use Rattle.std.proofs.lemmas.List.{length-map}
 use Rattle.std.proofs.lemmas.Option.{slice_get_within}
@@ -16,7 +16,7 @@ use Rattle.stream_law.proofs.KindRanges.{kind_has_frames}
 use Rattle.ts_mux.specs.ServiceUnits.{HasFrames}
 use Rattle.ts_mux.proofs.Items.{list_all_at, map_at}
 use Rattle.plan.specs.Parts.{kind_seen, service_seen, change_seen}
-use Rattle.plan.specs.Moves.{last_move, moves_up_to}
+use Rattle.plan.specs.Moves.{last_move, moves_of}
 use Rattle.plan.specs.PlanView.{plan_fields}
 use Rattle.plan.specs.declared.service.Service.{Service}
 use Rattle.plan.specs.declared.plan.Plan.{Plan}
@@ -92,7 +92,7 @@ module _ (plan : Plan) (version k : ℕ) (service : Service) (found : slice_get 
   pub stays_in : Stays (service_seen service) (service_in (plan_fields plan) version k)
   stays_in =
       subst (λ (s : ServiceFields). Stays (service_seen service) s) (sym (moved_service plan version k service found))
-      (stays_moved (service_seen service) (last_move k None (moves_up_to (plan_fields plan) version)))
+      (stays_moved (service_seen service) (last_move k None (moves_of (take version plan.changes))))
 
   pub found_in : slice_get (services_in (plan_fields plan) version) k ≡ Some (service_in (plan_fields plan) version k)
   found_in =
@@ -105,7 +105,7 @@ module _ (plan : Plan) (version k : ℕ) (service : Service) (found : slice_get 
   kind_in pid e =
       let same = moved_service plan version k service found in
       ap (λ (s : ServiceFields). s.kind) same
-      ∙ kind_so (service_seen service) (last_move k None (moves_up_to (plan_fields plan) version)) pid (ap (λ (s : ServiceFields). pid_of s.kind) (sym same) ∙ e)
+      ∙ kind_so (service_seen service) (last_move k None (moves_of (take version plan.changes))) pid (ap (λ (s : ServiceFields). pid_of s.kind) (sym same) ∙ e)
 
   -- and that is a PID
   pub pid_most : is_whole_plan (plan_fields plan) ≡ true → version ≤ length (plan_fields plan).changes → (pid : ℕ) → pid_in (plan_fields plan) version k ≡ Some pid → pid ≤ 8191

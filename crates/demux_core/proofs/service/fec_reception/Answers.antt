@@ -10,8 +10,8 @@ use Rattle.demux_core.proofs.service.fec_reception.Goals as goal
 pub returns : goal.returns
 returns c = record {
   received = λ it pid parity window is sliced.
-      let timing = ap (timing_of c.args.sliced) c.ten_milliseconds-ten.ensures.read ∙ ap (timing_in (form_of c.args.recording)) (sym sliced) in
+      let timing = ap (timing_of c.args.sliced) (c.from-ten.ensures ∙ c.ten_milliseconds.ensures.read) ∙ ap (timing_in (form_of c.args.recording)) (sym sliced) in
       fresh_kind (form_of c.args.recording) it pid c.args.rows parity window _ is
       (subst (λ (timing : Timing). framed.HasTaken timing c.args.rows pid c.over.result []) timing
-      (subst (λ (rows : ℕ). framed.HasTaken (timing_of c.args.sliced c.ten_milliseconds-ten.result) rows pid c.over.result []) c.over-table.ensures.rows (c.over.ensures.received pid)));
+      (subst (λ (rows : ℕ). framed.HasTaken (timing_of c.args.sliced c.from-ten.result) rows pid c.over.result []) c.over-table.ensures.rows (c.over.ensures.received pid)));
 }

@@ -1,6 +1,6 @@
 use Rattle.std.proofs.Common.{◌+◌, length, take, sym, ◌∙◌}
 use Rattle.plan_spec.specs.Changes.{with_pid_behind}
-use Rattle.service_plan.specs.Moves.{pid_seen}
+use Rattle.plan.specs.Moves.{pid_after}
 use Rattle.service_plan.proofs.RangeLemmas.{fold_more, fold_end}
 use Rattle.service_plan.proofs.change_checks.pids_of.Goals as goal
 
@@ -10,11 +10,11 @@ loop-version-preserved c =
     let changes = c.args.changes.now in
     let version = c.loop-version.version in
     rw (c.in_ok-put_behind.ensures, c.pid_after-pid.ensures)
-    (sym (fold_more with_pid_behind (λ v. pid_seen services (take v changes) c.args.service) version (length changes + 1) c.loop-version.pids.items c.loop-version-test.true) ∙ c.loop-version.invariant)
+    (sym (fold_more with_pid_behind (λ v. pid_after services (take v changes) c.args.service) version (length changes + 1) c.loop-version.pids.items c.loop-version-test.true) ∙ c.loop-version.invariant)
 
 pub returns : goal.returns
 returns c =
     let services = c.args.services.now in
     let changes = c.args.changes.now in
-    sym (fold_end with_pid_behind (λ v. pid_seen services (take v changes) c.args.service) c.loop-version.version (length changes + 1) c.loop-version.pids.items c.loop-version-test.false)
+    sym (fold_end with_pid_behind (λ v. pid_after services (take v changes) c.args.service) c.loop-version.version (length changes + 1) c.loop-version.pids.items c.loop-version-test.false)
     ∙ c.loop-version.invariant

@@ -1,7 +1,7 @@
 use Rattle.std.proofs.Common.{refl, ◌∙◌}
 use Rattle.std.proofs.lemmas.Result.{err_from_is_err_and}
 use Rattle.toml.specs.View.{table_view}
-use Rattle.service_plan.specs.Moves.{services_after}
+use Rattle.plan.specs.Moves.{services_after}
 use Rattle.service_plan.proofs.KeyLemmas.{first_later}
 use Rattle.service_plan.proofs.ChangeLemmas.{change_is, change_fault_is, change_error}
 use Rattle.service_plan.proofs.changes.read_change.Goals as goal

@@ -7,7 +7,7 @@ loop-item-preserved c =
     let tables = tables_more _ _ _ _ c.loop-item-test.true c.item-item.is c.in-Some.ensures in
     let far = rw tables at c.loop-item.invariant in
     let read = rw c.items.ensures.read at c.in_ok-draft.ensures.read in
-    rw (c.in_ok-push.ensures.written, c.both-spelled.ensures) (one_change_more _ _ _ _ _ _ _ far read.0 read.1)
+    rw (c.in_ok-push.ensures.written) (one_change_more _ _ _ _ _ _ _ far read.0 read.1)
 
 pub returns : goal.returns
 returns c =

@@ -2,7 +2,7 @@ use Rattle.std.proofs.Common.{List, ℕ, refl, ap, ◌∙◌, arith}
 use Rattle.toml.specs.View.{table_view}
 use Rattle.plan.specs.Parts.{services_seen}
 use Rattle.settings_spec.specs.Changes.{place_of_name}
-use Rattle.service_plan.specs.Moves.{services_after}
+use Rattle.plan.specs.Moves.{services_after}
 use Rattle.service_plan.proofs.KeyLemmas.{first_later}
 use Rattle.service_plan.proofs.ChangeLemmas.{move_is, place_after}
 use Rattle.service_plan.proofs.changes.read_moved.Goals as goal

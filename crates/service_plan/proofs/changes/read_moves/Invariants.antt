@@ -1,6 +1,6 @@
 use Rattle.std.proofs.Common.{drop}
 use Rattle.settings_keys.specs.Lists.{views, tables_of}
-use Rattle.service_plan.specs.Moves.{services_after}
+use Rattle.plan.specs.Moves.{services_after}
 use Rattle.service_plan.proofs.ChangeLemmas.{MovesSoFar}
 use Rattle.service_plan.proofs.changes.read_moves.Given as goal
 

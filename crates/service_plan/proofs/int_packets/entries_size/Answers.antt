@@ -2,8 +2,8 @@
 use Rattle.std.proofs.Common.{◌<◌, ◌≤◌, length, arith, sym, subst, Option, List, ℕ}
 use Rattle.plan_spec.specs.Signalling.{entry_of}
 use Rattle.int_table.specs.Views.{HaveSlices}
-use Rattle.service_plan.specs.Moves.{services_after, service_after}
-use Rattle.service_plan.proofs.MoveLemmas.{length-services_after}
+use Rattle.plan.specs.Moves.{services_after, service_after}
+use Rattle.plan.proofs.VersionLemmas.{length-services_after}
 use Rattle.service_plan.proofs.SizeLemmas.{counted_more, counted_all, rules_more, slices_after}
 use Rattle.service_plan.proofs.int_packets.entries_size.Goals as goal
 

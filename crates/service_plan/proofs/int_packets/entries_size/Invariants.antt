@@ -1,6 +1,6 @@
 use Rattle.std.proofs.Common.{◌≡◌, ℕ, ◌+◌, ◌*◌, ◌≤◌, length, drop}
 use Rattle.int_spec.specs.Table.{TableFields}
-use Rattle.service_plan.specs.Moves.{services_after}
+use Rattle.plan.specs.Moves.{services_after}
 use Rattle.service_plan.proofs.SizeLemmas.{entries_length, rule_count}
 use Rattle.service_plan.proofs.int_packets.entries_size.Given as goal
 

@@ -1,9 +1,9 @@
 use Rattle.std.proofs.Common.{take, ap, option_map}
 use Rattle.plan.specs.Parts.{int_seen}
 use Rattle.plan_spec.specs.Changes.{plan_in}
-use Rattle.service_plan.specs.Moves.{services_after}
+use Rattle.plan.specs.Moves.{services_after}
 use Rattle.service_plan.specs.Plans.{draft_seen}
-use Rattle.service_plan.proofs.MoveLemmas.{services_of_version}
+use Rattle.plan.proofs.VersionLemmas.{services_of_version}
 use Rattle.service_plan.proofs.CheckLemmas.{few_rules}
 use Rattle.service_plan.proofs.SizeLemmas.{packets_counted, no_packets}
 use Rattle.service_plan.proofs.int_packets.table_packets.Goals as goal

@@ -20,6 +20,6 @@ returns c =
             c.in_ok-items.ensures.read.1 (filter_of_gse _ _ c.requires.not_fec c.in_ok-filter.ensures.read.1) name.valid
             (between_both _ _ _ isi.within.0 isi.within.1) refl _ _
             (record { all = rw c.in_ok-urgent_items.ensures.read.1 at c.in_ok-urgent.ensures.spelled; only = rw c.in_ok-urgent_items.ensures.read.1 at c.in_ok-urgent.ensures.only })
-            c.both.ensures,
+            refl,
       );
     }

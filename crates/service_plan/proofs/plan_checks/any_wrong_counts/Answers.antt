@@ -1,6 +1,6 @@
 use Rattle.std.proofs.Common.{◌+◌, length, take, sym, ◌∙◌, true, false}
 use Rattle.plan_spec.specs.Checks.{has_wrong_count}
-use Rattle.service_plan.specs.Moves.{services_after}
+use Rattle.plan.specs.Moves.{services_after}
 use Rattle.service_plan.proofs.RangeLemmas.{any_more, any_end}
 use Rattle.service_plan.proofs.plan_checks.any_wrong_counts.Goals as goal
 

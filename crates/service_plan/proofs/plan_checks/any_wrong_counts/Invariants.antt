@@ -1,7 +1,7 @@
 use Rattle.std.proofs.Common.{◌≡◌, ◌+◌, ◌-◌, length, take}
 use Rattle.std.specs.List.{list_any, range_with_len}
 use Rattle.plan_spec.specs.Checks.{has_wrong_count}
-use Rattle.service_plan.specs.Moves.{services_after}
+use Rattle.plan.specs.Moves.{services_after}
 use Rattle.service_plan.proofs.plan_checks.any_wrong_counts.Given as goal
 
 abbrev pub invariant-loop-version : goal.invariant-loop-version

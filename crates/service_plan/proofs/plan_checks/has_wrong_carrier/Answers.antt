@@ -7,7 +7,7 @@ returns-then-is_some c =
     let d = c.args.draft.now in
     let services = c.items-services.ensures.read in
     let gse = rw services at c.are_gse.ensures.read in
-    record { read = frames_checked d.frame_bytes d.table (form_of d.recording) d.services _ _ _ _ c.if-is_some.ensures c.any_of.ensures gse c.is_some-then-is_some.ensures c.is_plain.ensures.read }
+    record { read = frames_checked d.frame_bytes d.table (form_of d.recording) d.services _ _ _ c.if-is_some.ensures gse c.is_some-then-is_some.ensures c.is_plain.ensures.read }
 
 pub returns : goal.returns
 returns c =

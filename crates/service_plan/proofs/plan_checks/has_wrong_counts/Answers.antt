@@ -1,7 +1,7 @@
 use Rattle.std.proofs.Common.{◌<◌, ◌≤◌, length, ap, sym, ◌∙◌, arith, List}
 use Rattle.addr_rules.specs.declared.rules.Rule.{Rule}
-use Rattle.service_plan.specs.Moves.{services_after}
-use Rattle.service_plan.proofs.MoveLemmas.{length-services_after}
+use Rattle.plan.specs.Moves.{services_after}
+use Rattle.plan.proofs.VersionLemmas.{length-services_after}
 use Rattle.service_plan.proofs.CheckLemmas.{count_wrong, count_right, count_above, count_end}
 use Rattle.service_plan.proofs.plan_checks.has_wrong_counts.Goals as goal
 

@@ -1,6 +1,6 @@
 use Rattle.std.proofs.Common.{◌≡◌, ◌≤◌, ◌||◌, drop}
 use Rattle.plan_spec.specs.Checks.{has_no_rule, has_wrong_count}
-use Rattle.service_plan.specs.Moves.{services_after}
+use Rattle.plan.specs.Moves.{services_after}
 use Rattle.service_plan.proofs.CheckLemmas.{rules_of, passes_most}
 use Rattle.service_plan.proofs.plan_checks.has_wrong_counts.Given as goal
 

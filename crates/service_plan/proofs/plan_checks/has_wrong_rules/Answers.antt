@@ -7,4 +7,4 @@ pub returns : goal.returns
 returns c =
     let draft = c.args.draft.now in
     let wrong = rw (c.items.ensures.read, c.items-2.ensures.read) at c.any_wrong_counts-wrong.ensures in
-    record { read = c.either.ensures ∙ ap (λ (b : Bool). not draft.spelled || b) (wrong ∙ sym (rules_are (draft_seen draft) draft.services draft.changes refl refl)) }
+    record { read = ap (λ (b : Bool). not draft.spelled || b) (wrong ∙ sym (rules_are (draft_seen draft) draft.services draft.changes refl refl)) }

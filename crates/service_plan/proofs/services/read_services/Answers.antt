@@ -10,7 +10,7 @@ loop-item-preserved c =
     let tables = tables_more _ _ _ _ c.loop-item-test.true c.item-item.is c.in-Some.ensures in
     let far = rw tables at c.loop-item.invariant in
     let service = rw c.len-place.ensures.read at c.in_ok-draft.ensures.read.1 in
-    rw (c.in_ok-push.ensures.written, c.both-spelled.ensures) (one_service_more _ _ _ _ _ _ far c.in_ok-draft.ensures.read.0 service)
+    rw (c.in_ok-push.ensures.written) (one_service_more _ _ _ _ _ _ far c.in_ok-draft.ensures.read.0 service)
 
 pub returns : goal.returns
 returns c =

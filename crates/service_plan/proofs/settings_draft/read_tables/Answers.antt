@@ -1,4 +1,4 @@
-use Rattle.std.proofs.Common.{◌≡◌, None, subst, codes, arith}
+use Rattle.std.proofs.Common.{◌≡◌, None, refl, subst, codes, arith}
 use Rattle.toml.specs.Data.{Members}
 use Rattle.toml.specs.View.{table_view}
 use Rattle.settings_spec.specs.Keys.{KeyRule, key_fault, table_at, tables_at}
@@ -35,6 +35,6 @@ returns c =
         first_later _ _ _ c.in_ok-refuse_unknown.ensures.read.0 (first_later _ _ _ values.0 (first_later _ _ _ c.in_ok-int.ensures.read.0
             (first_later _ _ _ listed (first_later _ _ _ int_right (first_later _ _ _ services_right (first_later _ _ _ change_list.0 changes_right)))))),
         draft_is m _ _ _ _ _ _ values.1 c.frame_size.ensures (rw c.in_ok-int.ensures.read.1 at table.1.0) (rw items.read.1 at services.1) (rw change_list.1 at changed.1)
-            (omega (arith, services.1.count, few)) c.both.ensures,
+            (omega (arith, services.1.count, few)) refl,
       );
     }

@@ -9,4 +9,4 @@ returns c =
     let int = rw services at c.has_int_pid.ensures.read in
     let pids = rw services at c.has_pair_of_ids.ensures.read in
     let isis = rw services at c.has_pair_of_ids-2.ensures.read in
-    record { read = pid_checked (option_map int_seen c.args.draft.now.table) c.args.draft.now.services _ _ _ _ c.any_of.ensures int pids isis }
+    record { read = pid_checked (option_map int_seen c.args.draft.now.table) c.args.draft.now.services _ _ _ int pids isis }

@@ -7,4 +7,4 @@ returns c =
     let services = c.items-services.ensures.read in
     let wrong = rw services at c.has_wrong.ensures.read in
     let overlap = rw services at c.has_overlap.ensures.read in
-    record { read = window_checked c.args.table_packets (draft_seen c.args.draft.now) c.args.draft.now.services _ _ _ c.any_of.ensures wrong overlap }
+    record { read = window_checked c.args.table_packets (draft_seen c.args.draft.now) c.args.draft.now.services _ _ wrong overlap }

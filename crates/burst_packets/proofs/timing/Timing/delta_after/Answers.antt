@@ -25,7 +25,7 @@ overflow_cast-saturating_sub c =
 pub delta-requires-clause-near : goal.delta-requires-clause-near
 delta-requires-clause-near c =
     let timing : Timing = c.args.self.now in
-    so c.saturating_sub.result (ten (form_of timing.recording)) c.from-ten.result (c.from-ten.ensures ∙ c.ten_in.ensures)
+    so c.saturating_sub.result (ten (form_of timing.recording)) c.from-ten.result (c.from-ten.ensures ∙ c.ten_milliseconds.ensures.read)
     (below timing c.args.cycle c.args.packet c.from.result c.from-2.result c.moment-now.result c.moment-next.result c.saturating_sub.result
     c.from.ensures c.from-2.ensures c.moment-now.ensures.read c.moment-next.ensures.read c.saturating_sub.ensures
     (c.windows_leave_gaps.ensures.most (from_stream timing) (sliceable_so timing c.requires.sliceable) c.args.cycle c.args.packet))
@@ -41,4 +41,4 @@ returns-clause-read c =
     (none_before c.saturating_sub.result
     ∙ between_is timing c.args.cycle c.args.packet c.from.result c.from-2.result c.moment-now.result c.moment-next.result c.saturating_sub.result
     c.from.ensures c.from-2.ensures c.moment-now.ensures.read c.moment-next.ensures.read c.saturating_sub.ensures)
-    (c.from-ten.ensures ∙ c.ten_in.ensures)
+    (c.from-ten.ensures ∙ c.ten_milliseconds.ensures.read)
