@@ -1,8 +1,9 @@
 -- The datagrams that a recording of baseband frames delivers: of each service of a plan, and of all services in the order of the frames
 -- that give them. Each service has the frames of its own ISI.
-use Rattle.std.specs.Prelude.{ℕ, ◌+◌, List, [], ◌∷◌, ◌++◌, take, drop, length, map, flat_map, slice_index_or, Option, Some, None}
+use Rattle.std.specs.Prelude.{ℕ, ◌+◌, List, [], ◌∷◌, ◌++◌, take, drop, length, flat_map, slice_index_or, Option, Some, None}
 use Rattle.std.specs.List.{range_with_len}
 use Rattle.plan_spec.specs.Plan.{ServiceFields, PlanFields, isi_of}
+use Rattle.outlet_spec.specs.Pairs.{pairs_of_all}
 use Rattle.plan_spec.specs.Changes.{no_service}
 use Rattle.gse_spec.specs.Received.{carried_by_pdu, delivered_by_gse}
 
@@ -32,12 +33,9 @@ abbrev pub given_by_frame : PlanFields → ℕ → List (List ℕ) → ℕ → L
 given_by_frame plan k frames place =
     drop (length (delivered_of plan k (take place frames))) (delivered_of plan k (take (place + 1) frames))
 
--- pairs of service and datagram, by service, and of one service in order
-abbrev pub pairs_of : PlanFields → (ℕ → List (List ℕ)) → List (ℕ × List ℕ)
-pairs_of plan datagrams = flat_map (λ k. map (λ datagram. (k, datagram)) (datagrams k)) (range_with_len 0 (length plan.services))
-
+-- the pairs of service and datagram that it gives
 abbrev pub pairs_of_frame : PlanFields → List (List ℕ) → ℕ → List (ℕ × List ℕ)
-pairs_of_frame plan frames place = pairs_of plan (λ k. given_by_frame plan k frames place)
+pairs_of_frame plan frames place = pairs_of_all (length plan.services) (λ k. given_by_frame plan k frames place)
 
 -- the pairs of a recording, one frame after another
 abbrev pub delivered_pairs : PlanFields → List (List ℕ) → List (ℕ × List ℕ)

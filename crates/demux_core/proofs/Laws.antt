@@ -4,11 +4,12 @@ use Rattle.ts_spec.specs.Recording.{Record}
 use Rattle.plan_spec.specs.Plan.{IntFields, PlanFields, pid_of}
 use Rattle.plan_spec.specs.Changes.{no_service, plan_in, pid_in, has_wrong_change}
 use Rattle.plan_spec.specs.InForce.{version_behind}
+use Rattle.outlet_spec.specs.Pairs.{pairs_of_all}
 use Rattle.reception_spec.specs.Packets.{is_on, is_other}
 use Rattle.reception_spec.specs.Table.{table_sections}
 use Rattle.reception_spec.specs.Spans.{version_at_end, span_of}
 use Rattle.reception_spec.specs.Frames.{rows_of, sum_of_frames}
-use Rattle.reception_spec.specs.Delivered.{service_on, pairs_of, pairs_of_record, pairs_of_end}
+use Rattle.reception_spec.specs.Delivered.{service_on, pairs_of_record, pairs_of_end}
 use Rattle.reception_spec.specs.Sums.{others_from, sum_of_numbers, numbers_on, numbers_of, unit_numbers_of, frame_numbers_on, frame_numbers_of, told_frame_numbers}
 use Rattle.reception_law.specs.Words.{added_on}
 use Rattle.reception_law.specs.InForce.{pid_in_force, closed_by_record, closed_at_end, IsBlank}
@@ -81,8 +82,8 @@ pub record Laws (plan : PlanFields) : Type 0 where
       → ((k : ℕ) → k < length plan.services → pid_in_force plan k (records ++ r ∷ []) ≡ pid_in_force plan k records)
       → pairs_of_record plan (records ++ r ∷ []) (length records) ≡ []
   pub pairs_int : (int : IntFields) (records : List Record) (r : Record) → plan.table ≡ Some int → is_on int.pid r ≡ true
-      → pairs_of_record plan (records ++ r ∷ []) (length records) ≡ pairs_of plan (λ k. closed_by_record plan k records r)
-  pub pairs_end : (records : List Record) → pairs_of_end plan records ≡ pairs_of plan (λ k. closed_at_end plan k records)
+      → pairs_of_record plan (records ++ r ∷ []) (length records) ≡ pairs_of_all (length plan.services) (λ k. closed_by_record plan k records r)
+  pub pairs_end : (records : List Record) → pairs_of_end plan records ≡ pairs_of_all (length plan.services) (λ k. closed_at_end plan k records)
 
 pub laws_of : (plan : PlanFields) → has_wrong_change plan ≡ false → Laws plan
 laws_of plan right = record {

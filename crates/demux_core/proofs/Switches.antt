@@ -5,9 +5,10 @@ use Rattle.std.specs.List.{range_with_len}
 use Rattle.ts_spec.specs.Recording.{Record}
 use Rattle.plan_spec.specs.Plan.{IntFields, PlanFields}
 use Rattle.plan_spec.specs.Changes.{has_pid}
+use Rattle.outlet_spec.specs.Pairs.{pairs_of_all}
 use Rattle.reception_spec.specs.Packets.{is_on}
 use Rattle.reception_spec.specs.Spans.{version_at_end}
-use Rattle.reception_spec.specs.Delivered.{pairs_of, pairs_of_record, pairs_of_end}
+use Rattle.reception_spec.specs.Delivered.{pairs_of_record, pairs_of_end}
 use Rattle.reception_law.specs.Words.{closed_on}
 use Rattle.reception_law.specs.InForce.{pid_in_force, closed_by_move, closed_by_record_on, closed_by_record, closed_at_end_on, closed_at_end}
 use Rattle.reception_law.proofs.WhatIsTold.{closed_stays}
@@ -21,7 +22,7 @@ same_from f g from zero same = refl
 same_from f g from (suc count) same =
     ap₂ (λ x y. x ++ y) (same from (omega arith)) (same_from f g (from + 1) count (λ k less. same k (omega (arith, less))))
 
-pub same_pairs : (plan : PlanFields) (f g : ℕ → List (List ℕ)) → ((k : ℕ) → k < length plan.services → f k ≡ g k) → pairs_of plan f ≡ pairs_of plan g
+pub same_pairs : (plan : PlanFields) (f g : ℕ → List (List ℕ)) → ((k : ℕ) → k < length plan.services → f k ≡ g k) → pairs_of_all (length plan.services) f ≡ pairs_of_all (length plan.services) g
 same_pairs plan f g same =
     same_from (λ k. map (λ datagram. (k, datagram)) (f k)) (λ k. map (λ datagram. (k, datagram)) (g k)) 0 (length plan.services)
     (λ k less. ap (map (λ datagram. (k, datagram))) (same k (omega (arith, less))))
@@ -52,13 +53,13 @@ module _ (plan : PlanFields) (laws : Laws plan) (records : List Record) (r : Rec
 
   pub switch_pairs : (int : IntFields) → plan.table ≡ Some int → is_on int.pid r ≡ true
       → ((k pid : ℕ) → k < length plan.services → pid_in_force plan k records ≡ Some pid → is_on pid r ≡ false)
-      → pairs_of_record plan after (length records) ≡ pairs_of plan (closed_by_switch plan (version_at_end plan records) (version_at_end plan after) records)
+      → pairs_of_record plan after (length records) ≡ pairs_of_all (length plan.services) (closed_by_switch plan (version_at_end plan records) (version_at_end plan after) records)
   switch_pairs int is own off =
       laws.pairs_int int records r is own
       ∙ same_pairs plan (λ k. closed_by_record plan k records r) (closed_by_switch plan (version_at_end plan records) (version_at_end plan after) records)
       (λ k less. closed_is k (λ pid in_force. off k pid less in_force))
 
-pub end_pairs : (plan : PlanFields) (laws : Laws plan) (records : List Record) → pairs_of_end plan records ≡ pairs_of plan (closed_at plan (version_at_end plan records) records)
+pub end_pairs : (plan : PlanFields) (laws : Laws plan) (records : List Record) → pairs_of_end plan records ≡ pairs_of_all (length plan.services) (closed_at plan (version_at_end plan records) records)
 end_pairs plan laws records =
     laws.pairs_end records
     ∙ same_pairs plan (λ k. closed_at_end plan k records) (closed_at plan (version_at_end plan records) records) (λ k less. same k (pid_in_force plan k records))

@@ -20,10 +20,9 @@ use Rattle.reception_spec.specs.Table.{is_int_section, table_pid, table_sections
 use Rattle.reception_spec.specs.Shown.{says_version, table_section}
 use Rattle.reception_spec.specs.Spans.{version_at_end, span_of}
 use Rattle.reception_spec.specs.Delivered.{service_on, pairs_of_record}
-use Rattle.reception_spec.specs.Delivered as delivered
 use Rattle.reception_law.specs.Words.{added_by}
 use Rattle.reception_law.specs.InForce.{pid_in_force}
-use Rattle.outlet_spec.specs.Pairs.{pairs_of}
+use Rattle.outlet_spec.specs.Pairs.{pairs_of, pairs_of_all}
 use Rattle.service_reception.specs.Table.{shown_among}
 use Rattle.service_reception.proofs.Fronts.{table_stays}
 use Rattle.demux_core.specs.Moving.{AllFollow, closed_by_switch}
@@ -246,17 +245,17 @@ module _ (plan : PlanFields) (laws : Laws plan) (receivers : List ServiceReceive
 
       -- what is closed by the switch
       pub int_gives : is_on pid r ≡ true → (version : ℕ) → version ≡ version_of_table new
-          → pairs_of_record plan after (length records) ≡ delivered.pairs_of plan (closed_by_switch plan now version records)
+          → pairs_of_record plan after (length records) ≡ pairs_of_all (length plan.services) (closed_by_switch plan now version records)
       int_gives on version is_version = by_int plan.table refl table all.int own
         where
           by_int : (int : Option IntFields) → plan.table ≡ int → (t : Option IntReceiver) → HasReceivedBy plan int t records → is_table_pid t pid ≡ true
-              → pairs_of_record plan after (length records) ≡ delivered.pairs_of plan (closed_by_switch plan now version records)
+              → pairs_of_record plan after (length records) ≡ pairs_of_all (length plan.services) (closed_by_switch plan now version records)
           by_int None is None has mine = absurd (cc)
           by_int None is (Some t) has mine = absurd has
           by_int (Some int) is None has mine = absurd has
           by_int (Some int) is (Some t) has mine =
               switch_pairs plan laws records r int is (ap (λ (p : ℕ). is_on p r) (has.0 ∙ eqb-true t.pid pid mine) ∙ on) (off_services (misses_int own))
-              ∙ ap (λ (v : ℕ). delivered.pairs_of plan (closed_by_switch plan now v records)) (sym (version_is plan laws new after took) ∙ sym is_version)
+              ∙ ap (λ (v : ℕ). pairs_of_all (length plan.services) (closed_by_switch plan now v records)) (sym (version_is plan laws new after took) ∙ sym is_version)
 
       pub int_switched : length records < 2 ^ 32 → length plan.changes ≤ 31 → (news : List ServiceReceiver) → length news ≡ length receivers
           → AllFollow plan (version_of_table new) receivers news → HaveAllReceived false plan news new after

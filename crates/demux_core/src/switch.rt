@@ -6,10 +6,9 @@ ghost use Rattle.ts_spec.specs.Recording.{RecordingForm, Record};
 ghost use Rattle.plan_spec.specs.Plan.{ServiceFields};
 ghost use Rattle.plan_spec.specs.Changes.{pid_in as pid_in_version};
 ghost use Rattle.plan.specs.PlanView.{plan_fields};
-ghost use Rattle.reception_spec.specs.Delivered.{pairs_of};
 ghost use Rattle.reception_law.specs.Words.{closed_by};
 ghost use Rattle.outlet_spec.specs.Going.{DeliversAfter, GoesOn};
-ghost use Rattle.outlet_spec.specs.Pairs.{Delivers, DeliversFront};
+ghost use Rattle.outlet_spec.specs.Pairs.{pairs_of_all, Delivers, DeliversFront};
 ghost use Rattle.demux_core.specs.Services.{IsEndingOne, HaveReceived};
 ghost use Rattle.demux_core.specs.Moving.{Follows, AllFollow, where_left, closed_by_switch, closed_at};
 ghost use Rattle.demux_core.specs.Places.{AreFound};
@@ -68,9 +67,9 @@ pub(crate) fn move_services<T: Outlet>(
     requires found { AreFound services.old }
     ensures followed { AllFollow (plan_fields plan.now) version services.old.receivers.items services.new.receivers.items }
     ensures delivered { (was : ℕ) (records : List Record) → length records ≤ 2 ^ 32 → HaveReceived false (plan_fields plan.now) was services.old.receivers.items records
-        → OnOk result (Delivers (T.StandsFor outlet.old) (T.StandsFor outlet.new) (pairs_of (plan_fields plan.now) (closed_by_switch (plan_fields plan.now) was version records))) }
+        → OnOk result (Delivers (T.StandsFor outlet.old) (T.StandsFor outlet.new) (pairs_of_all (length (plan_fields plan.now).services) (closed_by_switch (plan_fields plan.now) was version records))) }
     ensures failed { (was : ℕ) (records : List Record) → length records ≤ 2 ^ 32 → HaveReceived false (plan_fields plan.now) was services.old.receivers.items records
-        → OnErr result (DeliversFront (T.StandsFor outlet.old) (T.StandsFor outlet.new) (T.Refused outlet.new) (pairs_of (plan_fields plan.now) (closed_by_switch (plan_fields plan.now) was version records))) }
+        → OnErr result (DeliversFront (T.StandsFor outlet.old) (T.StandsFor outlet.new) (T.Refused outlet.new) (pairs_of_all (length (plan_fields plan.now).services) (closed_by_switch (plan_fields plan.now) was version records))) }
     ensures count { length services.new.receivers.items ≡ length services.old.receivers.items }
     ensures found { AreFound services.new }
     ensures services { T.services outlet.new ≡ T.services outlet.old }
@@ -109,9 +108,9 @@ pub(crate) fn close_services<T: Outlet>(
     ensures ended { (version : ℕ) (records : List Record) → length records ≤ 2 ^ 32 → HaveReceived false (plan_fields plan.now) version services.old.receivers.items records
         → HaveReceived true (plan_fields plan.now) version services.new.receivers.items records }
     ensures delivered { (version : ℕ) (records : List Record) → length records ≤ 2 ^ 32 → HaveReceived false (plan_fields plan.now) version services.old.receivers.items records
-        → OnOk result (Delivers (T.StandsFor outlet.old) (T.StandsFor outlet.new) (pairs_of (plan_fields plan.now) (closed_at (plan_fields plan.now) version records))) }
+        → OnOk result (Delivers (T.StandsFor outlet.old) (T.StandsFor outlet.new) (pairs_of_all (length (plan_fields plan.now).services) (closed_at (plan_fields plan.now) version records))) }
     ensures failed { (version : ℕ) (records : List Record) → length records ≤ 2 ^ 32 → HaveReceived false (plan_fields plan.now) version services.old.receivers.items records
-        → OnErr result (DeliversFront (T.StandsFor outlet.old) (T.StandsFor outlet.new) (T.Refused outlet.new) (pairs_of (plan_fields plan.now) (closed_at (plan_fields plan.now) version records))) }
+        → OnErr result (DeliversFront (T.StandsFor outlet.old) (T.StandsFor outlet.new) (T.Refused outlet.new) (pairs_of_all (length (plan_fields plan.now).services) (closed_at (plan_fields plan.now) version records))) }
     ensures count { length services.new.receivers.items ≡ length services.old.receivers.items }
     ensures found { AreFound services.new }
     ensures services { T.services outlet.new ≡ T.services outlet.old }

@@ -1,9 +1,14 @@
 -- What an outlet was told: pairs of service and datagram. An outlet stands for lists of them, before some calls and after them.
 use Rattle.std.specs.Prelude.{◌≡◌, ℕ, List, [], ◌∷◌, ◌++◌, ◌==◌, map, flat_map, if◌then◌else◌}
+use Rattle.std.specs.List.{range_with_len}
 
 -- the datagrams of a service, as pairs of service and datagram
 abbrev pub pairs_of : ℕ → List (List ℕ) → List (ℕ × List ℕ)
 pairs_of service datagrams = map (λ datagram. (service, datagram)) datagrams
+
+-- those of so many services, one service after another
+abbrev pub pairs_of_all : ℕ → (ℕ → List (List ℕ)) → List (ℕ × List ℕ)
+pairs_of_all services datagrams = flat_map (λ k. pairs_of k (datagrams k)) (range_with_len 0 services)
 
 -- the datagram of a pair, where it is one of this service
 abbrev pub datagram_of : ℕ → ℕ × List ℕ → List (List ℕ)

@@ -11,8 +11,8 @@ use Rattle.plan_spec.specs.Plan.{IntFields, PlanFields}
 use Rattle.plan_spec.specs.Changes.{pid_in, has_wrong_change}
 use Rattle.reception_spec.specs.Packets.{is_on}
 use Rattle.reception_spec.specs.Spans.{version_at_end}
-use Rattle.reception_spec.specs.Delivered.{told_of, delivered_of, given_by_record, given_by_end, pairs_of, pairs_of_record, pairs_of_end, told_pairs, delivered_pairs}
-use Rattle.outlet_spec.specs.Pairs.{datagram_of, datagrams_of}
+use Rattle.reception_spec.specs.Delivered.{told_of, delivered_of, given_by_record, given_by_end, pairs_of_record, pairs_of_end, told_pairs, delivered_pairs}
+use Rattle.outlet_spec.specs.Pairs.{pairs_of_all, datagram_of, datagrams_of}
 use Rattle.reception_law.specs.Words.{added_on}
 use Rattle.reception_law.specs.InForce.{pid_in_force, closed_by_record_on, closed_by_record, closed_at_end_on, closed_at_end}
 use Rattle.reception_law.proofs.VersionInForce.{most, without_table, version_stays}
@@ -74,7 +74,7 @@ closed_is plan records k right = by_force (pid_in_force plan k records) refl
     by_force None none = end_without_pid plan k records none
     by_force (Some pid) on = end_on plan k pid records right on
 
-pub end_closes : (plan : PlanFields) (records : List Record) → has_wrong_change plan ≡ false → pairs_of_end plan records ≡ pairs_of plan (λ k. closed_at_end plan k records)
+pub end_closes : (plan : PlanFields) (records : List Record) → has_wrong_change plan ≡ false → pairs_of_end plan records ≡ pairs_of_all (length plan.services) (λ k. closed_at_end plan k records)
 end_closes plan records right =
     same_below (pairs_with (λ k. given_by_end plan k records)) (pairs_with (λ k. closed_at_end plan k records)) 0 (length plan.services)
     (λ k below. ap (map (λ datagram. (k, datagram))) (closed_is plan records k right))
@@ -266,7 +266,7 @@ int_gives plan int k records r right is on known = by_force (pid_in_force plan k
         (other_way int.pid pid (table_apart plan int right (version_at_end plan records) k pid (most plan records (length records)) known is in_force)))
 
 pub int_closes : (plan : PlanFields) (int : IntFields) (records : List Record) (r : Record) → has_wrong_change plan ≡ false → plan.table ≡ Some int → is_on int.pid r ≡ true
-    → pairs_of_record plan (records ++ r ∷ []) (length records) ≡ pairs_of plan (λ k. closed_by_record plan k records r)
+    → pairs_of_record plan (records ++ r ∷ []) (length records) ≡ pairs_of_all (length plan.services) (λ k. closed_by_record plan k records r)
 int_closes plan int records r right is on =
     same_below (pairs_with (λ k. given_by_record plan k (records ++ r ∷ []) (length records))) (pairs_with (λ k. closed_by_record plan k records r)) 0 (length plan.services)
     (λ k below. ap (map (λ datagram. (k, datagram))) (int_gives plan int k records r right is on (omega (arith, below))))

@@ -4,8 +4,8 @@ ghost use Rattle.ts_spec.specs.Recording.{Record};
 ghost use Rattle.plan_spec.specs.Plan.{IntFields, PlanFields};
 ghost use Rattle.plan_spec.specs.Changes.{has_wrong_change};
 ghost use Rattle.reception_spec.specs.Packets.{is_on};
-ghost use Rattle.reception_spec.specs.Delivered.{told_of, delivered_of, given_by_record, given_by_end, pairs_of, pairs_of_record, pairs_of_end, told_pairs, delivered_pairs};
-ghost use Rattle.outlet_spec.specs.Pairs.{datagrams_of};
+ghost use Rattle.reception_spec.specs.Delivered.{told_of, delivered_of, given_by_record, given_by_end, pairs_of_record, pairs_of_end, told_pairs, delivered_pairs};
+ghost use Rattle.outlet_spec.specs.Pairs.{pairs_of_all, datagrams_of};
 ghost use Rattle.reception_law.specs.Words.{added_on};
 ghost use Rattle.reception_law.specs.InForce.{pid_in_force, closed_by_record, closed_at_end};
 
@@ -17,7 +17,7 @@ pub fn pairs_come_record_by_record()
     ensures more { (plan : PlanFields) (records : List Record) (r : Record)
         → told_pairs plan (records ++ r ∷ []) ≡ told_pairs plan records ++ pairs_of_record plan (records ++ r ∷ []) (length records) }
     ensures end { (plan : PlanFields) (records : List Record) → has_wrong_change plan ≡ false
-        → pairs_of_end plan records ≡ pairs_of plan (λ k. closed_at_end plan k records) }
+        → pairs_of_end plan records ≡ pairs_of_all (length plan.services) (λ k. closed_at_end plan k records) }
     ensures all { (plan : PlanFields) (records : List Record) → delivered_pairs plan records ≡ told_pairs plan records ++ pairs_of_end plan records }
 {}
 
@@ -39,7 +39,7 @@ pub fn a_packet_gives_pairs_of_its_service()
 /// A packet of the INT gives, of each service that it moves to another PID, what the frame under way on the PID that it leaves does.
 pub fn a_packet_of_the_int_gives_what_it_closes()
     ensures closed { (plan : PlanFields) (int : IntFields) (records : List Record) (r : Record) → has_wrong_change plan ≡ false → plan.table ≡ Some int → is_on int.pid r ≡ true
-        → pairs_of_record plan (records ++ r ∷ []) (length records) ≡ pairs_of plan (λ k. closed_by_record plan k records r) }
+        → pairs_of_record plan (records ++ r ∷ []) (length records) ≡ pairs_of_all (length plan.services) (λ k. closed_by_record plan k records r) }
 {}
 
 // Service by service.

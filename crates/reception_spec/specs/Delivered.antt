@@ -1,9 +1,10 @@
 -- The datagrams that a recording delivers: of each service, span by span, and of all services in the order of the records that give them.
-use Rattle.std.specs.Prelude.{ℕ, ◌+◌, Bool, true, not, List, ◌++◌, take, drop, length, map, flat_map, slice_index_or}
+use Rattle.std.specs.Prelude.{ℕ, ◌+◌, Bool, true, not, List, ◌++◌, take, drop, length, flat_map, slice_index_or}
 use Rattle.std.specs.List.{range_with_len}
 use Rattle.ts_spec.specs.Recording.{RecordingForm, Record}
 use Rattle.plan_spec.specs.Plan.{ServiceFields, PlanFields}
 use Rattle.fec_frame_spec.specs.Delivered.{datagrams_of_frames}
+use Rattle.outlet_spec.specs.Pairs.{pairs_of_all}
 use Rattle.plan_spec.specs.Changes.{on_pid, no_service, pid_in, pids_in, has_pid}
 use Rattle.reception_spec.specs.Units.{delivered_by_unit}
 use Rattle.reception_spec.specs.Numbers.{units_of}
@@ -54,17 +55,13 @@ given_by_record plan k records place = drop (length (told_of plan k (take place 
 abbrev pub given_by_end : PlanFields → ℕ → List Record → List (List ℕ)
 given_by_end plan k records = drop (length (told_of plan k records)) (delivered_of plan k records)
 
--- pairs of service and datagram, by service, and of one service in order
-abbrev pub pairs_of : PlanFields → (ℕ → List (List ℕ)) → List (ℕ × List ℕ)
-pairs_of plan datagrams = flat_map (λ k. map (λ datagram. (k, datagram)) (datagrams k)) (range_with_len 0 (length plan.services))
-
 -- the pairs that the record at a place gives
 abbrev pub pairs_of_record : PlanFields → List Record → ℕ → List (ℕ × List ℕ)
-pairs_of_record plan records place = pairs_of plan (λ k. given_by_record plan k records place)
+pairs_of_record plan records place = pairs_of_all (length plan.services) (λ k. given_by_record plan k records place)
 
 -- the pairs that the end gives
 abbrev pub pairs_of_end : PlanFields → List Record → List (ℕ × List ℕ)
-pairs_of_end plan records = pairs_of plan (λ k. given_by_end plan k records)
+pairs_of_end plan records = pairs_of_all (length plan.services) (λ k. given_by_end plan k records)
 
 -- the pairs of the records, one record after another, and with those of the end
 abbrev pub told_pairs : PlanFields → List Record → List (ℕ × List ℕ)

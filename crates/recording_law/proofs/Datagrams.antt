@@ -19,11 +19,12 @@ use Rattle.fec_frame_spec.specs.Delivered.{frame_datagrams, datagrams_of_frames}
 use Rattle.plan_spec.specs.Plan.{KindFields, ule, mpe, fec, gse, ServiceFields, PlanFields, isi_of}
 use Rattle.plan_spec.specs.Changes.{pids_in}
 use Rattle.stream_spec.specs.Services.{carried_by_unit}
+use Rattle.outlet_spec.specs.Pairs.{pairs_of_all}
 use Rattle.reception_spec.specs.Units.{wants_unit, delivered_by_unit}
 use Rattle.reception_spec.specs.Numbers.{units_of}
 use Rattle.reception_spec.specs.Frames.{told_frames, rows_of}
 use Rattle.reception_spec.specs.Spans.{span_of}
-use Rattle.reception_spec.specs.Delivered.{delivered_datagrams, told_by, service_on, takes_no_more, told_on, told_of, delivered_on, delivered_of, given_by_record, given_by_end, pairs_of, pairs_of_record}
+use Rattle.reception_spec.specs.Delivered.{delivered_datagrams, told_by, service_on, takes_no_more, told_on, told_of, delivered_on, delivered_of, given_by_record, given_by_end, pairs_of_record}
 use Rattle.addr_rules.specs.Filter.{is_wanted}
 use Rattle.gse_spec.specs.Reassembly.{Pdu, PlacedPdu}
 use Rattle.gse_spec.specs.Received.{carried_by_pdu, delivered_by_pdu, received_pdus}
@@ -148,7 +149,7 @@ HoldDatagrams pairs = All (λ (pair : ℕ × List ℕ). IsDatagram pair.1) pairs
 of_service : (k : ℕ) (datagrams : List (List ℕ)) → All IsDatagram datagrams → HoldDatagrams (map (λ datagram. (k, datagram)) datagrams)
 of_service k datagrams all = All-map (λ (pair : ℕ × List ℕ). IsDatagram pair.1) (λ (datagram : List ℕ). (k, datagram)) datagrams all
 
-of_all : (plan : PlanFields) (datagrams : ℕ → List (List ℕ)) → ((k : ℕ) → All IsDatagram (datagrams k)) → HoldDatagrams (pairs_of plan datagrams)
+of_all : (plan : PlanFields) (datagrams : ℕ → List (List ℕ)) → ((k : ℕ) → All IsDatagram (datagrams k)) → HoldDatagrams (pairs_of_all (length plan.services) datagrams)
 of_all plan datagrams each =
     all_flat (λ (pair : ℕ × List ℕ). IsDatagram pair.1) (λ k. map (λ datagram. (k, datagram)) (datagrams k)) (range_with_len 0 (length plan.services))
     (λ k. of_service k (datagrams k) (each k))
