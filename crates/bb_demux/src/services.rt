@@ -9,16 +9,10 @@ ghost use Rattle.bb_demux.specs.Receiving.{IsOn};
 ghost use Rattle.bb_demux.specs.Finding.{AreFresh, is_on_isi};
 
 use bumpalo::Bump;
-use gse_reassembly::Slot;
+use gse_reassembly::{FRAG_IDS, ROOM, Slot};
 use gse_reception::GseReception;
 use ipe_io::OutOfMemory;
 use plan::{Kind, ServiceList};
-
-/// The bytes of the PDUs under way of one service: 65,540 for each of 256 Frag IDs.
-const ROOM: usize = 16_778_240;
-
-/// How many Frag IDs there are (TS 102 606-1 clause 4.2).
-const FRAG_IDS: usize = 256;
 
 /// The receiver of one service. Its buffers lie in the arena.
 #[derive(Drop)]

@@ -8,4 +8,4 @@ mod laws;
 mod slots;
 
 pub use laws::slots_stand_for_packets;
-pub use slots::{Outcome, Part, Slot, Slots};
+pub use slots::{FRAG_IDS, Outcome, Part, ROOM, Slot, Slots};

@@ -10,6 +10,12 @@ use std::marker::Model;
 /// The bytes of the buffer that each Frag ID has: Total Length counts at most 65,535.
 const SIZE: usize = 65_540;
 
+/// How many Frag IDs there are, and so slots (TS 102 606-1 clause 4.2.1).
+pub const FRAG_IDS: usize = 256;
+
+/// The bytes of the buffer: 65,540 for each Frag ID.
+pub const ROOM: usize = 16_778_240;
+
 /// The bytes of Protocol Type, which Total Length counts.
 const PROTOCOL: usize = 2;
 

@@ -12,7 +12,7 @@ ghost use Rattle.unbridge_command.specs.Unbridging.{Unbridges, AddsBridge, bridg
 use crate::writing::write_frames;
 use bridge_frame::Bridge;
 use capture_files::{ReceiveFault, add_file};
-use gse_reassembly::Slot;
+use gse_reassembly::{FRAG_IDS, ROOM, Slot};
 use ipe_io::{AddFault, Failed, OutOfMemory, Rack, Recording, Source};
 use pcap_file::write_ethernet_head;
 use recording_reader::{FramePieces, PacketPieces, Pieces};
@@ -24,12 +24,6 @@ const NAME: &str = "bridge";
 
 /// The longest SNDU (RFC 4326 section 4.2).
 const SNDU: usize = 32_771;
-
-/// Frag IDs, and so slots (TS 102 606-1 clause 4.2.1).
-const SLOTS: usize = 256;
-
-/// Room for the PDU of each slot: 65,540 bytes.
-const PDUS: usize = 16_778_240;
 
 /// Bytes of a baseband frame. Profile: no other size.
 const FRAME: u16 = 2_000;
@@ -65,8 +59,8 @@ pub fn unbridge_pdus<I: Source, R: Rack>(
 ) -> Result<(), ReceiveFault>
     ensures unbridges { Unbridges result (on_isi isi) (I.told input.old) (I.told input.new) (R.told rack.old) (R.told rack.new) (input.new ≡ input.old) }
 {
-    let buffer = zeros(alloc, PDUS)?;
-    let slots = empty_slots(alloc, SLOTS)?;
+    let buffer = zeros(alloc, ROOM)?;
+    let slots = empty_slots(alloc, FRAG_IDS)?;
     let mut bridge = Bridge::over(buffer, slots, false);
     bridge.select(u16::from(isi));
     let place = zeros(alloc, usize::from(FRAME))?;
