@@ -16,11 +16,10 @@ use byte_slices::zeros;
 use fec_frame::padding_of;
 use ip_datagram::DatagramList;
 use mpe_section::fec_size;
+use section_codec::SectionForm;
 use std::alloc::{AllocError as OutOfMemory, Global};
 use std::marker::Model;
-
-/// Bytes of the longest section (ISO/IEC 13818-1 clause 2.4.4).
-const LONGEST: usize = 4096;
+use unit_stream::UnitForm;
 
 /// Bytes of the shortest datagram: an IPv4 header (RFC 791 section 3.1).
 const SHORTEST: usize = 20;
@@ -129,7 +128,7 @@ impl BurstBuffer {
         let units = UnitBuffer::with_room(alloc, bytes, datagrams + width)?;
         let column = zeros(alloc, height)?;
         let parity = zeros(alloc, PARITY_COLUMNS * height)?;
-        let section = zeros(alloc, LONGEST)?;
+        let section = zeros(alloc, SectionForm::LONGEST)?;
         Ok(BurstBuffer {
             rows,
             columns,

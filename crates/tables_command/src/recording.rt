@@ -13,11 +13,10 @@ use crate::packets::lay;
 use crate::programs::{pat_of, pmt_of};
 use plan::{IntPlan, Plan};
 use psi_tables::{Pat, Program, write_pat, write_pmt};
+use section_codec::SectionForm;
 use std::alloc::{AllocError as OutOfMemory, Global};
 use ts_mux::int_section;
-
-/// Bytes of the longest section (ISO/IEC 13818-1 clause 2.4.4.11).
-const LONGEST: usize = 4096;
+use unit_stream::UnitForm;
 
 /// Puts the packets of the PMT of a program after the others.
 fn lay_pmt(
@@ -29,7 +28,7 @@ fn lay_pmt(
     requires pid { program.now.pid ≤ 8191 }
     ensures { OnOk result (packets.new.items ≡ packets.old.items ++ joined (laid_pmt (plan_fields plan.now) (program_seen program.now))) }
 {
-    let mut section = [0u8; LONGEST];
+    let mut section = [0u8; SectionForm::LONGEST];
     let pmt = match pmt_of(alloc, plan.services.items(), program.number) {
         Ok(pmt) => pmt,
         Err(_) => return Err(OutOfMemory),
@@ -58,7 +57,7 @@ fn lay_pat(packets: &mut Vec<u8>, pat: &Pat) -> Result<(), OutOfMemory>
     requires pids { All (λ (program : ProgramFields). program.pid ≤ 8191) pat.now.programs }
     ensures { OnOk result (packets.new.items ≡ packets.old.items ++ joined (laid 0 (pat_bytes pat.now))) }
 {
-    let mut section = [0u8; LONGEST];
+    let mut section = [0u8; SectionForm::LONGEST];
     let size = write_pat(pat, &mut section);
     lay(packets, 0, &section[..size])
 }

@@ -14,10 +14,9 @@ use byte_slices::array_bytes;
 use int_table::{IntEntry, IntTable};
 use ip_datagram::IpAddress;
 use plan::{IntPlan, Kind, Plan, Service, rules_in};
+use section_codec::SectionForm;
 use std::alloc::{AllocError as OutOfMemory, Global};
-
-/// Bytes of the longest section (ISO/IEC 13818-1 clause 2.4.4.11).
-const LONGEST: usize = 4096;
+use unit_stream::UnitForm;
 
 /// Microseconds in a second.
 const MICROS: u64 = 1_000_000;
@@ -146,7 +145,7 @@ pub fn int_section(
     ensures most { IfOk result (λ section. length section.items ≤ 4096) }
 {
     let table = table_of(alloc, plan, version, int)?;
-    let mut section = [0u8; LONGEST];
+    let mut section = [0u8; SectionForm::LONGEST];
     let Ok(size) = table.write(&mut section) else {
         unreachable!();
     };
