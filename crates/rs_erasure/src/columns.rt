@@ -3,7 +3,7 @@
 ghost use Rattle.fec_spec.specs.Field.{field_product, field_sum};
 ghost use Rattle.gf256.specs.Horner.{horner_value};
 ghost use Rattle.rs_erasure.specs.Columns.{IsColumnChanged, cell};
-ghost use Rattle.std.specs.Prelude.{◌+◌, ◌-◌, ◌*◌, ◌<◌, ◌≡◌, ◌≤◌, ℕ, length, slice_index};
+ghost use Rattle.std.specs.Prelude.{◌+◌, ◌-◌, ◌*◌, ◌<◌, ◌≡◌, ◌≤◌, length};
 
 use gf256::{Gf, horner_columns, mul_add};
 
@@ -19,7 +19,7 @@ pub struct Run {
 
 /// So many columns of a buffer: `first`, `first + apart` and so on.
 #[derive(Clone, Copy)]
-pub struct Columns {
+pub struct Stride {
     pub first: usize,
     pub apart: usize,
     pub count: usize,
@@ -39,7 +39,7 @@ pub fn find_values(
     root: Gf,
     there: Run,
     source: &[u8],
-    columns: Columns,
+    columns: Stride,
     run: Run,
     work: &mut [u8],
     into: usize,

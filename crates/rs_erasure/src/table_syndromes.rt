@@ -10,7 +10,7 @@ ghost use Rattle.rs_erasure.specs.Columns.{IsColumnChanged, cell};
 ghost use Rattle.rs_erasure.specs.Syndromes.{HasSyndromes};
 ghost use Rattle.std.specs.Prelude.{◌+◌, ◌*◌, ◌-◌, ◌%◌, ◌<◌, ◌≡◌, ◌≤◌, ◌⊎◌, ℕ, length};
 
-use crate::columns::{Columns, Run, find_values};
+use crate::columns::{Run, Stride, find_values};
 use gf256::Gf;
 
 /// So many rows are taken together at most: a frame has 256, 512, 768 or 1,024.
@@ -45,7 +45,7 @@ fn find_third(root: Gf, e: usize, run: Run, table: &[u8], thirds: &mut [u8])
     ensures { IsColumnChanged 256 0 (run.to - run.from) e (λ i. horner_value root.0 (λ t. cell run.rows table.now (e + t * 85) (run.from + i)) 3) thirds.old thirds.new }
 {
     let block = block_of(run);
-    let columns = Columns {
+    let columns = Stride {
         first: e,
         apart: 85,
         count: 3,
@@ -77,7 +77,7 @@ fn find_class(root: Gf, b: usize, run: Run, thirds: &[u8], classes: &mut [u8], i
     ensures { IsColumnChanged 256 0 (run.to - run.from) into (λ i. horner_value root.0 (λ a. cell 256 thirds.now (b + a * 17) i) 5) classes.old classes.new }
 {
     let block = block_of(run);
-    let columns = Columns {
+    let columns = Stride {
         first: b,
         apart: 17,
         count: 5,
@@ -141,7 +141,7 @@ fn find_value(m: u8, run: Run, classes: &[u8], first: usize, work: &mut [u8])
     let root = Gf(2).power(u32::from(m));
     let block = block_of(run);
     let into = usize::from(m);
-    let columns = Columns {
+    let columns = Stride {
         first,
         apart: 1,
         count: 17,
