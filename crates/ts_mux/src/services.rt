@@ -207,7 +207,7 @@ fn counter_of(plan: &Plan, version: u8, k: usize, service: &ServicePackets<'_>) 
 }
 
 impl<'a> Services<'a> {
-    ghost use Rattle.std.specs.Prelude.{◌≡◌, ℕ, zero, ◌+◌, ◌%◌, ◌<◌, ◌≤◌, ◌^◌, [], length, get_or, nat_lt, is_some, Some, IfOk, IfSome};
+    ghost use Rattle.std.specs.Prelude.{◌≡◌, ℕ, zero, ◌+◌, ◌%◌, ◌<◌, ◌≤◌, ◌^◌, [], length, get_or, nat_lt, is_some, Some, IfOk};
     ghost use Rattle.plan.specs.PlanView.{plan_fields};
     ghost use Rattle.slice_spec.specs.Windows.{AreApart, owner_of};
     ghost use Rattle.stream_spec.specs.Parts.{PartFields};
@@ -277,7 +277,7 @@ impl<'a> Services<'a> {
     }
 
     /// The service whose turn it is; None where no packets are left in rotation.
-    fn turn(&self) -> Option<usize>
+    pub(crate) fn turn(&self) -> Option<usize>
         ensures read { result ≡ turn_of self.now }
         ensures left { nat_lt 0 (packet_total self.now.turns) ≡ is_some result }
     {
@@ -299,15 +299,12 @@ impl<'a> Services<'a> {
         false
     }
 
-    /// Where packets are left, the service whose turn it is: None within where all of them go out in bursts.
-    pub(crate) fn left(&self) -> Option<Option<usize>>
-        ensures read { IfSome result (λ turn. turn_of self.now ≡ turn) }
-        ensures left { nat_lt 0 (left_in self.now) ≡ is_some result }
+    /// Whether packets are left, in rotation or in bursts; `turn` is the service whose turn it is.
+    pub(crate) fn has_packets(&self, turn: Option<usize>) -> bool
+        requires turn { nat_lt 0 (packet_total self.now.turns) ≡ is_some turn }
+        ensures read { result ≡ nat_lt 0 (left_in self.now) }
     {
-        match self.turn() {
-            Some(k) => Some(Some(k)),
-            None => { if self.has_bursts() { Some(None) } else { None } }
-        }
+        turn.is_some() || self.has_bursts()
     }
 
     /// Writes the next packet of the service whose turn it is.

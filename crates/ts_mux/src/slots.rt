@@ -34,10 +34,12 @@ fn put_packets<K: Sink>(
     ensures cause { HasCause (K.told sink.old).faults (K.told sink.new).faults result }
 {
     let mut slot = first;
-    while let Some(turn) = services.left() {
+    let mut turn = services.turn();
+    while services.has_packets(turn) {
         add_record(batch, plan, services, turn, table, slot);
         slot += 1;
         batch.put_full(sink)?;
+        turn = services.turn();
     }
     Ok(slot)
 }

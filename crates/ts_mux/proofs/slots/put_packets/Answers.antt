@@ -1,4 +1,4 @@
-use Rattle.std.proofs.Common.{◌≡◌, ◌+◌, ◌-◌, ◌<◌, ◌∙◌, ℕ, true, false, ltb, refl, arith}
+use Rattle.std.proofs.Common.{◌≡◌, ◌+◌, ◌-◌, ◌<◌, ◌∙◌, ℕ, true, false, ltb, refl, sym, arith}
 use Rattle.std.proofs.lemmas.Result.{err_from_is_err_and}
 use Rattle.ipe_io.proofs.Told.{stays-refl, stays-trans}
 use Rattle.plan_spec.specs.Plan.{PlanFields}
@@ -30,6 +30,7 @@ pub loop-turn-init : goal.loop-turn-init
 loop-turn-init g c = record {
   under_way = λ part stand.
       under_way_first (plan_fields c.args.plan.now) part (c.args.first - c.args.first) c.args.first (g.K.Sink.told c.args.sink.now).held c.args.batch.now c.args.services.now c.args.table.now (omega arith) stand;
+  turn = record { read = c.turn-turn.ensures.read; left = c.turn-turn.ensures.left };
   from = omega arith;
   room = c.requires.room;
   behind = refl;
@@ -39,6 +40,9 @@ loop-turn-init g c = record {
 
 pub add_record-requires-clause-stand : goal.add_record-requires-clause-stand
 add_record-requires-clause-stand g c = (c.requires.stand.0, c.loop-turn.slot - c.args.first, (c.loop-turn.invariant.under_way c.requires.stand.0 c.requires.stand.1).stand)
+
+pub add_record-requires-clause-turn : goal.add_record-requires-clause-turn
+add_record-requires-clause-turn g c = sym c.loop-turn.invariant.turn.read
 
 pub overflow_add-slot : goal.overflow_add-slot
 overflow_add-slot g c =
@@ -50,7 +54,7 @@ overflow_add-slot g c =
       arith,
       c.requires.stand.2 end.0 end.1,
       c.loop-turn.invariant.from,
-      goes plan c.args.plan.now.whole part (c.loop-turn.slot - c.args.first) c.loop-turn.slot c.loop-turn.services c.loop-turn.table stand c.in-Some.ensures.left end.0 end.1,
+      goes plan c.args.plan.now.whole part (c.loop-turn.slot - c.args.first) c.loop-turn.slot c.loop-turn.services c.loop-turn.table stand (sym c.has_packets.ensures.read ∙ c.loop-turn-test.true) end.0 end.1,
     )
 
 pub loop-turn-preserved : goal.loop-turn-preserved
@@ -63,7 +67,8 @@ loop-turn-preserved g c =
           under_way_next plan part place (c.loop-turn.slot + 1 - c.args.first) c.loop-turn.slot (g.K.Sink.told c.args.sink.now).held (g.K.Sink.told c.loop-turn.sink).held (g.K.Sink.told c.put_full.new.sink).held
           c.args.batch.now c.loop-turn.batch c.add_record.new.batch c.put_full.new.self c.loop-turn.services c.add_record.new.services c.loop-turn.table c.add_record.new.table
           (omega (arith, c.loop-turn.invariant.from)) way (c.add_record.ensures.added part place way.stand) c.in_ok-put_full.ensures.handed
-          (goes plan c.args.plan.now.whole part place c.loop-turn.slot c.loop-turn.services c.loop-turn.table way.stand c.in-Some.ensures.left);
+          (goes plan c.args.plan.now.whole part place c.loop-turn.slot c.loop-turn.services c.loop-turn.table way.stand (sym c.has_packets.ensures.read ∙ c.loop-turn-test.true));
+      turn = record { read = c.turn-turn-in-loop-turn.ensures.read; left = c.turn-turn-in-loop-turn.ensures.left };
       from = omega (arith, c.loop-turn.invariant.from);
       room = c.in_ok-put_full.ensures.room;
       behind = c.add_record.ensures.kept.1 ∙ c.loop-turn.invariant.behind;
@@ -81,7 +86,7 @@ returns-clause-written g c = λ part begins.
     record {
       least = place;
       count = under_way_last part place end.0 end.1 (way.within end.0 end.1)
-          (ends_where part accepted way.stand.of_plan.fits place c.loop-turn.services way.stand.services (none_left (left_in c.loop-turn.services) c.in_default.ensures.left) end.0 end.1);
+          (ends_where part accepted way.stand.of_plan.fits place c.loop-turn.services way.stand.services (none_left (left_in c.loop-turn.services) (sym c.has_packets.ensures.read ∙ c.loop-turn-test.false)) end.0 end.1);
       passes = (way.handed.front, way.handed.appended, way.handed.bytes_are);
       stand = way.stand;
     }
@@ -98,7 +103,7 @@ returns-in_err-put_full-clause-written g c = λ part begins.
       least = end.0;
       count = end.1;
       passes = part_handed part end.0 (place + 1) (g.K.Sink.told c.args.sink.now).held (g.K.Sink.told c.loop-turn.sink).held (g.K.Sink.told c.put_full.new.sink).held c.args.batch.now way.handed.front c.add_record.new.batch
-          (omega (arith, goes plan c.args.plan.now.whole part place c.loop-turn.slot c.loop-turn.services c.loop-turn.table way.stand c.in-Some.ensures.left end.0 end.1))
+          (omega (arith, goes plan c.args.plan.now.whole part place c.loop-turn.slot c.loop-turn.services c.loop-turn.table way.stand (sym c.has_packets.ensures.read ∙ c.loop-turn-test.true) end.0 end.1))
           (added_bytes plan part place c.loop-turn.slot c.add_record.new.services c.add_record.new.table (g.K.Sink.told c.args.sink.now).held (g.K.Sink.told c.loop-turn.sink).held (g.K.Sink.told c.put_full.new.sink).held
           c.args.batch.now c.loop-turn.batch c.add_record.new.batch (c.add_record.ensures.added part place way.stand) way.handed)
           way.handed.appended c.in_err-put_full.ensures.handed;

@@ -6,12 +6,14 @@ use Rattle.stream_spec.specs.Parts.{PartFields}
 use Rattle.stream_batch.specs.Handing.{full_batch}
 use Rattle.ts_mux.specs.Slots.{StandBefore}
 use Rattle.ts_mux.proofs.Ended.{IsUnderWay}
+use Rattle.ts_mux.proofs.Turned.{IsTurn}
 use Rattle.ts_mux.proofs.slots.put_packets.Given as goal
 
 abbrev pub invariant-loop-turn : goal.invariant-loop-turn
 invariant-loop-turn g l = record {
   under_way : (part : PartFields) → StandBefore (plan_fields l.plan) part 0 l.first l.fn.services l.fn.table
       → IsUnderWay (plan_fields l.plan) part (l.slot - l.first) l.slot (g.K.Sink.told l.fn.sink).held (g.K.Sink.told l.sink).held l.fn.batch l.batch l.services l.table;
+  turn : IsTurn l.services l.turn;
   from : l.first ≤ l.slot;
   room : length l.batch ≤ full_batch;
   behind : l.services.behind ≡ l.fn.services.behind;
