@@ -1,6 +1,7 @@
 //! What a run is given -> the objects in memory; what they hold after it -> how that differs from what they must hold.
 use ipe_io::{MemRack, MemShelf, MemSink, MemSource};
 use std::alloc::{AllocError as OutOfMemory, Global};
+use std::test::Fail;
 
 /// A call that fails, by its number among those of its object, from 0.
 #[derive(Clone, Copy, PartialEq, Eq)]
@@ -12,6 +13,17 @@ pub enum Failing {
 }
 
 impl Failing {
+    /// A call of the object of a name.
+    pub fn named(object: &str, call: u32) -> Result<Failing, Fail> {
+        match object {
+            "shelf" => Ok(Failing::Shelf(call)),
+            "input" => Ok(Failing::Input(call)),
+            "output" => Ok(Failing::Output(call)),
+            "rack" => Ok(Failing::Rack(call)),
+            _ => Err("no such object".into()),
+        }
+    }
+
     /// Its number.
     pub fn call(self) -> u32 {
         match self {
@@ -87,6 +99,17 @@ pub struct FileLeft<'a> {
     pub flushed: usize,
 }
 
+impl<'a> FileLeft<'a> {
+    /// A file of which all is flushed.
+    pub fn whole(name: &'a str, bytes: &'a [u8]) -> FileLeft<'a> {
+        FileLeft {
+            name,
+            bytes,
+            flushed: bytes.len(),
+        }
+    }
+}
+
 /// What a run must leave.
 #[derive(Clone, Copy)]
 pub struct Left<'a> {
@@ -107,6 +130,16 @@ impl<'a> Left<'a> {
             flushed: 0,
             line,
             files: &[],
+        }
+    }
+
+    /// This output, of which all is flushed, a line, and files.
+    pub fn flushed(output: &'a [u8], line: &'a str, files: &'a [FileLeft<'a>]) -> Left<'a> {
+        Left {
+            output,
+            flushed: output.len(),
+            line,
+            files,
         }
     }
 }
@@ -190,7 +223,7 @@ impl Outside {
 }
 
 /// What differs from what a rack must hold; an empty text where nothing does.
-pub fn difference_of_files(rack: &MemRack, files: &[FileLeft<'_>]) -> &'static str {
+fn difference_of_files(rack: &MemRack, files: &[FileLeft<'_>]) -> &'static str {
     if rack.files() as usize != files.len() {
         return "the number of files";
     }

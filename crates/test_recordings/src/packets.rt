@@ -1,5 +1,5 @@
 //! What a packet carries -> its 188 bytes (ISO/IEC 13818-1 clause 2.4.3).
-use std::alloc::{AllocError as OutOfMemory, Global};
+use std::alloc::AllocError as OutOfMemory;
 
 /// The packet of PID 256 in which a unit starts: after the pointer field come these bytes, as many as have room, and bytes FF.
 pub fn start(counter: u8, pointer: u8, bytes: &[u8]) -> [u8; 188] {
@@ -33,6 +33,27 @@ fn put_after(head: &[u8], bytes: &[u8]) -> [u8; 188] {
     packet
 }
 
+/// The counter of the packet after these, of which the first has 0.
+fn next_counter(packets: &[u8]) -> u8 {
+    (packets.len() / 188 % 16) as u8
+}
+
+/// Appends the packets of a unit on a PID, with this pointer field in the first.
+pub fn put_unit(
+    packets: &mut Vec<u8>,
+    pid: u16,
+    pointer: u8,
+    unit: &[u8],
+) -> Result<(), OutOfMemory> {
+    let first = start(next_counter(packets), pointer, unit);
+    packets.extend_from_slice(&on_pid(first, pid))?;
+    for piece in unit.get(183..).unwrap_or(&[]).chunks(184) {
+        let next = go_on(next_counter(packets), piece);
+        packets.extend_from_slice(&on_pid(next, pid))?;
+    }
+    Ok(())
+}
+
 /// A packet, by the bytes of a stream of units that it carries: those from a place up to before another, as many as
 /// there are.
 #[derive(Clone, Copy)]
@@ -50,12 +71,6 @@ pub enum PacketOf {
         from: usize,
         to: usize,
     },
-    /// Another one: all that stands before these bytes.
-    Other {
-        head: &'static [u8],
-        from: usize,
-        to: usize,
-    },
 }
 
 impl PacketOf {
@@ -69,7 +84,6 @@ impl PacketOf {
                 to,
             } => start(counter, pointer, between(stream, from, to)),
             PacketOf::GoOn { counter, from, to } => go_on(counter, between(stream, from, to)),
-            PacketOf::Other { head, from, to } => put_after(head, between(stream, from, to)),
         }
     }
 }
@@ -77,17 +91,4 @@ impl PacketOf {
 /// The bytes from a place up to before another, as many as there are.
 fn between(stream: &[u8], from: usize, to: usize) -> &[u8] {
     stream.get(from..to.min(stream.len())).unwrap_or(&[])
-}
-
-/// The packets, one after the other.
-pub fn recording_of(
-    alloc: Global,
-    stream: &[u8],
-    packets: &[PacketOf],
-) -> Result<Vec<u8>, OutOfMemory> {
-    let mut recording = Vec::new(alloc);
-    for packet in packets {
-        recording.extend_from_slice(&packet.of(stream))?;
-    }
-    Ok(recording)
 }

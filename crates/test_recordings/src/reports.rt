@@ -28,7 +28,7 @@ fn lines_of(scope: &str) -> &'static str {
 }
 
 /// Fails where a word has none of these names.
-pub fn expect_names(words: &str, names: &str) -> Result<(), Fail> {
+fn expect_names(words: &str, names: &str) -> Result<(), Fail> {
     for word in words.split_whitespace() {
         let (name, _) = word.split_once('=').ok_or("no number")?;
         if !names.split_whitespace().any(|known| known == name) {
@@ -82,38 +82,19 @@ pub fn report_of(alloc: Global, columns: &str) -> Result<String, Fail> {
 /// The numbers of a service that these words give.
 pub fn counts_of(words: &str) -> Result<ServiceCounts, Fail> {
     expect_names(words, SERVICE)?;
-    let mut numbers = [0u64; 13];
-    for (number, name) in numbers.iter_mut().zip(SERVICE.split_whitespace()) {
-        *number = number_of(words, name)?;
-    }
-    let [
-        heard,
-        repeats,
-        gaps,
-        units,
-        bad_check,
-        delimited,
-        bad_length,
-        unread,
-        filtered,
-        frames,
-        rows_mended,
-        rows_left,
-        datagrams,
-    ] = numbers;
     Ok(ServiceCounts {
-        heard,
-        repeats,
-        gaps,
-        units,
-        bad_check,
-        delimited,
-        bad_length,
-        unread,
-        filtered,
-        frames,
-        rows_mended,
-        rows_left,
-        datagrams,
+        heard: number_of(words, "heard")?,
+        repeats: number_of(words, "repeats")?,
+        gaps: number_of(words, "gaps")?,
+        units: number_of(words, "units")?,
+        bad_check: number_of(words, "bad_check")?,
+        delimited: number_of(words, "delimited")?,
+        bad_length: number_of(words, "bad_length")?,
+        unread: number_of(words, "unread")?,
+        filtered: number_of(words, "filtered")?,
+        frames: number_of(words, "frames")?,
+        rows_mended: number_of(words, "rows_mended")?,
+        rows_left: number_of(words, "rows_left")?,
+        datagrams: number_of(words, "datagrams")?,
     })
 }

@@ -26,17 +26,8 @@ pub fn stream_of(alloc: Global, sndus: &[Sndu<'_>]) -> Result<Vec<u8>, Fail> {
     Ok(stream)
 }
 
-/// The capture of the datagrams that SNDUs carry.
-pub fn capture_of_sndus(alloc: Global, sndus: &[Sndu<'_>]) -> Result<Vec<u8>, Fail> {
-    let mut capture = Vec::from_slice(alloc, &CAPTURE_HEAD)?;
-    for sndu in sndus {
-        put_record(&mut capture, &datagram_of(alloc, &sndu.datagram)?)?;
-    }
-    Ok(capture)
-}
-
 /// An SNDU of 42 bytes with a datagram for 239.2.0.9, to its NPA address (RFC 1112 section 6.4).
-pub const ADDRESSED_FILE: Sndu<'static> = Sndu {
+const ADDRESSED_FILE: Sndu<'static> = Sndu {
     head: &[0, 38, 8, 0, 1, 0, 0x5E, 2, 0, 9],
     datagram: Datagram {
         size: 28,
