@@ -67,7 +67,7 @@ fn ends_so(alloc: Global, settings: &str, case: &RunLine<'_>) -> Result<(), Fail
     let (printed, flushed) = pair_of(case.left)?;
     let output = PRINTED.as_bytes().get(..printed);
     let run = Run {
-        command: "check",
+        words: &["check", "a.toml"],
         settings,
         input: &[],
         room: case.given.parse()?,

@@ -42,7 +42,7 @@ pub struct RunLine<'a> {
 /// The rest of what a command is given and must leave.
 #[derive(Clone, Copy)]
 pub struct Run<'a> {
-    pub command: &'a str,
+    pub words: &'a [&'a str],
     pub settings: &'a str,
     pub input: &'a [u8],
     /// How many bytes the output takes.
@@ -101,14 +101,7 @@ pub fn settings_of(name: &str) -> Result<&'static str, Fail> {
 /// The call of a word.
 fn failing_of(word: &str) -> Result<Failing, Fail> {
     let (object, call) = word.split_once('=').ok_or("no call")?;
-    let first = match object {
-        "shelf" => Failing::Shelf(0),
-        "input" => Failing::Input(0),
-        "output" => Failing::Output(0),
-        "rack" => Failing::Rack(0),
-        _ => return Err("no such object".into()),
-    };
-    Ok(first.at(call.parse::<u32>()?))
+    Failing::named(object, call.parse()?)
 }
 
 /// The calls of words.
@@ -159,12 +152,11 @@ fn leaves(
     fails: &[Failing],
     line: &str,
 ) -> Result<(), Fail> {
-    let words = [run.command, "a.toml"];
     let given = Given {
         name: case.shelved,
         room: run.room,
         fails,
-        ..faultless(&words, run.settings.as_bytes(), run.input)
+        ..faultless(run.words, run.settings.as_bytes(), run.input)
     };
     let left = Left {
         output: run.output,

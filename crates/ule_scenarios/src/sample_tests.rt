@@ -20,11 +20,6 @@ fn a_sample_prints_its_summary(rt: HostRuntime) -> Result<(), Fail> {
         fails: UNUSED,
         ..faultless(&["sample", "1"], &[], &[])
     };
-    let left = Left {
-        output: SUMMARY.as_bytes(),
-        flushed: SUMMARY.len(),
-        line: "",
-        files: &[],
-    };
+    let left = Left::flushed(SUMMARY.as_bytes(), "", &[]);
     expect(rt.alloc(), "sample 1", &given, Status::Done, &left)
 }

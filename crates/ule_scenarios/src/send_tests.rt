@@ -74,7 +74,7 @@ fn leaves(
 ) -> Result<(), Fail> {
     let (written, flushed) = pair_of(case.left)?;
     let run = Run {
-        command: "send",
+        words: &["send", "a.toml"],
         settings: sending.settings,
         input,
         room: sending.room,

@@ -139,17 +139,8 @@ fn capture_of(alloc: Global, words: &str) -> Result<Vec<u8>, Fail> {
 
 /// Runs `ule 256` over a recording, which must write this capture, flushed, and nothing else.
 pub fn writes(alloc: Global, name: &str, recording: &[u8], capture: &[u8]) -> Result<(), Fail> {
-    let file = FileLeft {
-        name: "ule.pcap",
-        bytes: capture,
-        flushed: capture.len(),
-    };
-    let left = Left {
-        files: &[file],
-        line: "",
-        output: &[],
-        flushed: 0,
-    };
+    let files = [FileLeft::whole("ule.pcap", capture)];
+    let left = Left::flushed(&[], "", &files);
     let given = faultless(&["ule", "256"], &[], recording);
     expect(alloc, name, &given, Status::Done, &left)
 }
