@@ -5,10 +5,10 @@
 //!
 //! An independent program sent the same, and gave the numbers.
 use crate::cast::{Cast, stream_of};
-use crate::words::{numbers_in, span_of};
 use std::alloc::Global;
 use std::test::Fail;
 use test_recordings::settings::{INT, STAMPED};
+use test_recordings::{numbers_in, range_of};
 
 /// A recording with times at 27 MHz.
 const M2TS: &str = "recording = \"m2ts\"\n";
@@ -171,7 +171,7 @@ fn deltas_in(alloc: Global, sections: &[u8]) -> Result<Vec<u16>, Fail> {
 
 /// delta_t of the sections in the records of a word, as `100-1534`, of a stream of records of this size.
 fn deltas_of(alloc: Global, stream: &[u8], size: usize, records: &str) -> Result<Vec<u16>, Fail> {
-    let (first, last) = span_of(records)?;
+    let (first, last) = range_of(records)?;
     let from = first.saturating_mul(size);
     let to = last.saturating_add(1).saturating_mul(size);
     let records = stream.get(from..to).ok_or("no such burst")?;

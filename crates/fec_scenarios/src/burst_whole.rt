@@ -10,14 +10,12 @@
 //! Records 200 to 255 are lost.
 use crate::burst_sent::{LECTURE, SLICED, form_of};
 use crate::cast::leaves;
-use crate::report::report_of;
-use crate::words::harms_of;
 use scenario_runs::sent;
 use std::alloc::Global;
 use std::test::Fail;
 use test_recordings::settings::{FILES, INT, settings_of};
 use test_recordings::{
-    CAPTURE_HEAD, Datagram, FileLeft, damaged, datagram_of, is_piece, put_record,
+    CAPTURE_HEAD, Datagram, FileLeft, datagram_of, is_piece, left_of, put_record, report_of,
 };
 
 /// A form of recording, and the bytes before the packet in record 1201. At 10,000 packets a second: 120,100 microseconds, and 27 times as
@@ -29,7 +27,7 @@ const FORMS: [(&str, &[u8]); 2] = [
 
 const TAGS: &str = "service_id = 10\ncomponent_tag = 2\n";
 
-/// The report, in the columns of `report`.
+/// The report, in the columns of `test_recordings::report_of`.
 const REPORT: &str =
     "stream records=1817|lecture heard=1046 gaps=1 units=155 delimited=1 frames=1 rows_mended=1024 datagrams=100|files heard=770 units=100 datagrams=100|table units=1|rule,239.1.0.0/16,0|rule,239.2.0.0/16,2";
 
@@ -69,8 +67,7 @@ fn recording_of(alloc: Global, settings: &str, time: &[u8]) -> Result<Vec<u8>, F
     if !is_piece(&stream, size.saturating_mul(1201), time) {
         return Err("another time".into());
     }
-    let harms = harms_of(alloc, "200-255")?;
-    Ok(damaged(alloc, &stream, size, &harms)?)
+    left_of(alloc, &stream, size, "200-255")
 }
 
 /// Receives a recording, and compares all that is left.
@@ -79,16 +76,8 @@ fn both_come(alloc: Global, name: &str, settings: &str, recording: &[u8]) -> Res
     let files = capture_with(alloc, &[OF_FILES])?;
     let report = report_of(alloc, REPORT)?;
     let captures = [
-        FileLeft {
-            name: "lecture.pcap",
-            bytes: &lecture,
-            flushed: lecture.len(),
-        },
-        FileLeft {
-            name: "files.pcap",
-            bytes: &files,
-            flushed: files.len(),
-        },
+        FileLeft::whole("lecture.pcap", &lecture),
+        FileLeft::whole("files.pcap", &files),
     ];
     leaves(alloc, name, settings, recording, &report, &captures)
 }

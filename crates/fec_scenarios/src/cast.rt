@@ -3,16 +3,17 @@
 //! A case is a line of a table of text, in columns with `|` between:
 //!
 //! 1. Its name.
-//! 2. What happens to the stream, in the words of `words`. Where a file reads other columns here, it says so.
+//! 2. What happens to the stream, as `100-116 270`, in the words of `test_recordings::left_of`. Where a file reads other columns here, it
+//!    says so.
 //! 3. The numbers of the datagrams that are given, as `0-16 22`.
-//! 4. The other columns are the report, as `report` reads them.
-use crate::report::report_of;
-use crate::words::{harms_of, numbers_in};
+//! 4. The other columns are the report, as `test_recordings::report_of` reads them.
 use scenario_runs::{Status, expect, sent};
 use std::alloc::Global;
 use std::test::Fail;
 use test_recordings::settings::settings_of;
-use test_recordings::{FileLeft, Given, Left, damaged, faultless, numbered_capture};
+use test_recordings::{
+    FileLeft, Given, Left, faultless, left_of, numbered_capture, numbers_in, report_of,
+};
 
 /// Settings of a service `lecture`, and what is sent under them.
 #[derive(Clone, Copy)]
@@ -70,12 +71,7 @@ pub fn leaves(
         room: ROOM,
         ..faultless(&["receive", "a.toml"], settings.as_bytes(), recording)
     };
-    let left = Left {
-        output: report.as_bytes(),
-        flushed: report.len(),
-        line: "",
-        files,
-    };
+    let left = Left::flushed(report.as_bytes(), "", files);
     expect(alloc, name, &given, Status::Done, &left)
 }
 
@@ -91,11 +87,7 @@ pub fn comes(
     let settings = settings_of(alloc, cast.settings)?;
     let capture = capture_of(alloc, cast.sizes, given)?;
     let report = report_of(alloc, columns)?;
-    let files = [FileLeft {
-        name: "lecture.pcap",
-        bytes: &capture,
-        flushed: capture.len(),
-    }];
+    let files = [FileLeft::whole("lecture.pcap", &capture)];
     leaves(alloc, name, &settings, recording, &report, &files)
 }
 
@@ -103,8 +95,7 @@ pub fn comes(
 fn line_comes(alloc: Global, cast: &Cast<'_>, stream: &[u8], line: &str) -> Result<(), Fail> {
     let (name, columns) = line.split_once('|').ok_or("no harms")?;
     let (harms, columns) = columns.split_once('|').ok_or("no datagrams")?;
-    let harms = harms_of(alloc, harms)?;
-    let recording = damaged(alloc, stream, cast.size, &harms)?;
+    let recording = left_of(alloc, stream, cast.size, harms)?;
     comes(alloc, name, cast, &recording, columns)
 }
 

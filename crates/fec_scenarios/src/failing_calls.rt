@@ -27,14 +27,13 @@ pub struct Whole<'a> {
     pub output: &'a [u8],
 }
 
-/// A call of an object; the status of a run in which it fails; and what is reported to have a fault.
-fn end_of(object: &str, call: u32) -> Result<(Failing, Status, &'static str), Fail> {
-    match object {
-        "shelf" => Ok((Shelf(call), Status::ShelfFault, "the settings file")),
-        "input" => Ok((Input(call), Status::SourceFault, "the input")),
-        "output" => Ok((Output(call), Status::SinkFault, "the output")),
-        "rack" => Ok((Rack(call), Status::RackFault, "a written file")),
-        _ => Err("no such object".into()),
+/// The status of a run in which a call fails, and what is reported.
+fn end_of(failing: Failing) -> (Status, &'static str) {
+    match failing {
+        Shelf(_) => (Status::ShelfFault, "ipencap: fault of the settings file\n"),
+        Input(_) => (Status::SourceFault, "ipencap: fault of the input\n"),
+        Output(_) => (Status::SinkFault, "ipencap: fault of the output\n"),
+        Rack(_) => (Status::RackFault, "ipencap: fault of a written file\n"),
     }
 }
 
@@ -103,13 +102,13 @@ fn call_fails(
     call: u32,
     word: &str,
 ) -> Result<(), Fail> {
-    let (failing, status, what) = end_of(object, call)?;
+    let failing = Failing::named(object, call)?;
     let case = format!(in alloc; "call of the {object} {call}")?;
     if word.is_empty() {
         return ends_done(alloc, &case, whole, &[failing]);
     }
-    let line = format!(in alloc; "ipencap: fault of {what}\n")?;
-    leaves(alloc, &case, whole, &[failing], status, &line, word)
+    let (status, line) = end_of(failing);
+    leaves(alloc, &case, whole, &[failing], status, line, word)
 }
 
 /// The calls of a word fail in turn, of which the first one has this number. Returns the number of the next one.

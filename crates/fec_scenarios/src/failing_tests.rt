@@ -1,11 +1,10 @@
 //! `receive` of an MPE-FEC frame of 256 rows (EN 301 192 clause 9), and `ule` over a recording of one packet: each call fails in turn.
 use crate::cast::{Cast, capture_of, stream_of};
 use crate::failing_calls::{Whole, all_fail, ends_done};
-use crate::report::report_of;
 use std::alloc::Global;
 use std::test::Fail;
 use test_recordings::settings::{FRAMES, settings_of};
-use test_recordings::{SmallPacket, small_capture, small_recording};
+use test_recordings::{SmallPacket, report_of, small_capture, small_recording};
 
 /// Three datagrams, a column each, and 16 columns of parity.
 const FRAME: Cast = Cast {

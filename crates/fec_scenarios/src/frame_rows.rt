@@ -2,11 +2,10 @@
 //!
 //! Datagrams of 256 bytes have a column each (EN 301 192 clause 9). A row is corrected where at most 64 of its 255 bytes are unknown.
 use crate::cast::{Cast, comes, stream_of};
-use crate::words::numbers_in;
 use std::alloc::Global;
 use std::test::Fail;
 use test_recordings::settings::FRAMES;
-use test_recordings::{Harm, damaged};
+use test_recordings::{Harm, damaged, numbers_in};
 
 /// In the place of harms a case has how many columns of parity are sent of 64, the sizes of the datagrams, and which sections are damaged:
 /// those of the datagrams come first, then those of the columns.

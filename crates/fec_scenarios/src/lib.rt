@@ -29,7 +29,3 @@ mod frame_losses;
 mod frame_rows;
 #[cfg(test)]
 mod made_sections;
-#[cfg(test)]
-mod report;
-#[cfg(test)]
-mod words;

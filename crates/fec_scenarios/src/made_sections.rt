@@ -9,9 +9,9 @@
 //! | `short` | one with 255 zeros, the only column of its frame |
 //! | `other` | a section of another table |
 //! | `right` | the last section of a frame with the datagrams for 239.1.0.8 and 239.1.0.9, its only column |
-use std::alloc::{AllocError as OutOfMemory, Global};
+use std::alloc::Global;
 use std::test::Fail;
-use test_recordings::{bytes_of, go_on, on_pid, start};
+use test_recordings::{bytes_of, put_unit};
 
 /// The last section of a frame. An independent program gave the first 40 rows of its column, by long division.
 const RIGHT: &str =
@@ -88,22 +88,11 @@ fn section_of(alloc: Global, word: &str) -> Result<Vec<u8>, Fail> {
     Ok(section)
 }
 
-/// Appends the packets of a section, two at most: it begins behind the pointer 0 of the first.
-fn put_packets(into: &mut Vec<u8>, section: &[u8], pid: u16) -> Result<(), OutOfMemory> {
-    let counter = (into.len() / 188 % 16) as u8;
-    into.extend_from_slice(&on_pid(start(counter, 0, section), pid))?;
-    let Some(rest) = section.get(183..) else {
-        return Ok(());
-    };
-    let next = counter.wrapping_add(1);
-    into.extend_from_slice(&on_pid(go_on(next, rest), pid))
-}
-
 /// The packets of the sections of words on a PID, the first of which has counter 0.
 pub fn packets_of(alloc: Global, words: &str, pid: u16) -> Result<Vec<u8>, Fail> {
     let mut packets = Vec::new(alloc);
     for word in words.split_whitespace() {
-        put_packets(&mut packets, &section_of(alloc, word)?, pid)?;
+        put_unit(&mut packets, pid, 0, &section_of(alloc, word)?)?;
     }
     Ok(packets)
 }
