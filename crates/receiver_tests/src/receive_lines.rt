@@ -19,7 +19,7 @@ use std::alloc::Global;
 use std::test::Fail;
 use test_recordings::units::{INT_OF_TWO, WRONG_HASH};
 use test_recordings::{
-    Failing, FileLeft, Given, Left, Outside, faultless, recording_of_two, report_of, small_capture,
+    FileLeft, Given, Left, Outside, fails_of, faultless, recording_of_two, report_of, small_capture,
 };
 
 /// The columns of a line.
@@ -94,27 +94,6 @@ fn recording_of(alloc: Global, words: &str) -> Result<Vec<u8>, Fail> {
         "WRONG_HASH" => Ok(recording_of_two(alloc, &WRONG_HASH, tail)?),
         _ => Err("no such recording".into()),
     }
-}
-
-/// The call of a word.
-fn failing_of(word: &str) -> Result<Failing, Fail> {
-    let (object, call) = word.split_once('=').ok_or("no call")?;
-    let call = call.parse::<u32>()?;
-    match object {
-        "input" => Ok(Failing::Input(call)),
-        "output" => Ok(Failing::Output(call)),
-        "rack" => Ok(Failing::Rack(call)),
-        _ => Err("no such object".into()),
-    }
-}
-
-/// The calls of words.
-fn fails_of(alloc: Global, words: &str) -> Result<Vec<Failing>, Fail> {
-    let mut fails = Vec::new(alloc);
-    for word in words.split_whitespace() {
-        fails.push(failing_of(word)?)?;
-    }
-    Ok(fails)
 }
 
 /// The file of a word, which holds a front of a capture.

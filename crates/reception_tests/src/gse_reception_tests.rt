@@ -3,6 +3,7 @@ use crate::buffers::{empty_slots, zeros};
 use crate::counting_outlet::{DATAGRAM, Noted, SERVICE, put_deliveries, put_rise};
 use addr_rules::MacList;
 use bb_frame::Frame;
+use gse_reassembly::{FRAG_IDS, ROOM};
 use gse_reception::GseReception;
 use ipe_io::Failed;
 use service_counts::ServiceCounts;
@@ -58,9 +59,9 @@ struct Receiver {
 
 /// A receiver without a filter, whose outlet takes so many datagrams.
 fn new_receiver(alloc: Global, room: u64) -> Result<Receiver, OutOfMemory> {
-    let buffer = zeros(alloc, 16_778_240)?;
+    let buffer = zeros(alloc, ROOM)?;
     Ok(Receiver {
-        reception: GseReception::over(buffer, empty_slots(alloc, 256)?),
+        reception: GseReception::over(buffer, empty_slots(alloc, FRAG_IDS)?),
         filter: MacList::new(alloc),
         outlet: Noted::new(&DATAGRAM, SERVICE, room),
     })

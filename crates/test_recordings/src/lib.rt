@@ -27,7 +27,7 @@ pub use harms::left_of;
 pub use hex_text::bytes_of;
 pub use numbers::{numbers_in, range_of};
 pub use outlet::NotedOutlet;
-pub use outside::{Failing, FileLeft, Given, Left, Outside, faultless, words_of};
+pub use outside::{Failing, FileLeft, Given, Left, Outside, fails_of, faultless, words_of};
 pub use packets::{PacketOf, go_on, on_pid, put_unit, start};
 pub use pieces::{filled, is_piece, joined};
 pub use reports::{counts_of, number_of, put_scope, report_of};

@@ -45,6 +45,21 @@ impl Failing {
     }
 }
 
+/// The call of a word.
+fn failing_of(word: &str) -> Result<Failing, Fail> {
+    let (object, call) = word.split_once('=').ok_or("no call")?;
+    Failing::named(object, call.parse()?)
+}
+
+/// The calls of words: `input=0 rack=3` are the first one of the input and the fourth one of the rack.
+pub fn fails_of(alloc: Global, words: &str) -> Result<Vec<Failing>, Fail> {
+    let mut fails = Vec::new(alloc);
+    for word in words.split_whitespace() {
+        fails.push(failing_of(word)?)?;
+    }
+    Ok(fails)
+}
+
 /// What a run is given.
 #[derive(Clone, Copy)]
 pub struct Given<'a> {

@@ -12,7 +12,7 @@ use scenario_runs::{Status, expect};
 use std::alloc::{AllocError as OutOfMemory, Global};
 use std::test::Fail;
 use test_recordings::settings::{FILES, INT, STAMPED};
-use test_recordings::{Failing, FileLeft, Given, Left, faultless};
+use test_recordings::{Failing, FileLeft, Given, Left, fails_of, faultless};
 
 /// A lecture in sliced frames.
 const SLICED: &str =
@@ -96,21 +96,6 @@ pub fn settings_of(name: &str) -> Result<&'static str, Fail> {
         "X" => Ok("x"),
         _ => Err("no such settings".into()),
     }
-}
-
-/// The call of a word.
-fn failing_of(word: &str) -> Result<Failing, Fail> {
-    let (object, call) = word.split_once('=').ok_or("no call")?;
-    Failing::named(object, call.parse()?)
-}
-
-/// The calls of words.
-fn fails_of(alloc: Global, words: &str) -> Result<Vec<Failing>, Fail> {
-    let mut fails = Vec::new(alloc);
-    for word in words.split_whitespace() {
-        fails.push(failing_of(word)?)?;
-    }
-    Ok(fails)
 }
 
 /// The status of a run that reports a line with such a first word.
