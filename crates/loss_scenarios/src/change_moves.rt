@@ -9,9 +9,9 @@
 //! - `100+200` is a packet with the sections of the INT of two packets, in the first one's place.
 use crate::change_plans::{FOUR_FILES, ONCE, OTHER, TWICE, records_of, stream_of};
 use crate::received::{Reception, comes};
-use crate::words::range_of;
 use std::alloc::Global;
 use std::test::Fail;
+use test_recordings::range_of;
 
 /// The streams.
 #[derive(Drop)]

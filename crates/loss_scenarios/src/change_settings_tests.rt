@@ -45,12 +45,7 @@ fn fault_of(alloc: Global, said: &str) -> Result<String, OutOfMemory> {
 /// Checks the settings of words, and compares all that is left.
 fn ends(alloc: Global, words: &str, status: Status, output: &str, line: &str) -> Result<(), Fail> {
     let settings = settings_of(alloc, words)?;
-    let left = Left {
-        output: output.as_bytes(),
-        flushed: output.len(),
-        line,
-        files: &[],
-    };
+    let left = Left::flushed(output.as_bytes(), line, &[]);
     let given = faultless(&["check", "a.toml"], settings.as_bytes(), &[]);
     expect(alloc, words, &given, status, &left)
 }

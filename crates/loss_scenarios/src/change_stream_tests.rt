@@ -1,6 +1,5 @@
 //! The stream of a plan that changes, packet by packet (ISO/IEC 13818-1 clause 2.4.3.2).
 use crate::change_plans::{BOTH, EIGHT, FOUR_FILES, ONCE, records_of, stream_of};
-use crate::words::{end_of, take};
 use std::alloc::Global;
 use std::test::Fail;
 use test_recordings::{bytes_of, is_piece};
@@ -33,10 +32,15 @@ const BOTH_MOVE: &str = "0 47425810 C1
 /// The head of a null packet.
 const NULL: &str = "471FFF10";
 
-/// What a slot must have, and the lines after its own.
-fn at_slot<'a>(alloc: Global, lines: &'a str, slot: usize) -> Result<(&'a str, &'a str), Fail> {
-    let slot = format!(in alloc; "{slot}")?;
-    Ok(take(lines, &slot, " ", "\n", NULL))
+/// What a slot must have, where a line has its number.
+fn at_slot(lines: &str, slot: usize) -> Result<Option<&str>, Fail> {
+    for line in lines.lines() {
+        let (number, words) = line.split_once(' ').ok_or("no head")?;
+        if number.parse::<usize>()? == slot {
+            return Ok(Some(words));
+        }
+    }
+    Ok(None)
 }
 
 /// Whether a packet has the head and the version of a line.
@@ -47,17 +51,20 @@ fn is_told(alloc: Global, packet: &[u8], words: &str) -> Result<bool, Fail> {
     Ok(is_piece(packet, 0, &head) && is_piece(packet, 10, &version))
 }
 
-/// The first slot of a stream with another head or another version, or how many packets there are.
+/// The first slot of a stream with another head or another version, or how many packets there are. Each line must be that of a slot.
 fn difference(alloc: Global, stream: &[u8], packets: usize, lines: &str) -> Result<usize, Fail> {
-    let mut rest = lines;
+    let mut told = 0usize;
     for slot in 0..packets {
-        let (words, after) = at_slot(alloc, rest, slot)?;
-        if !is_told(alloc, records_of(stream, slot, slot)?, words)? {
+        let words = at_slot(lines, slot)?;
+        let packet = records_of(stream, slot, slot)?;
+        if !is_told(alloc, packet, words.unwrap_or(NULL))? {
             return Ok(slot);
         }
-        rest = after;
+        told = told.saturating_add(usize::from(words.is_some()));
     }
-    end_of(rest)?;
+    if told != lines.lines().count() {
+        return Err("a line of no slot".into());
+    }
     Ok(stream.len() / 188)
 }
 

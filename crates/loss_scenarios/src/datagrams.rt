@@ -1,8 +1,7 @@
 //! Lists of datagrams as text: `239.2.0.1:169` is one of 169 bytes to 239.2.0.1. The first of a list has number 0.
-use crate::words::range_of;
 use std::alloc::Global;
 use std::test::Fail;
-use test_recordings::{Datagram, capture_of};
+use test_recordings::{Datagram, capture_of, numbers_in};
 
 /// The bytes of an address.
 fn address_of(text: &str) -> Result<[u8; 4], Fail> {
@@ -36,30 +35,19 @@ pub fn capture_of_list(alloc: Global, list: &str) -> Result<Vec<u8>, Fail> {
     capture_of(alloc, &datagrams)
 }
 
-/// Appends the datagrams of a list from one number to another.
-fn put_range(into: &mut Vec<Datagram>, list: &str, first: usize, last: usize) -> Result<(), Fail> {
-    for number in first..=last {
-        let word = list.split_whitespace().nth(number);
-        into.push(datagram_in(word.ok_or("no such datagram")?)?)?;
-    }
+/// Appends the datagram of a list with a number.
+fn put_numbered(into: &mut Vec<Datagram>, list: &str, number: u16) -> Result<(), Fail> {
+    let word = list.split_whitespace().nth(usize::from(number));
+    into.push(datagram_in(word.ok_or("no such datagram")?)?)?;
     Ok(())
 }
 
-/// Appends the datagrams of a list that a word names: `4`, `3-13`, or `0*101`, which comes 101 times.
-fn put_word(into: &mut Vec<Datagram>, list: &str, word: &str) -> Result<(), Fail> {
-    let (numbers, times) = word.split_once('*').unwrap_or((word, "1"));
-    let (first, last) = range_of(numbers)?;
-    for _ in 0..times.parse::<usize>()? {
-        put_range(into, list, first, last)?;
-    }
-    Ok(())
-}
-
-/// The datagrams of a list that words name.
+/// The datagrams of a list with the numbers of words: `0-1 4`, or `0*101`, which is 101 times the first.
 pub fn datagrams_of(alloc: Global, list: &str, words: &str) -> Result<Vec<Datagram>, Fail> {
+    let numbers = numbers_in(alloc, words)?;
     let mut datagrams = Vec::new(alloc);
-    for word in words.split_whitespace() {
-        put_word(&mut datagrams, list, word)?;
+    for number in &numbers {
+        put_numbered(&mut datagrams, list, *number)?;
     }
     Ok(datagrams)
 }

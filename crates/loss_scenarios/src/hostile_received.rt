@@ -4,9 +4,9 @@
 //! the columns of `received`, where datagram 0 is that of the right unit. A unit is hexadecimal digits, with `*` and how often they come;
 //! `100 of` before it says how often it comes itself.
 use crate::received::{Reception, comes};
-use std::alloc::{AllocError as OutOfMemory, Global};
+use std::alloc::Global;
 use std::test::Fail;
-use test_recordings::{bytes_of, go_on, start};
+use test_recordings::{bytes_of, put_unit};
 
 /// What is received of a service on PID 256, and a right unit of it.
 #[derive(Clone, Copy)]
@@ -42,26 +42,12 @@ fn kind_of(word: &str) -> Result<Kind, Fail> {
     }
 }
 
-/// The counter of the packet after these.
-fn next_counter(packets: &[u8]) -> u8 {
-    (packets.len() / 188 % 16) as u8
-}
-
-/// Appends the packets of a unit after this pointer field. The counters rise by one.
-fn put_packets(packets: &mut Vec<u8>, pointer: u8, unit: &[u8]) -> Result<(), OutOfMemory> {
-    packets.extend_from_slice(&start(next_counter(packets), pointer, unit))?;
-    for piece in unit.get(183..).unwrap_or(&[]).chunks(184) {
-        packets.extend_from_slice(&go_on(next_counter(packets), piece))?;
-    }
-    Ok(())
-}
-
 /// Appends the packets of a unit as often as it comes.
-fn put_unit(alloc: Global, packets: &mut Vec<u8>, pointer: u8, unit: &str) -> Result<(), Fail> {
+fn put_units(alloc: Global, packets: &mut Vec<u8>, pointer: u8, unit: &str) -> Result<(), Fail> {
     let (times, digits) = unit.split_once(" of ").unwrap_or(("1", unit));
     let unit = bytes_of(alloc, digits)?;
     for _ in 0..times.parse::<u16>()? {
-        put_packets(packets, pointer, &unit)?;
+        put_unit(packets, 256, pointer, &unit)?;
     }
     Ok(())
 }
@@ -69,8 +55,8 @@ fn put_unit(alloc: Global, packets: &mut Vec<u8>, pointer: u8, unit: &str) -> Re
 /// The packets of a unit, and one with the right unit after them.
 fn recording_of(alloc: Global, kind: &Kind, pointer: u8, unit: &str) -> Result<Vec<u8>, Fail> {
     let mut recording = Vec::new(alloc);
-    put_unit(alloc, &mut recording, pointer, unit)?;
-    put_unit(alloc, &mut recording, 0, kind.right)?;
+    put_units(alloc, &mut recording, pointer, unit)?;
+    put_units(alloc, &mut recording, 0, kind.right)?;
     Ok(recording)
 }
 

@@ -33,5 +33,3 @@ mod pair_losses;
 mod received;
 #[cfg(test)]
 mod settings_words;
-#[cfg(test)]
-mod words;

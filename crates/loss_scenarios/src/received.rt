@@ -1,20 +1,20 @@
 //! What must come of a recording, as text -> the captures and the report, compared with those that a run leaves.
 //!
-//! The text has a column for each scope of the report, in the report's order, with `|` between: `stream`, the name of each service, and
-//! `table` where there is an INT. After the scope a column has words:
+//! The text has a column for each scope of the report with `|` between: `stream`, the name of each service, and `table` where there is an
+//! INT. After the scope a column has words:
 //!
-//! - `heard=23 units=12` are lines of the report, in its order. A line that is not named is 0, and no line at all if it is `version`.
+//! - `heard=23 units=12` are lines of the report, as `test_recordings::put_scope` reads them: a line that is not named is 0. `version=3` is
+//!   the last one of the table, which has none where it is not named.
 //! - `gives 0 3-13` after them are the numbers of a service's datagrams, `0*101` a datagram 101 times.
 //! - `rules 239.1.0.0/16 239.2.0.0/16` after them are the rules of the table, with component_tag 0, 1 and so on.
 //!
 //! A scope without a column has that of `whole`.
 use crate::datagrams::datagrams_of;
 use crate::settings_words::settings_of;
-use crate::words::{end_of, take};
 use scenario_runs::{Status, expect};
 use std::alloc::{AllocError as OutOfMemory, Global};
 use std::test::Fail;
-use test_recordings::{Datagram, FileLeft, Left, capture_of, faultless};
+use test_recordings::{FileLeft, Left, capture_of, faultless, put_scope};
 
 /// The name of a service, and the list of datagrams of which it has some.
 pub type Service = (&'static str, &'static str);
@@ -27,14 +27,6 @@ pub struct Reception<'a> {
     pub whole: &'a str,
 }
 
-/// The lines of the report's scopes; those of a service without `datagrams`.
-const STREAM_LINES: &str = "records tail_bytes unreadable without_payload other";
-
-const SERVICE_LINES: &str =
-    "heard repeats gaps units bad_check delimited bad_length unread filtered frames rows_mended rows_left";
-
-const TABLE_LINES: &str = "units refused";
-
 /// What must be left: the report, and the captures of the services in their order.
 #[derive(Drop)]
 struct Due {
@@ -42,68 +34,64 @@ struct Due {
     captures: Vec<Vec<u8>>,
 }
 
-/// Appends lines of a scope, and returns the words after them.
-fn put_lines<'a>(
-    report: &mut String,
-    scope: &str,
-    lines: &str,
-    words: &'a str,
-) -> Result<&'a str, Fail> {
-    let mut rest = words;
-    for line in lines.split_whitespace() {
-        let (number, after) = take(rest, line, "=", " ", "0");
-        write!(report, "{scope},{line},{number}\n")?;
-        rest = after;
+/// The words of a scope's column.
+fn column_of<'a>(columns: &'a str, scope: &str) -> Option<&'a str> {
+    for column in columns.split('|') {
+        let (name, words) = column.split_once(' ').unwrap_or((column, ""));
+        if name == scope {
+            return Some(words);
+        }
     }
-    Ok(rest)
+    None
 }
 
-/// Appends the number of a service's datagrams, and their capture.
-fn put_given(alloc: Global, due: &mut Due, name: &str, given: &[Datagram]) -> Result<(), Fail> {
-    write!(&mut due.report, "{name},datagrams,{}\n", given.len())?;
-    due.captures.push(capture_of(alloc, given)?)?;
+/// Fails where there is a column of another scope, or a second one of a scope.
+fn expect_scopes(columns: &str, services: &[Service]) -> Result<(), Fail> {
+    let mut scopes = 0usize;
+    for scope in ["stream", "table", ""] {
+        scopes = scopes.saturating_add(usize::from(column_of(columns, scope).is_some()));
+    }
+    for service in services {
+        let (name, _) = *service;
+        scopes = scopes.saturating_add(usize::from(column_of(columns, name).is_some()));
+    }
+    if scopes != columns.split('|').count() {
+        return Err(Fail::new(format_args!("other columns in {columns}")));
+    }
     Ok(())
 }
 
 /// Appends the lines of a service, and its capture.
 fn put_service(alloc: Global, due: &mut Due, service: &Service, words: &str) -> Result<(), Fail> {
     let (name, list) = *service;
-    let rest = put_lines(&mut due.report, name, SERVICE_LINES, words)?;
-    let (numbers, rest) = take(rest, "gives", " ", "|", "");
-    end_of(rest)?;
+    let (words, numbers) = words.split_once("gives").unwrap_or((words, ""));
     let given = datagrams_of(alloc, list, numbers)?;
-    put_given(alloc, due, name, &given)
+    let words = format!(in alloc; "{words} datagrams={}", given.len())?;
+    put_scope(&mut due.report, name, &words)?;
+    due.captures.push(capture_of(alloc, &given)?)?;
+    Ok(())
 }
 
 /// Appends the lines of the table.
 fn put_table(report: &mut String, words: &str) -> Result<(), Fail> {
-    let rest = put_lines(report, "table", TABLE_LINES, words)?;
-    let (version, rest) = take(rest, "version", "=", " ", "");
+    let (words, rules) = words.split_once("rules").unwrap_or((words, ""));
+    let (words, version) = words.split_once("version=").unwrap_or((words, ""));
+    put_scope(report, "table", words)?;
     if !version.is_empty() {
-        write!(report, "table,version,{version}\n")?;
+        write!(report, "table,version,{}\n", version.trim())?;
     }
-    let (rules, rest) = take(rest, "rules", " ", "|", "");
-    let mut tag = 0u32;
-    for rule in rules.split_whitespace() {
+    for (tag, rule) in rules.split_whitespace().enumerate() {
         write!(report, "rule,{rule},{tag}\n")?;
-        tag = tag.saturating_add(1);
     }
-    end_of(rest)
+    Ok(())
 }
 
-/// Appends what the columns of a service say, and returns those after them: of `whole`, and of the case.
-fn put_next<'a>(
-    alloc: Global,
-    due: &mut Due,
-    service: &Service,
-    whole: &'a str,
-    columns: &'a str,
-) -> Result<(&'a str, &'a str), Fail> {
-    let (name, _) = *service;
-    let (otherwise, whole) = take(whole, name, " ", "|", "");
-    let (words, columns) = take(columns, name, " ", "|", otherwise);
-    put_service(alloc, due, service, words)?;
-    Ok((whole, columns))
+/// The words of a scope: those of a case, or of `whole` where it has none.
+fn words_of<'a>(reception: &Reception<'a>, columns: &'a str, scope: &str) -> Option<&'a str> {
+    match column_of(columns, scope) {
+        Some(words) => Some(words),
+        None => column_of(reception.whole, scope),
+    }
 }
 
 /// Appends what the columns of a case say.
@@ -113,36 +101,27 @@ fn put_columns<'a>(
     reception: &Reception<'a>,
     columns: &'a str,
 ) -> Result<(), Fail> {
-    let (otherwise, after) = take(reception.whole, "stream", " ", "|", "");
-    let mut whole = after;
-    let (words, after) = take(columns, "stream", " ", "|", otherwise);
-    let mut rest = after;
-    end_of(put_lines(&mut due.report, "stream", STREAM_LINES, words)?)?;
+    expect_scopes(columns, reception.services)?;
+    expect_scopes(reception.whole, reception.services)?;
+    let stream = words_of(reception, columns, "stream").ok_or("no stream")?;
+    put_scope(&mut due.report, "stream", stream)?;
     for service in reception.services {
-        let (whole_after, rest_after) = put_next(alloc, due, service, whole, rest)?;
-        whole = whole_after;
-        rest = rest_after;
+        let (name, _) = *service;
+        let words = words_of(reception, columns, name).ok_or("no service")?;
+        put_service(alloc, due, service, words)?;
     }
-    let (otherwise, whole) = take(whole, "table", " ", "|", "");
-    let (words, rest) = take(rest, "table", " ", "|", otherwise);
-    if !words.is_empty() {
-        put_table(&mut due.report, words)?;
+    match words_of(reception, columns, "table") {
+        Some(table) => put_table(&mut due.report, table),
+        None => Ok(()),
     }
-    end_of(whole)?;
-    end_of(rest)
 }
 
 /// The file of a service, all of it flushed.
 fn file_of<'a>(service: &Service, bytes: &'a [u8]) -> FileLeft<'a> {
     let (name, _) = *service;
-    let name = match name {
-        "lecture" => "lecture.pcap",
-        _ => "files.pcap",
-    };
-    FileLeft {
-        name,
-        bytes,
-        flushed: bytes.len(),
+    match name {
+        "lecture" => FileLeft::whole("lecture.pcap", bytes),
+        _ => FileLeft::whole("files.pcap", bytes),
     }
 }
 
@@ -169,12 +148,7 @@ fn leaves(
 ) -> Result<(), Fail> {
     let settings = settings_of(alloc, reception.settings)?;
     let files = files_of(alloc, reception.services, &due.captures)?;
-    let left = Left {
-        output: due.report.as_bytes(),
-        flushed: due.report.len(),
-        line: "",
-        files: &files,
-    };
+    let left = Left::flushed(due.report.as_bytes(), "", &files);
     let given = faultless(&["receive", "a.toml"], settings.as_bytes(), recording);
     expect(alloc, case, &given, Status::Done, &left)
 }

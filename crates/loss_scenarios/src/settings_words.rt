@@ -16,10 +16,12 @@ pid = 514
 
 /// Appends a list of texts.
 fn put_list(text: &mut String, items: &str) -> Result<(), OutOfMemory> {
-    let mut before = "[";
-    for item in items.split(',') {
-        write!(text, "{before}\"{item}\"")?;
-        before = ", ";
+    text.push_str("[")?;
+    for (number, item) in items.split(',').enumerate() {
+        if number > 0 {
+            text.push_str(", ")?;
+        }
+        write!(text, "\"{item}\"")?;
     }
     text.push_str("]\n")
 }
