@@ -113,8 +113,8 @@ fn stream(alloc: Global) -> Result<Vec<u8>, Fail> {
 
 /// What happens to the frames, in the columns of `harmed`: the datagram of 800 bytes is 0, the urgent one is 1.
 const LOSSES: &str = "nothing||records=4|heard=4 units=2|1 0
-the frame with the urgent datagram|1-1|records=3|heard=3 bad_length=1|
-the first frame|0-0|records=3|heard=3 units=1 delimited=3|1";
+the frame with the urgent datagram|1|records=3|heard=3 bad_length=1|
+the first frame|0|records=3|heard=3 units=1 delimited=3|1";
 
 const SENT: [Sent; 1] = [Sent {
     name: "both",

@@ -1,14 +1,13 @@
 //! What comes of frames that are lost or damaged: tables of text, a case a line, in columns with `|` between.
 //!
 //! 1. What is lost.
-//! 2. Harms: `2-6` loses the frames from 2 to 6, `5@0^16` flips the bits 16 of byte 0 of frame 5, `11@299` cuts frame 11 at byte 299.
+//! 2. What happens to the frames, as `2-6` or `5@0^10`, in the words of `test_recordings::left_of`.
 //! 3. Lines of the report about the stream, as `records=12 unreadable=3`. Here and below, what is not named is 0.
-//! 4. For each service its lines, as `heard=7 units=8`, and the numbers of the datagrams that it gives, in order.
+//! 4. For each service its lines, as `heard=7 units=8`, and the numbers of the datagrams that it gives, in order, as `0-2 4`.
 use crate::report::{Due, Form, ServiceDue, comes};
 use std::alloc::Global;
 use std::test::Fail;
-use test_recordings::Harm::{self, Cut, Drop, Flip};
-use test_recordings::{Datagram, damaged};
+use test_recordings::{Datagram, left_of};
 
 /// A service, its file, and the datagrams that it was sent.
 #[derive(Clone, Copy)]
@@ -18,44 +17,15 @@ pub struct Sent<'a> {
     pub datagrams: &'a [Datagram],
 }
 
-/// A harm by its word.
-fn harm_of(word: &str) -> Result<Harm, Fail> {
-    if let Some((first, last)) = word.split_once('-') {
-        return Ok(Drop {
-            first: first.parse()?,
-            last: last.parse()?,
-        });
-    }
-    let (record, place) = word.split_once('@').ok_or("no harm")?;
-    let record = record.parse()?;
-    match place.split_once('^') {
-        Some((place, bits)) => Ok(Flip {
-            record,
-            place: place.parse()?,
-            bits: bits.parse()?,
-        }),
-        None => Ok(Cut {
-            record,
-            place: place.parse()?,
-        }),
-    }
-}
-
-/// What is left of a stream after the harms of words.
-fn left_of(alloc: Global, stream: &[u8], size: usize, words: &str) -> Result<Vec<u8>, Fail> {
-    let mut harms = Vec::new(alloc);
-    for word in words.split_whitespace() {
-        harms.push(harm_of(word)?)?;
-    }
-    Ok(damaged(alloc, stream, size, &harms)?)
-}
-
 /// What the columns of all services say.
 fn dues_of<'a>(
     alloc: Global,
     sent: &[Sent<'a>],
     columns: &'a str,
 ) -> Result<Vec<ServiceDue<'a>>, Fail> {
+    if columns.split('|').count() != sent.len().saturating_mul(2) {
+        return Err("other columns".into());
+    }
     let mut dues = Vec::new(alloc);
     let mut columns = columns.split('|');
     for service in sent {

@@ -71,11 +71,11 @@ fn frames_of(alloc: Global, datagram: &Datagram, lines: &str) -> Result<Vec<u8>,
 }
 
 /// What happens to the five frames, in the columns of `harmed`: the datagram of 800 bytes is 0, that of 400 is 1.
-const LOSSES: &str = "nothing||records=5|heard=5 units=2|0 1
-the middle of the first|1-1|records=4|heard=4 units=1 bad_length=1|1
+const LOSSES: &str = "nothing||records=5|heard=5 units=2|0-1
+the middle of the first|1|records=4|heard=4 units=1 bad_length=1|1
 the header of that frame|1@4^8|records=5 unreadable=1|heard=4 units=1 bad_length=1|1
-the first|0-0|records=4|heard=4 units=1 delimited=2|1
-the end of the first|2-2|records=4|heard=4 units=1|1
+the first|0|records=4|heard=4 units=1 delimited=2|1
+the end of the first|2|records=4|heard=4 units=1|1
 the end of the first, and the beginning of the second|2-3|records=3|heard=3 bad_length=1|";
 
 const SENT: [Sent; 1] = [Sent {

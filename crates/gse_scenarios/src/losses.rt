@@ -42,25 +42,24 @@ const LECTURE: [u16; 8] = [40, 50, 600, 30, 60, 1000, 20, 44];
 const FILES: [u16; 6] = [100, 120, 700, 25, 290, 21];
 
 /// Each column is said in `harmed`.
-const LOSSES: &str =
-    "nothing||records=12|heard=7 units=8|0 1 2 3 4 5 6 7|heard=5 units=6|0 1 2 3 4 5
-frame 0|0-0|records=11|heard=6 units=5 delimited=2|3 4 5 6 7|heard=5 units=6|0 1 2 3 4 5
-frame 3|3-3|records=11|heard=7 units=8|0 1 2 3 4 5 6 7|heard=4 units=5 bad_length=1|0 1 3 4 5
-frame 4|4-4|records=11|heard=6 units=4 delimited=4|0 1 6 7|heard=5 units=6|0 1 2 3 4 5
-frame 6|6-6|records=11|heard=6 units=7 bad_length=1|0 1 2 3 4 6 7|heard=5 units=6|0 1 2 3 4 5
-frame 7|7-7|records=11|heard=7 units=8|0 1 2 3 4 5 6 7|heard=4 units=3 delimited=1|0 1 5
-frame 9|9-9|records=11|heard=7 units=8|0 1 2 3 4 5 6 7|heard=4 units=4|0 1 2 3
-frame 11|11-11|records=11|heard=6 units=5|0 1 2 3 4|heard=5 units=6|0 1 2 3 4 5
-the frames from 2 to 6|2-6|records=7|heard=4 units=4 delimited=3|0 1 6 7|heard=3 units=5 bad_length=1|0 1 3 4 5
-all but the last three|0-8|records=3|heard=2 units=2 delimited=2|6 7|heard=1 units=1 delimited=1|5
-every other frame|1-1 3-3 5-5 7-7 9-9 11-11|records=6|heard=6 units=5|0 1 2 3 4||
-headers of three frames|0@9^255 5@0^16 8@4^4|records=12 unreadable=3|heard=5 units=4 delimited=2 bad_length=1|3 4 6 7|heard=4 units=5 bad_length=1|0 1 3 4 5
-the end of the recording, in the last frame|11@299|records=11 tail_bytes=299|heard=6 units=5|0 1 2 3 4|heard=5 units=6|0 1 2 3 4 5
+const LOSSES: &str = "nothing||records=12|heard=7 units=8|0-7|heard=5 units=6|0-5
+frame 0|0|records=11|heard=6 units=5 delimited=2|3-7|heard=5 units=6|0-5
+frame 3|3|records=11|heard=7 units=8|0-7|heard=4 units=5 bad_length=1|0-1 3-5
+frame 4|4|records=11|heard=6 units=4 delimited=4|0-1 6-7|heard=5 units=6|0-5
+frame 6|6|records=11|heard=6 units=7 bad_length=1|0-4 6-7|heard=5 units=6|0-5
+frame 7|7|records=11|heard=7 units=8|0-7|heard=4 units=3 delimited=1|0-1 5
+frame 9|9|records=11|heard=7 units=8|0-7|heard=4 units=4|0-3
+frame 11|11|records=11|heard=6 units=5|0-4|heard=5 units=6|0-5
+the frames from 2 to 6|2-6|records=7|heard=4 units=4 delimited=3|0-1 6-7|heard=3 units=5 bad_length=1|0-1 3-5
+all but the last three|0-8|records=3|heard=2 units=2 delimited=2|6-7|heard=1 units=1 delimited=1|5
+every other frame|1 3 5 7 9 11|records=6|heard=6 units=5|0-4||
+headers of three frames|0@9^FF 5@0^10 8@4^4|records=12 unreadable=3|heard=5 units=4 delimited=2 bad_length=1|3-4 6-7|heard=4 units=5 bad_length=1|0-1 3-5
+the end of the recording, in the last frame|11@299|records=11 tail_bytes=299|heard=6 units=5|0-4|heard=5 units=6|0-5
 all|0-11|||||";
 
 /// Whichever byte of a header is damaged, its CRC-8 shows it: what the columns after the harm say.
 const HEADER: &str =
-    "records=12 unreadable=1|heard=7 units=8|0 1 2 3 4 5 6 7|heard=4 units=5 bad_length=1|0 1 3 4 5";
+    "records=12 unreadable=1|heard=7 units=8|0-7|heard=4 units=5 bad_length=1|0-1 3-5";
 
 /// The datagram of a size: to 239.1.0.1, that of the lecture, or 239.2.0.1, that of the files.
 fn datagram(group: u8, size: u16) -> Datagram {

@@ -8,10 +8,10 @@
 //!    the datagram, and the other words are its lines in the report. What is not named is 0.
 //!
 //! All carry the same datagram, so that it is enough to say how often it is given. An independent program worked out each CRC-8 and CRC-32.
-use crate::report::{Due, Form, ServiceDue, comes, number_of};
+use crate::report::{Due, Form, ServiceDue, comes};
 use std::alloc::{AllocError as OutOfMemory, Global};
 use std::test::Fail;
-use test_recordings::{Datagram, bytes_of};
+use test_recordings::{Datagram, bytes_of, number_of};
 
 const SERVICE: &str = "[[service]]
 name = \"files\"
@@ -130,13 +130,17 @@ fn stream_of(alloc: Global, numbers: &str) -> Result<String, Fail> {
     Ok(format!(in alloc; "records={records} unreadable={unreadable} other={other}")?)
 }
 
-/// The number of the datagram, as often as it is given.
-fn given_of(alloc: Global, numbers: &str) -> Result<String, Fail> {
-    let mut given = "0".to_string(alloc)?;
-    for _ in 0..number_of(numbers, "given")? {
-        given.push_str(" 0")?;
+/// What the report says of the service, which has the good frame too.
+fn service_of(alloc: Global, numbers: &str) -> Result<String, Fail> {
+    let mut words = "heard=1 units=1".to_string(alloc)?;
+    for word in numbers.split_whitespace() {
+        let (name, _) = word.split_once('=').ok_or("no number")?;
+        match name {
+            "unreadable" | "other" | "given" => {}
+            _ => write!(words, " {word}")?,
+        }
     }
-    Ok(given)
+    Ok(words)
 }
 
 /// Compares what comes of a recording with the numbers of a case and the good frame.
@@ -147,13 +151,14 @@ fn comes_of(
     recording: &[u8],
     numbers: &str,
 ) -> Result<(), Fail> {
-    let with_good = format!(in alloc; "{numbers} heard=1 units=1")?;
+    let of_service = service_of(alloc, numbers)?;
     let stream = stream_of(alloc, numbers)?;
-    let given = given_of(alloc, numbers)?;
+    let given = number_of(numbers, "given")?.saturating_add(1);
+    let given = format!(in alloc; "0*{given}")?;
     let service = ServiceDue {
         name: "files",
         file: "files.pcap",
-        numbers: &with_good,
+        numbers: &of_service,
         sent: &SENT,
         given: &given,
     };

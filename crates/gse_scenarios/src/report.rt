@@ -3,7 +3,9 @@ use scenario_runs::{Status, expect};
 use std::alloc::{AllocError as OutOfMemory, Global};
 use std::test::Fail;
 use test_recordings::settings::settings_of;
-use test_recordings::{Datagram, FileLeft, Given, Left, capture_of, faultless};
+use test_recordings::{
+    Datagram, FileLeft, Given, Left, capture_of, faultless, numbers_in, put_scope,
+};
 
 /// Settings, and how many bytes a frame has under them.
 #[derive(Clone, Copy)]
@@ -20,7 +22,7 @@ pub struct ServiceDue<'a> {
     /// Lines of the report as `heard=7 units=8`. What is not named is 0.
     pub numbers: &'a str,
     pub sent: &'a [Datagram],
-    /// The numbers of the datagrams, as `0 1 3`.
+    /// The numbers of the datagrams, as `0-1 3`.
     pub given: &'a str,
 }
 
@@ -35,70 +37,30 @@ pub struct Due<'a> {
 /// How many bytes the output and the files take.
 const ROOM: usize = 100_000;
 
-const STREAM_LINES: [&str; 5] = [
-    "records",
-    "tail_bytes",
-    "unreadable",
-    "without_payload",
-    "other",
-];
-
-/// The lines of a service, but for the datagrams.
-const SERVICE_LINES: [&str; 12] = [
-    "heard",
-    "repeats",
-    "gaps",
-    "units",
-    "bad_check",
-    "delimited",
-    "bad_length",
-    "unread",
-    "filtered",
-    "frames",
-    "rows_mended",
-    "rows_left",
-];
-
-/// What a line of these numbers says: 0 where none names it, and the sum where several do.
-pub fn number_of(numbers: &str, line: &str) -> Result<u64, Fail> {
-    let mut sum = 0u64;
-    for word in numbers.split_whitespace() {
-        let (name, number) = word.split_once('=').ok_or("no number")?;
-        if name == line {
-            sum = sum.saturating_add(number.parse()?);
-        }
-    }
-    Ok(sum)
-}
-
-/// Appends lines of a service or of the stream.
-fn put_lines(into: &mut String, scope: &str, lines: &[&str], numbers: &str) -> Result<(), Fail> {
-    for line in lines {
-        let number = number_of(numbers, line)?;
-        write!(into, "{scope},{line},{number}\n")?;
-    }
-    Ok(())
+/// Appends the lines of a service.
+fn put_service(alloc: Global, report: &mut String, service: &ServiceDue<'_>) -> Result<(), Fail> {
+    let given = numbers_in(alloc, service.given)?.len();
+    let words = format!(in alloc; "{} datagrams={given}", service.numbers)?;
+    put_scope(report, service.name, &words)
 }
 
 /// The text of the report.
 fn report_of(alloc: Global, due: &Due<'_>) -> Result<String, Fail> {
     let mut text = "scope,name,value\n".to_string(alloc)?;
-    put_lines(&mut text, "stream", &STREAM_LINES, due.stream)?;
+    put_scope(&mut text, "stream", due.stream)?;
     for service in due.services {
-        put_lines(&mut text, service.name, &SERVICE_LINES, service.numbers)?;
-        let given = service.given.split_whitespace().count();
-        write!(text, "{},datagrams,{given}\n", service.name)?;
+        put_service(alloc, &mut text, service)?;
     }
     Ok(text)
 }
 
 /// The datagrams that a service gives.
 fn given_of(alloc: Global, service: &ServiceDue<'_>) -> Result<Vec<Datagram>, Fail> {
+    let numbers = numbers_in(alloc, service.given)?;
     let mut given = Vec::new(alloc);
-    for number in service.given.split_whitespace() {
-        let number: usize = number.parse()?;
-        let datagram = service.sent.get(number).ok_or("no such datagram")?;
-        given.push(*datagram)?;
+    for number in &numbers {
+        let datagram = service.sent.get(usize::from(*number));
+        given.push(*datagram.ok_or("no such datagram")?)?;
     }
     Ok(given)
 }
@@ -121,11 +83,7 @@ fn files_of<'a>(
 ) -> Result<Vec<FileLeft<'a>>, OutOfMemory> {
     let mut files = Vec::new(alloc);
     for (service, bytes) in services.iter().zip(captures) {
-        files.push(FileLeft {
-            name: service.file,
-            bytes,
-            flushed: bytes.len(),
-        })?;
+        files.push(FileLeft::whole(service.file, bytes))?;
     }
     Ok(files)
 }
@@ -159,12 +117,7 @@ pub fn comes(
     let report = report_of(alloc, due)?;
     let captures = captures_of(alloc, due.services)?;
     let files = files_of(alloc, due.services, &captures)?;
-    let left = Left {
-        output: report.as_bytes(),
-        flushed: report.len(),
-        line: "",
-        files: &files,
-    };
+    let left = Left::flushed(report.as_bytes(), "", &files);
     leaves(alloc, case, form, "receive", recording, &left)
 }
 
@@ -190,11 +143,6 @@ pub fn goes_out(
 ) -> Result<(), Fail> {
     let capture = capture_of(alloc, datagrams)?;
     let line = line_of(alloc, datagrams, unrouted)?;
-    let left = Left {
-        output: stream,
-        flushed: stream.len(),
-        line: &line,
-        files: &[],
-    };
+    let left = Left::flushed(stream, &line, &[]);
     leaves(alloc, case, form, "send", &capture, &left)
 }

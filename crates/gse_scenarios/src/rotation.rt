@@ -116,14 +116,14 @@ fn two_come(alloc: Global, form: &Form<'_>) -> Result<(), Fail> {
         name: "s3",
         file: "s3.pcap",
         numbers: "heard=3 units=3",
-        given: "0 1 2",
+        given: "0-2",
         sent: &[datagram(3, 0), datagram(3, 1), datagram(3, 2)],
     };
     let thirteen = ServiceDue {
         name: "s13",
         file: "s13.pcap",
         numbers: "heard=2 units=2",
-        given: "0 1",
+        given: "0-1",
         sent: &[datagram(13, 0), datagram(13, 1)],
     };
     let due = Due {
