@@ -1,4 +1,5 @@
 //! Names -> sections by hand, each with its CRC_32 by an independent program.
+use crate::settings::row_of;
 use std::alloc::Global;
 use std::test::Fail;
 use test_recordings::bytes_of;
@@ -49,12 +50,6 @@ INT_LATER|4CF025 0101 C3 0000 00000100 F000 F0070F05EF02000010 F00B1309000200030
 
 /// The section of a name.
 pub fn section_of(alloc: Global, name: &str) -> Result<Vec<u8>, Fail> {
-    for line in SECTIONS.lines() {
-        let (own, rest) = line.split_once('|').ok_or("no bar")?;
-        if own == name {
-            let (bytes, _) = rest.split_once('|').ok_or("one bar")?;
-            return bytes_of(alloc, bytes);
-        }
-    }
-    Err("no such section".into())
+    let (bytes, _) = row_of(SECTIONS, name)?.split_once('|').ok_or("one bar")?;
+    bytes_of(alloc, bytes)
 }

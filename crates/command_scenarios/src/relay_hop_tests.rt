@@ -1,220 +1,124 @@
-//! One service of IN: `relay IN OUT` is `receive IN`, and then `send OUT` of its capture, byte for byte and line for line.
-use crate::relay_runs::{Relay, expect_relay, faultless_relay};
-use crate::relay_settings::{BURSTS, GSE, SECTIONS, SNDUS};
-use scenario_runs::{Ended, Status, ran, sent};
+//! `relay IN OUT`: a packet with an SNDU by hand, and the packet with its datagram in a section, from RFC 4326 section 4, EN 301 192
+//! clause 7.1 and ISO/IEC 13818-1 clause 2.4. An independent program gave each CRC-32. And one service of IN: a relay is `receive IN`, and
+//! then `send OUT` of its capture, byte for byte and line for line.
+use crate::runs::{Outcome, all_end, done, ends, leaving, reported, three};
+use crate::settings::settings_of;
+use crate::words::{harmed, span_of};
+use scenario_runs::sent;
 use std::alloc::Global;
 use std::test::Fail;
-use test_recordings::Harm::{self, Drop};
-use test_recordings::settings::{FILES, INT, LECTURE, settings_of};
-use test_recordings::{
-    CAPTURE_HEAD, Datagram, Given, Left, damaged, datagram_of, faultless, put_record,
-};
+use test_recordings::{CAPTURE_HEAD, Datagram, datagram_of, put_record};
 
-/// The files move at record 3 to PID 514.
-const MOVED: &str = "cycle = 100
-[[change]]
-at = 3
-[[change.service]]
-name = \"files\"
-pid = 514
-";
+/// The columns are those of `runs`. A packet of PID 256 becomes one of PID 300, with the section to 01-00-5E-01-02-03 (RFC 1112 section 6.4).
+const PACKETS: &str =
+    "a packet|relay,a.toml,b.toml;a=SNDUS;b=SECTIONS|47410010 00 80180800 DATAGRAM 64AEE84A FILL|47412C10 00 3EB0210302C1000001 5E0001 DATAGRAM 599A2733 FILL|offered 1, not IP 0, unrouted 0, too long 0
+a packet and its duplicate|relay,a.toml,b.toml;a=SNDUS;b=SECTIONS|47410010 00 80180800 DATAGRAM 64AEE84A FILL 47410010 00 80180800 DATAGRAM 64AEE84A FILL|47412C10 00 3EB0210302C1000001 5E0001 DATAGRAM 599A2733 FILL|offered 1, not IP 0, unrouted 0, too long 0
+an empty recording|relay,a.toml,b.toml;a=SNDUS;b=SECTIONS|||offered 0, not IP 0, unrouted 0, too long 0";
 
-/// What is sent and damaged on its way.
-#[derive(Clone, Copy)]
-struct Hop<'a> {
-    name: &'a str,
-    inner: &'a [&'a str],
-    outer: &'a [&'a str],
-    /// How many datagrams are sent, at most 256, and how many bytes each has. Number n is for 239.x.0.n, with x from these in turn.
-    count: u8,
-    bytes: u16,
-    networks: &'a [u8],
-    /// What happens to the records, of this size.
-    record: usize,
-    harms: &'a [Harm],
-    /// The numbers of the datagrams that do not arrive, from the first to before the last.
-    lost: (u8, u8),
+/// What it is; IN; OUT; the form of the datagrams; the numbers of those that are sent under IN; the bytes of a record, and what happens to the
+/// records, in the harms of `words`; the numbers of those that arrive.
+///
+/// `169 219` are datagrams of 169 bytes, of which number n is for 239.x.0.n, with x from these digits in turn. SNDUs of 183 bytes stand one in
+/// each packet. Of 20 sections of 1,016 bytes (EN 301 192 clause 7.1), and 16 of 272 in each burst, 13 fit the first, of 96 packets. TO_514 is
+/// a change at record 3: the records of OUT's change are the datagrams that are delivered.
+const HOPS: &str = "SNDUs to sections|SNDUS|SECTIONS|169 1|0-5|188|0-5
+SNDUs to sections, and two packets are lost|SNDUS|SECTIONS|169 1|0-5|188 1-2|0 3-5
+bursts to GSE|BURSTS|GSE|1000 1|0-19|196|0-19
+bursts to GSE, and a lost packet is corrected|BURSTS|GSE|1000 1|0-19|196 20|0-19
+bursts to GSE, and a burst is lost|BURSTS|GSE|1000 1|0-19|196 10-200|13-19
+GSE to bursts|GSE|BURSTS|1000 1|0-19|300|0-19
+one service sorted into two, and what neither takes|SNDUS|LECTURE+FILES|169 219|0-5|188|0-5
+a change in IN|TO_514+INT+FILES|SECTIONS|169 2|0-5|188|0-5
+a change in OUT|SNDUS|TO_514+INT+FILES|169 2|0-5|188|0-5
+a change in OUT, and the first packet is lost|SNDUS|TO_514+INT+FILES|169 2|0-5|188 0|1-5
+a change in both|TO_514+INT+FILES|TO_514+INT+FILES|169 2|0-5|188|0-5";
+
+#[test]
+fn a_packet_of_an_sndu_becomes_one_of_a_section(rt: HostRuntime) -> Result<(), Fail> {
+    all_end(rt.alloc(), PACKETS)
 }
 
-/// SNDUs of 183 bytes, one in each packet.
-const PLAIN: Hop = Hop {
-    name: "SNDUs to sections",
-    inner: &[SNDUS],
-    outer: &[SECTIONS],
-    count: 6,
-    bytes: 169,
-    networks: &[1],
-    record: 188,
-    harms: &[],
-    lost: (0, 0),
-};
-
-/// 20 sections of 1,016 bytes (EN 301 192 clause 7.1), and 16 of 272 in each burst: 13 datagrams fit the first, of 96 packets.
-const FROM_BURSTS: Hop = Hop {
-    name: "bursts to GSE",
-    inner: &[BURSTS],
-    outer: &[GSE],
-    count: 20,
-    bytes: 1000,
-    record: 196,
-    ..PLAIN
-};
-
-static HOPS: [Hop; 11] = [
-    PLAIN,
-    Hop {
-        name: "SNDUs to sections, and two packets are lost",
-        harms: &[Drop { first: 1, last: 2 }],
-        lost: (1, 3),
-        ..PLAIN
-    },
-    FROM_BURSTS,
-    Hop {
-        name: "bursts to GSE, and a lost packet is corrected",
-        harms: &[Drop {
-            first: 20,
-            last: 20,
-        }],
-        ..FROM_BURSTS
-    },
-    Hop {
-        name: "bursts to GSE, and a burst is lost",
-        harms: &[Drop {
-            first: 10,
-            last: 200,
-        }],
-        lost: (0, 13),
-        ..FROM_BURSTS
-    },
-    Hop {
-        name: "GSE to bursts",
-        inner: &[GSE],
-        outer: &[BURSTS],
-        bytes: 1000,
-        count: 20,
-        record: 300,
-        ..PLAIN
-    },
-    Hop {
-        name: "one service sorted into two, and what neither takes",
-        outer: &[LECTURE, FILES],
-        networks: &[2, 1, 9],
-        ..PLAIN
-    },
-    Hop {
-        name: "a change in IN",
-        inner: &[MOVED, INT, FILES],
-        networks: &[2],
-        ..PLAIN
-    },
-    // the records of OUT's change are the datagrams that are delivered
-    Hop {
-        name: "a change in OUT",
-        outer: &[MOVED, INT, FILES],
-        networks: &[2],
-        ..PLAIN
-    },
-    Hop {
-        name: "a change in OUT, and the first packet is lost",
-        outer: &[MOVED, INT, FILES],
-        networks: &[2],
-        harms: &[Drop { first: 0, last: 0 }],
-        lost: (0, 1),
-        ..PLAIN
-    },
-    Hop {
-        name: "a change in both",
-        inner: &[MOVED, INT, FILES],
-        outer: &[MOVED, INT, FILES],
-        networks: &[2],
-        ..PLAIN
-    },
-];
-
-/// Appends datagram n.
-fn put_numbered(alloc: Global, into: &mut Vec<u8>, hop: &Hop<'_>, number: u8) -> Result<(), Fail> {
-    let network = hop.networks.iter().cycle().nth(usize::from(number));
-    let datagram = Datagram {
-        size: hop.bytes,
-        to: [239, *network.ok_or("no network")?, 0, number],
-    };
-    put_record(into, &datagram_of(alloc, &datagram)?)
+/// Datagram n of a form.
+fn datagram_in(form: &str, number: usize) -> Result<Datagram, Fail> {
+    let (size, networks) = form.split_once(' ').ok_or("no networks")?;
+    let network = networks.as_bytes().iter().cycle().nth(number);
+    let network = network.ok_or("no network")?.wrapping_sub(b'0');
+    Ok(Datagram {
+        size: size.parse()?,
+        to: [239, network, 0, u8::try_from(number)?],
+    })
 }
 
-/// The capture of all datagrams but those from a number to before another.
-fn capture_without(alloc: Global, hop: &Hop<'_>, lost: (u8, u8)) -> Result<Vec<u8>, Fail> {
-    let (first, last) = lost;
+/// Appends the datagrams of a span of numbers.
+fn put_span(alloc: Global, into: &mut Vec<u8>, form: &str, span: &str) -> Result<(), Fail> {
+    let (first, last) = span_of(span)?;
+    for number in first..last.saturating_add(1) {
+        put_record(into, &datagram_of(alloc, &datagram_in(form, number)?)?)?;
+    }
+    Ok(())
+}
+
+/// The capture of the datagrams with these numbers.
+fn capture_of(alloc: Global, form: &str, numbers: &str) -> Result<Vec<u8>, Fail> {
     let mut capture = Vec::from_slice(alloc, &CAPTURE_HEAD)?;
-    for number in 0..hop.count {
-        if number < first || last <= number {
-            put_numbered(alloc, &mut capture, hop, number)?;
-        }
+    for span in numbers.split_whitespace() {
+        put_span(alloc, &mut capture, form, span)?;
     }
     Ok(capture)
 }
 
-/// What is left of the stream.
-fn recording_of(alloc: Global, hop: &Hop<'_>, settings: &str) -> Result<Vec<u8>, Fail> {
-    let capture = capture_without(alloc, hop, (0, 0))?;
-    let stream = sent(alloc, settings, &capture, 300_000)?;
-    Ok(damaged(alloc, &stream, hop.record, hop.harms)?)
+/// The stream of these datagrams.
+fn stream_of(alloc: Global, settings: &str, form: &str, numbers: &str) -> Result<Vec<u8>, Fail> {
+    let settings = settings_of(alloc, settings)?;
+    let capture = capture_of(alloc, form, numbers)?;
+    sent(alloc, &settings, &capture, 300_000)
 }
 
-/// Runs `receive` or `send`.
-fn ran_alone(alloc: Global, word: &str, settings: &str, input: &[u8]) -> Result<Ended, Fail> {
-    let words = [word, "a.toml"];
-    let given = Given {
-        room: 300_000,
-        ..faultless(&words, settings.as_bytes(), input)
-    };
-    let ended = ran(alloc, &given)?;
-    if ended.status != Status::Done {
-        return Err("not done".into());
-    }
-    Ok(ended)
+/// The relay of a case, IN and OUT leaves what this run of `send` has left.
+fn leaves(alloc: Global, names: [&str; 3], input: &[u8], due: &Outcome) -> Result<(), Fail> {
+    let [case, inner, outer] = names;
+    let line = reported(due)?;
+    let call = format!(in alloc; "relay,a.toml,b.toml;a={inner};b={outer};room=300000")?;
+    ends(alloc, case, &leaving(&call, input, &due.output, line))
 }
 
-/// Compares what is received with what is due, and answers how it is sent again.
-fn hopped(
-    alloc: Global,
-    hop: &Hop<'_>,
-    inner: &str,
-    outer: &str,
-    recording: &[u8],
-) -> Result<Ended, Fail> {
-    let received = ran_alone(alloc, "receive", inner, recording)?;
-    if received.outside.rack.files() != 1 {
-        return Err("another number of files".into());
-    }
-    let capture = received.outside.rack.file(0);
-    let due = capture_without(alloc, hop, hop.lost)?;
-    if capture != due.as_slice() {
+/// The relay of a case, IN and OUT leaves what `send OUT` leaves of a capture.
+pub fn resends(alloc: Global, names: [&str; 3], input: &[u8], capture: &[u8]) -> Result<(), Fail> {
+    let due = done(alloc, &["send", "a.toml"], names[2], capture)?;
+    leaves(alloc, names, input, &due)
+}
+
+/// `receive` leaves this capture alone.
+fn is_received(alloc: Global, names: &str, input: &[u8], capture: &[u8]) -> Result<(), Fail> {
+    let received = done(alloc, &["receive", "a.toml"], names, input)?;
+    if received.files != 1 || received.file.as_slice() != capture {
         return Err("another capture".into());
     }
-    ran_alone(alloc, "send", outer, capture)
+    Ok(())
 }
 
-/// The relay leaves what the two runs leave.
-fn is_both(alloc: Global, hop: &Hop<'_>) -> Result<(), Fail> {
-    let inner = settings_of(alloc, hop.inner)?;
-    let outer = settings_of(alloc, hop.outer)?;
-    let recording = recording_of(alloc, hop, &inner)?;
-    let due = hopped(alloc, hop, &inner, &outer, &recording)?;
-    let output = due.outside.output.bytes();
-    let left = Left {
-        output,
-        flushed: output.len(),
-        line: std::str::from_utf8(due.outside.complaints.bytes())?,
-        files: &[],
-    };
-    let relay = faultless_relay(&inner, &outer, &recording);
-    expect_relay(alloc, hop.name, &relay, Status::Done, &left)
+/// The recording by the numbers and the harms of a line.
+fn recorded(alloc: Global, inner: &str, form: &str, rest: &str) -> Result<Vec<u8>, Fail> {
+    let (numbers, harms, _) = three(rest)?;
+    let stream = stream_of(alloc, inner, form, numbers)?;
+    harmed(alloc, &stream, harms)
+}
+
+/// The relay of a line leaves what the two runs leave.
+fn hops(alloc: Global, line: &str) -> Result<(), Fail> {
+    let (case, inner, rest) = three(line)?;
+    let (outer, form, rest) = three(rest)?;
+    let (_, arriving) = rest.rsplit_once('|').ok_or("no numbers")?;
+    let recording = recorded(alloc, inner, form, rest)?;
+    let capture = capture_of(alloc, form, arriving)?;
+    is_received(alloc, inner, &recording, &capture)?;
+    resends(alloc, [case, inner, outer], &recording, &capture)
 }
 
 #[test]
 fn a_relay_receives_and_sends_again(rt: HostRuntime) -> Result<(), Fail> {
-    for hop in &HOPS {
-        is_both(rt.alloc(), hop)?;
+    for line in HOPS.lines() {
+        hops(rt.alloc(), line)?;
     }
     Ok(())
 }
@@ -222,17 +126,8 @@ fn a_relay_receives_and_sends_again(rt: HostRuntime) -> Result<(), Fail> {
 /// Where both names are of one file, the stream goes out as it was sent.
 #[test]
 fn one_file_may_be_both_settings(rt: HostRuntime) -> Result<(), Fail> {
-    let stream = recording_of(rt.alloc(), &PLAIN, SNDUS)?;
-    let left = Left {
-        output: &stream,
-        flushed: stream.len(),
-        line: "ipencap: offered 6, not IP 0, unrouted 0, too long 0\n",
-        files: &[],
-    };
-    let relay = Relay {
-        names: ["a.toml", "a.toml"],
-        outer: None,
-        ..faultless_relay(SNDUS, "", &stream)
-    };
-    expect_relay(rt.alloc(), "one file", &relay, Status::Done, &left)
+    let stream = stream_of(rt.alloc(), "SNDUS", "169 1", "0-5")?;
+    let line = "offered 6, not IP 0, unrouted 0, too long 0";
+    let run = leaving("relay,a.toml,a.toml;a=SNDUS", &stream, &stream, line);
+    ends(rt.alloc(), "one file", &run)
 }

@@ -1,128 +1,99 @@
-//! `tables SETTINGS`: the packets of PAT, PMTs and INT, byte for byte.
-use crate::discovery_recordings::recording_of;
-use scenario_runs::{Status, expect};
+//! `tables SETTINGS`: the packets of PAT, PMTs and INT, byte for byte. The columns are those of `runs`.
+use crate::runs::{all_end, done_under, ends, leaving};
+use crate::settings::settings_of;
 use std::alloc::Global;
 use std::test::Fail;
-use test_recordings::settings::{FILES, INT, LECTURE, STAMPED, settings_of};
-use test_recordings::{Left, faultless};
 
-/// A lecture in sliced frames, component 1 of service 10.
-const SLICED: &str = "[[service]]
-name = \"lecture\"
-kind = \"fec\"
-pid = 512
-mode = \"sliced\"
-rows = 1024
-window_start = 100
-window_length = 1500
-service_id = 10
-component_tag = 1
-rules = [\"239.1.0.0/16\"]
-";
-
-/// What the lecture, or the files, have beside.
-const FIRST: &str = "service_id = 10\ncomponent_tag = 1\n";
-
-const SECOND: &str = "service_id = 10\ncomponent_tag = 2\n";
-
-/// The files move to the PID on which a PMT could be.
-const MOVED: &str = "[[change]]\nat = 3\n[[change.service]]\nname = \"files\"\npid = 8189\n";
-
-/// The INT on the first PID that a PMT could have.
-const INT_8190: &str = "[int]
-pid = 8190
-platform_id = 1
-network_id = 2
-original_network_id = 3
-transport_stream_id = 4
-";
-
-/// A service of baseband frames.
-const GSE: &str = "carrier = \"bb\"
-[[service]]
-name = \"files\"
-kind = \"gse\"
-isi = 0
-rules = [\"239.2.0.0/16\"]
-";
-
-/// Settings, and the packets of their tables.
-#[derive(Clone, Copy)]
-struct Case<'a> {
-    name: &'a str,
-    settings: &'a [&'a str],
-    packets: &'a str,
-}
-
-static CASES: [Case; 7] = [
-    Case {
-        name: "two components of one service, under time stamps",
-        settings: &[STAMPED, INT, SLICED, FILES, SECOND],
-        packets: "PAT@0 PMT@8190 INT_SLICED@600",
-    },
-    Case {
-        name: "under other time stamps",
-        settings: &["recording = \"m2ts\"\n", INT, LECTURE, FIRST, FILES, SECOND],
-        packets: "PAT@0 PMT@8190 INT@600",
-    },
-    Case {
-        name: "no INT",
-        settings: &[LECTURE, FIRST, FILES, SECOND],
-        packets: "",
-    },
-    Case {
-        name: "baseband frames",
-        settings: &[GSE],
-        packets: "",
-    },
-    Case {
-        name: "a service_id of 0",
-        settings: &[
-            INT,
-            LECTURE,
-            FIRST,
-            FILES,
-            "service_id = 0\ncomponent_tag = 2\n",
-        ],
-        packets: "PAT@0 PMT_FIRST@8190 INT_10_AND_0@600",
-    },
-    Case {
-        name: "programs are in rising order",
-        settings: &[
-            INT,
-            LECTURE,
-            "service_id = 11\ncomponent_tag = 1\n",
-            FILES,
-            SECOND,
-        ],
-        packets: "PAT_RISING@0 PMT_SECOND@8190 PMT_11_FIRST@8189 INT_11_AND_10@600",
-    },
-    Case {
-        name: "PIDs of the INT and of a later version are left out",
-        settings: &[INT_8190, LECTURE, FIRST, FILES, SECOND, MOVED],
-        packets: "PAT_8188@0 PMT@8188 INT@8190",
-    },
-];
-
-/// What settings give is what they must give: the packets, flushed.
-fn gives(alloc: Global, case: &Case<'_>) -> Result<(), Fail> {
-    let settings = settings_of(alloc, case.settings)?;
-    let packets = recording_of(alloc, case.packets)?;
-    let left = Left {
-        output: &packets,
-        flushed: packets.len(),
-        line: "",
-        files: &[],
-    };
-    let given = faultless(&["tables", "a.toml"], settings.as_bytes(), &[]);
-    expect(alloc, case.name, &given, Status::Done, &left)
-}
+/// M2TS are other time stamps. TO_8189 moves the files to the PID on which a PMT could be.
+const CASES: &str =
+    "two components of one service, under time stamps|tables,a.toml;a=STAMPED+INT+SLICED+FILES+TAG_2||PAT@0 PMT@8190 INT_SLICED@600|
+under other time stamps|tables,a.toml;a=M2TS+INT+LECTURE+TAG_1+FILES+TAG_2||PAT@0 PMT@8190 INT@600|
+no INT|tables,a.toml;a=LECTURE+TAG_1+FILES+TAG_2|||
+baseband frames|tables,a.toml;a=BASEBAND|||
+a service_id of 0|tables,a.toml;a=INT+LECTURE+TAG_1+FILES+TAG_2_OF_0||PAT@0 PMT_FIRST@8190 INT_10_AND_0@600|
+programs are in rising order|tables,a.toml;a=INT+LECTURE+TAG_1_OF_11+FILES+TAG_2||PAT_RISING@0 PMT_SECOND@8190 PMT_11_FIRST@8189 INT_11_AND_10@600|
+PIDs of the INT and of a later version are left out|tables,a.toml;a=INT_8190+LECTURE+TAG_1+FILES+TAG_2+TO_8189||PAT_8188@0 PMT@8188 INT@8190|";
 
 /// ISO/IEC 13818-1 clause 2.4.4, EN 301 192 clause 8.4: each table once, with counters from 0.
 #[test]
 fn tables_are_written_packet_by_packet(rt: HostRuntime) -> Result<(), Fail> {
-    for case in &CASES {
-        gives(rt.alloc(), case)?;
+    all_end(rt.alloc(), CASES)
+}
+
+/// Settings of 64 programs: service n of 1 to 64 is on PID 99 + n, has service_id 65 - n, component_tag n and the rule 239.n.0.0/16.
+fn settings_of_many(alloc: Global) -> Result<String, Fail> {
+    let mut text = settings_of(alloc, "INT")?;
+    for n in 1..=64u16 {
+        write!(
+            &mut text,
+            "[[service]]\nname = \"s{n}\"\nkind = \"ule\"\npid = {}\nservice_id = {}\n",
+            n + 99,
+            65 - n
+        )?;
+        write!(
+            &mut text,
+            "component_tag = {n}\nrules = [\"239.{n}.0.0/16\"]\n"
+        )?;
     }
-    Ok(())
+    Ok(text)
+}
+
+/// What `find` prints of them.
+fn text_of_many(alloc: Global) -> Result<String, Fail> {
+    let mut text = "rule,service,tag,pid\n".to_string(alloc)?;
+    for n in 1..=64u16 {
+        write!(&mut text, "239.{n}.0.0/16,{},{n},{}\n", 65 - n, n + 99)?;
+    }
+    Ok(text)
+}
+
+/// PID and continuity_counter of the packet of this number: two of the PAT of 268 bytes, one of each PMT, eight of the INT of 1,426.
+fn head_of(number: usize) -> [u8; 4] {
+    if number < 2 {
+        return if number == 0 {
+            [0x47, 0x40, 0, 0x10]
+        } else {
+            [0x47, 0, 0, 0x11]
+        };
+    }
+    if number < 66 {
+        // 8190 - (number - 2): 1FFE down to 1FBF
+        return [0x47, 0x5F, (0x100 - number) as u8, 0x10];
+    }
+    let counter = ((number - 66) % 16) as u8;
+    let start = if counter == 0 { 0x40 } else { 0 };
+    [0x47, start + 2, 0x58, 0x10 + counter]
+}
+
+/// The number of the first packet with another head, or how many there are.
+fn difference(packets: &[u8]) -> usize {
+    for (number, packet) in packets.chunks(188).enumerate() {
+        if !packet.starts_with(&head_of(number)) {
+            return number;
+        }
+    }
+    packets.len() / 188
+}
+
+/// There are 74 packets with these heads, and `find` names the PID of each service.
+fn are_named(alloc: Global, packets: &[u8]) -> Result<(), Fail> {
+    if difference(packets) != 74 {
+        return Err("a packet with another head".into());
+    }
+    let text = text_of_many(alloc)?;
+    let run = leaving("find,600", packets, text.as_bytes(), "");
+    ends(alloc, "64 programs", &run)
+}
+
+/// The packets of these settings name all services.
+fn are_found(alloc: Global, settings: &str) -> Result<(), Fail> {
+    let done = done_under(alloc, &["tables", "a.toml"], settings, &[])?;
+    are_named(alloc, &done.output)
+}
+
+/// Each program has a PID of its own.
+#[test]
+fn tables_of_64_programs_name_all_services(rt: HostRuntime) -> Result<(), Fail> {
+    let settings = settings_of_many(rt.alloc())?;
+    are_found(rt.alloc(), &settings)
 }
