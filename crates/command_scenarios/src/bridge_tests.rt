@@ -1,7 +1,8 @@
 //! Streams of Ethernet frames byte for byte, there and back, up to a fault, and what else a recording has: by hand from RFC 4326 sections 4
 //! and 5 (SNDUs and their extension headers), ISO/IEC 13818-1 clause 2.4 and TS 102 606-1 clause 4.2 (GSE packets). An independent program
 //! gave each CRC-32 and CRC-8. Where no other columns are named, they are those of `runs`.
-use crate::runs::{Outcome, all_end, columns_end, done, ends, leaving, reported, three};
+use crate::outcomes::{Outcome, done, reported};
+use crate::runs::{all_end, columns_end, ends, leaving, three};
 use crate::words::{bytes_in, harmed};
 use std::alloc::Global;
 use std::test::Fail;

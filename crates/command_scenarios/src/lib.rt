@@ -13,6 +13,8 @@ mod failing_tests;
 #[cfg(test)]
 mod find_tests;
 #[cfg(test)]
+mod outcomes;
+#[cfg(test)]
 mod refused_tests;
 #[cfg(test)]
 mod relay_hop_tests;

@@ -1,7 +1,8 @@
 //! `relay IN OUT`: a packet with an SNDU by hand, and the packet with its datagram in a section, from RFC 4326 section 4, EN 301 192
 //! clause 7.1 and ISO/IEC 13818-1 clause 2.4. An independent program gave each CRC-32. And one service of IN: a relay is `receive IN`, and
 //! then `send OUT` of its capture, byte for byte and line for line.
-use crate::runs::{Outcome, all_end, done, ends, leaving, reported, three};
+use crate::outcomes::{Outcome, done, reported};
+use crate::runs::{all_end, ends, leaving, three};
 use crate::settings::settings_of;
 use crate::words::{harmed, span_of};
 use scenario_runs::sent;

@@ -1,5 +1,6 @@
 //! `tables SETTINGS`: the packets of PAT, PMTs and INT, byte for byte. The columns are those of `runs`.
-use crate::runs::{all_end, done_under, ends, leaving};
+use crate::outcomes::done_under;
+use crate::runs::{all_end, ends, leaving};
 use crate::settings::settings_of;
 use std::alloc::Global;
 use std::test::Fail;
