@@ -9,7 +9,7 @@ ghost use Rattle.bb_demux.specs.Receiving.{IsOn};
 ghost use Rattle.bb_demux.specs.Finding.{AreFresh, is_on_isi};
 
 use bumpalo::Bump;
-use gse_reassembly::{FRAG_IDS, ROOM, Slot};
+use gse_reassembly::{FRAG_IDS, PDU_BUFFER_SIZE, Slot};
 use gse_reception::GseReception;
 use ipe_io::OutOfMemory;
 use plan::{Kind, ServiceList};
@@ -41,7 +41,7 @@ fn empty_slots(arena: &Bump, count: usize) -> Result<Vec<Slot, &Bump>, OutOfMemo
 fn open_receiver(arena: &Bump, isi: u8) -> Result<IsiReceiver<'_>, OutOfMemory>
     ensures opened { IfOk result (λ receiver. (it : ServiceFields) → isi_of it.kind ≡ Some isi → IsOn it receiver []) }
 {
-    let buffer = empty_buffer(arena, ROOM)?;
+    let buffer = empty_buffer(arena, PDU_BUFFER_SIZE)?;
     let slots = empty_slots(arena, FRAG_IDS)?;
     Ok(IsiReceiver {
         isi,

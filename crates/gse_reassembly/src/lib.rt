@@ -8,4 +8,4 @@ mod laws;
 mod slots;
 
 pub use laws::slots_stand_for_packets;
-pub use slots::{FRAG_IDS, Outcome, Part, ROOM, Slot, Slots};
+pub use slots::{FRAG_IDS, Outcome, PDU_BUFFER_SIZE, Part, Slot, Slots};

@@ -14,7 +14,7 @@ const SIZE: usize = 65_540;
 pub const FRAG_IDS: usize = 256;
 
 /// The bytes of the buffer: 65,540 for each Frag ID.
-pub const ROOM: usize = 16_778_240;
+pub const PDU_BUFFER_SIZE: usize = 16_778_240;
 
 /// The bytes of Protocol Type, which Total Length counts.
 const PROTOCOL: usize = 2;

@@ -3,7 +3,7 @@ use crate::bridge_outlet::{outlet_of, text_of};
 use crate::buffers::{empty_slots, zeros};
 use crate::counting_outlet::Noted;
 use bridge_frame::Bridge;
-use gse_reassembly::{FRAG_IDS, ROOM};
+use gse_reassembly::{FRAG_IDS, PDU_BUFFER_SIZE};
 use ipe_io::{Recording, StdSource};
 use recording_reader::{FramePieces, PacketPieces, ReadFault, read_to_end};
 use std::alloc::Global;
@@ -40,7 +40,7 @@ fn of_packets(alloc: Global, bytes: &[u8]) -> Result<String, Fail> {
 
 /// What is delivered of a recording of frames, and how many bytes are left.
 fn of_frames(alloc: Global, bytes: &[u8]) -> Result<String, Fail> {
-    let buffer = zeros(alloc, ROOM)?;
+    let buffer = zeros(alloc, PDU_BUFFER_SIZE)?;
     let mut bridge = Bridge::over(buffer, empty_slots(alloc, FRAG_IDS)?, false);
     bridge.select(7);
     let mut pieces = FramePieces::over(2000, zeros(alloc, 2000)?);

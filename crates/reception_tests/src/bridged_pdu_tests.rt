@@ -6,7 +6,7 @@ use crate::bridge_outlet::{outlet_of, put_text, text_of};
 use crate::buffers::{empty_slots, zeros};
 use crate::counting_outlet::Noted;
 use bridge_frame::Bridge;
-use gse_reassembly::{FRAG_IDS, ROOM};
+use gse_reassembly::{FRAG_IDS, PDU_BUFFER_SIZE};
 use std::alloc::Global;
 use std::test::Fail;
 
@@ -101,7 +101,7 @@ fn receive_all(alloc: Global, bridge: &mut Bridge<Global>) -> Result<(), Fail>
 #[test]
 fn frames_in_pdus_are_delivered(rt: HostRuntime) -> Result<(), Fail> {
     let alloc = rt.alloc();
-    let buffer = zeros(alloc, ROOM)?;
+    let buffer = zeros(alloc, PDU_BUFFER_SIZE)?;
     let mut bridge = Bridge::over(buffer, empty_slots(alloc, FRAG_IDS)?, false);
     bridge.select(7);
     receive_all(alloc, &mut bridge)

@@ -3,7 +3,7 @@ use crate::buffers::{empty_slots, zeros};
 use crate::counting_outlet::{DATAGRAM, Noted, SERVICE, put_deliveries, put_rise};
 use addr_rules::MacList;
 use bb_frame::Frame;
-use gse_reassembly::{FRAG_IDS, ROOM};
+use gse_reassembly::{FRAG_IDS, PDU_BUFFER_SIZE};
 use gse_reception::GseReception;
 use ipe_io::Failed;
 use service_counts::ServiceCounts;
@@ -59,7 +59,7 @@ struct Receiver {
 
 /// A receiver without a filter, whose outlet takes so many datagrams.
 fn new_receiver(alloc: Global, room: u64) -> Result<Receiver, OutOfMemory> {
-    let buffer = zeros(alloc, ROOM)?;
+    let buffer = zeros(alloc, PDU_BUFFER_SIZE)?;
     Ok(Receiver {
         reception: GseReception::over(buffer, empty_slots(alloc, FRAG_IDS)?),
         filter: MacList::new(alloc),

@@ -12,7 +12,7 @@ ghost use Rattle.unbridge_command.specs.Unbridging.{Unbridges, AddsBridge, bridg
 use crate::writing::write_frames;
 use bridge_frame::Bridge;
 use capture_files::{ReceiveFault, add_file};
-use gse_reassembly::{FRAG_IDS, ROOM, Slot};
+use gse_reassembly::{FRAG_IDS, PDU_BUFFER_SIZE, Slot};
 use ipe_io::{AddFault, Failed, OutOfMemory, Rack, Recording, Source};
 use pcap_file::write_ethernet_head;
 use recording_reader::{FramePieces, PacketPieces, Pieces};
@@ -59,7 +59,7 @@ pub fn unbridge_pdus<I: Source, R: Rack>(
 ) -> Result<(), ReceiveFault>
     ensures unbridges { Unbridges result (on_isi isi) (I.told input.old) (I.told input.new) (R.told rack.old) (R.told rack.new) (input.new ≡ input.old) }
 {
-    let buffer = zeros(alloc, ROOM)?;
+    let buffer = zeros(alloc, PDU_BUFFER_SIZE)?;
     let slots = empty_slots(alloc, FRAG_IDS)?;
     let mut bridge = Bridge::over(buffer, slots, false);
     bridge.select(u16::from(isi));
