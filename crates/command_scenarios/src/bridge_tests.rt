@@ -1,7 +1,7 @@
 //! Streams of Ethernet frames byte for byte, there and back, up to a fault, and what else a recording has: by hand from RFC 4326 sections 4
 //! and 5 (SNDUs and their extension headers), ISO/IEC 13818-1 clause 2.4 and TS 102 606-1 clause 4.2 (GSE packets). An independent program
 //! gave each CRC-32 and CRC-8. Where no other columns are named, they are those of `runs`.
-use crate::outcomes::{Outcome, done, reported};
+use crate::outcomes::{Outcome, done};
 use crate::runs::{all_end, columns_end, ends, leaving, three};
 use crate::words::{bytes_in, harmed};
 use std::alloc::Global;
@@ -64,7 +64,7 @@ three fragments|unbridge,gse:7|500700000098000000A6 A0110A003E0001 FF*6 02000000
 the first and the last of them|unbridge,gse:7|500700000098000000A6 A0110A003E0001 FF*6 020000000001 ZEROS 50070000013000000095 70240A 00*31 E8CBF31A ZEROS|ETHERNET|";
 
 /// Frames of all sizes. What it is; the carrier; the bytes of the frames that are captured; the line; the bytes of a packet or baseband frame,
-/// and what happens to them, in the harms of `words`; the bytes of the frames that arrive.
+/// and what happens to them, in the harms of `test_recordings`; the bytes of the frames that arrive.
 ///
 /// A frame has a header of 14 bytes (IEEE Std 802.3 clause 3.1.1). Beside it Length counts 4 bytes of the CRC-32, and 6 of an address that this
 /// SNDU does not have, and is 32,767 at most (RFC 4326 section 4.2); Total Length counts 2 bytes of Protocol Type, and 6 of a label, and is 65,535.
@@ -150,7 +150,7 @@ fn capture_of(alloc: Global, sizes: &str) -> Result<Vec<u8>, Fail> {
 
 /// What is left of the stream of a run that has reported this line, and written no file.
 fn left_of(alloc: Global, done: &Outcome, line: &str, harms: &str) -> Result<Vec<u8>, Fail> {
-    if reported(done)? != line || done.files != 0 {
+    if done.line != line || done.files != 0 {
         return Err("bridged in another way".into());
     }
     harmed(alloc, &done.output, harms)

@@ -7,11 +7,11 @@
 //! 3. The line that is reported, as in `runs`.
 use crate::runs::{Run, ends, leaving, three};
 use crate::settings::settings_of;
-use crate::words::{bytes_in, span_of};
+use crate::words::bytes_in;
 use scenario_runs::sent;
 use std::alloc::Global;
 use std::test::Fail;
-use test_recordings::{SmallPacket, small_capture, small_recording};
+use test_recordings::{SmallPacket, range_of, small_capture, small_recording};
 
 /// The capture has a head of 24 bytes, and for each frame a head of 16 and 60 bytes: 176 in all, of which the input has reads of 24 bytes, 100
 /// and 52, and one that finds the end. Nothing is written before that. The output's calls are a write and a flush.
@@ -75,7 +75,7 @@ fn part_of<'a>(whole: &'a [u8], size: &str) -> Result<Option<&'a [u8]>, Fail> {
 /// Each call of a word fails in turn of a run that ends so.
 fn word_fails(alloc: Global, run: &Run<'_>, word: &str) -> Result<(), Fail> {
     let (object, calls) = word.split_once('=').ok_or("no calls")?;
-    let (first, last) = span_of(calls)?;
+    let (first, last) = range_of(calls)?;
     for number in first..last.saturating_add(1) {
         let call = format!(in alloc; "{};{object}={number}", run.call)?;
         ends(

@@ -8,7 +8,7 @@ use std::alloc::Global;
 use std::test::Fail;
 use test_recordings::{Given, Outside, faultless};
 
-/// What a run that is done has left: the output, its line, how many files, and the bytes of one.
+/// What a run that is done has left: the output, the line that it reports, how many files, and the bytes of one.
 #[derive(Drop)]
 pub struct Outcome {
     pub output: Vec<u8>,
@@ -29,8 +29,7 @@ fn read_done(alloc: Global, outside: &Outside) -> Result<Outcome, Fail> {
     if outside.output.flushed() != bytes.len() {
         return Err("not flushed".into());
     }
-    let line = std::str::from_utf8(outside.complaints.bytes())?;
-    let line = line.to_string(alloc)?;
+    let line = outside.line().ok_or("no line")?.to_string(alloc)?;
     let output = Vec::from_slice(alloc, bytes)?;
     let file = Vec::from_slice(alloc, file)?;
     Ok(Outcome {
@@ -63,10 +62,4 @@ pub fn done_under(
 pub fn done(alloc: Global, words: &[&str], names: &str, input: &[u8]) -> Result<Outcome, Fail> {
     let settings = settings_of(alloc, names)?;
     done_under(alloc, words, &settings, input)
-}
-
-/// The line that a run has reported.
-pub fn reported(done: &Outcome) -> Result<&str, Fail> {
-    let line = done.line.strip_prefix("ipencap: ").ok_or("no line")?;
-    Ok(line.strip_suffix("\n").ok_or("no end")?)
 }

@@ -1,14 +1,14 @@
 //! `relay IN OUT`: a packet with an SNDU by hand, and the packet with its datagram in a section, from RFC 4326 section 4, EN 301 192
 //! clause 7.1 and ISO/IEC 13818-1 clause 2.4. An independent program gave each CRC-32. And one service of IN: a relay is `receive IN`, and
 //! then `send OUT` of its capture, byte for byte and line for line.
-use crate::outcomes::{Outcome, done, reported};
+use crate::outcomes::{Outcome, done};
 use crate::runs::{all_end, ends, leaving, three};
 use crate::settings::settings_of;
-use crate::words::{harmed, span_of};
+use crate::words::harmed;
 use scenario_runs::sent;
 use std::alloc::Global;
 use std::test::Fail;
-use test_recordings::{CAPTURE_HEAD, Datagram, datagram_of, put_record};
+use test_recordings::{CAPTURE_HEAD, Datagram, datagram_of, numbers_in, put_record};
 
 /// The columns are those of `runs`. A packet of PID 256 becomes one of PID 300, with the section to 01-00-5E-01-02-03 (RFC 1112 section 6.4).
 const PACKETS: &str =
@@ -17,7 +17,7 @@ a packet and its duplicate|relay,a.toml,b.toml;a=SNDUS;b=SECTIONS|47410010 00 80
 an empty recording|relay,a.toml,b.toml;a=SNDUS;b=SECTIONS|||offered 0, not IP 0, unrouted 0, too long 0";
 
 /// What it is; IN; OUT; the form of the datagrams; the numbers of those that are sent under IN; the bytes of a record, and what happens to the
-/// records, in the harms of `words`; the numbers of those that arrive.
+/// records, in the harms of `test_recordings`; the numbers of those that arrive.
 ///
 /// `169 219` are datagrams of 169 bytes, of which number n is for 239.x.0.n, with x from these digits in turn. SNDUs of 183 bytes stand one in
 /// each packet. Of 20 sections of 1,016 bytes (EN 301 192 clause 7.1), and 16 of 272 in each burst, 13 fit the first, of 96 packets. TO_514 is
@@ -50,21 +50,22 @@ fn datagram_in(form: &str, number: usize) -> Result<Datagram, Fail> {
     })
 }
 
-/// Appends the datagrams of a span of numbers.
-fn put_span(alloc: Global, into: &mut Vec<u8>, form: &str, span: &str) -> Result<(), Fail> {
-    let (first, last) = span_of(span)?;
-    for number in first..last.saturating_add(1) {
-        put_record(into, &datagram_of(alloc, &datagram_in(form, number)?)?)?;
+/// Appends the datagrams of these numbers.
+fn put_all(alloc: Global, into: &mut Vec<u8>, form: &str, numbers: &[u16]) -> Result<(), Fail> {
+    for number in numbers {
+        put_record(
+            into,
+            &datagram_of(alloc, &datagram_in(form, usize::from(*number))?)?,
+        )?;
     }
     Ok(())
 }
 
 /// The capture of the datagrams with these numbers.
 fn capture_of(alloc: Global, form: &str, numbers: &str) -> Result<Vec<u8>, Fail> {
+    let numbers = numbers_in(alloc, numbers)?;
     let mut capture = Vec::from_slice(alloc, &CAPTURE_HEAD)?;
-    for span in numbers.split_whitespace() {
-        put_span(alloc, &mut capture, form, span)?;
-    }
+    put_all(alloc, &mut capture, form, &numbers)?;
     Ok(capture)
 }
 
@@ -78,9 +79,8 @@ fn stream_of(alloc: Global, settings: &str, form: &str, numbers: &str) -> Result
 /// The relay of a case, IN and OUT leaves what this run of `send` has left.
 fn leaves(alloc: Global, names: [&str; 3], input: &[u8], due: &Outcome) -> Result<(), Fail> {
     let [case, inner, outer] = names;
-    let line = reported(due)?;
     let call = format!(in alloc; "relay,a.toml,b.toml;a={inner};b={outer};room=300000")?;
-    ends(alloc, case, &leaving(&call, input, &due.output, line))
+    ends(alloc, case, &leaving(&call, input, &due.output, &due.line))
 }
 
 /// The relay of a case, IN and OUT leaves what `send OUT` leaves of a capture.

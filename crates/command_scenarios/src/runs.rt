@@ -13,11 +13,10 @@
 //!    object has failed.
 use crate::settings::settings_of;
 use crate::words::bytes_in;
-use ipe_io::MemShelf;
-use scenario_runs::{Status, run};
+use scenario_runs::expect;
 use std::alloc::{AllocError as OutOfMemory, Global};
 use std::test::Fail;
-use test_recordings::{Failing, FileLeft, Given, Left, Outside, faultless};
+use test_recordings::{Failing, FileLeft, Given, Left, faultless};
 
 /// The columns of a line after the first. Nothing left is not even a file.
 #[derive(Clone, Copy)]
@@ -67,114 +66,27 @@ fn value_of<'a>(call: &'a str, key: &str, other: &'a str) -> &'a str {
     other
 }
 
-/// All options have keys that are read.
-fn is_known(call: &str) -> Result<(), Fail> {
+/// The calls that fail, by the options of a call. Each option has a key that is read.
+fn fails_in(alloc: Global, call: &str) -> Result<Vec<Failing>, Fail> {
+    let mut fails = Vec::new(alloc);
     for option in call.split(';').skip(1) {
-        let (key, _) = option.split_once('=').ok_or("no value")?;
+        let (key, value) = option.split_once('=').ok_or("no value")?;
         match key {
-            "a" | "b" | "room" | "shelf" | "input" | "output" | "rack" => {}
-            _ => return Err("no such option".into()),
+            "a" | "b" | "room" => {}
+            object => fails.push(Failing::named(object, value.parse()?)?)?,
         }
     }
-    Ok(())
-}
-
-/// The number of the call of an object that fails: the last one that there could be, where no option says it.
-fn number_of(call: &str, object: &str) -> Result<u32, Fail> {
-    Ok(value_of(call, object, "4294967295").parse::<u32>()?)
-}
-
-/// The shelf with the files that have a byte, or with another one.
-fn shelf_with(
-    alloc: Global,
-    inner: &[u8],
-    outer: &[u8],
-    fails: u32,
-) -> Result<MemShelf, OutOfMemory> {
-    if outer.is_empty() {
-        let name = if inner.is_empty() { "c.toml" } else { "a.toml" };
-        return MemShelf::new(alloc, name, inner, &[fails]);
-    }
-    if inner.is_empty() {
-        return MemShelf::new(alloc, "b.toml", outer, &[fails]);
-    }
-    let mut shelf = MemShelf::new(alloc, "a.toml", inner, &[fails])?;
-    shelf.also(alloc, "b.toml", outer)?;
-    Ok(shelf)
-}
-
-/// The shelf of a call.
-fn shelf_of(alloc: Global, call: &str) -> Result<MemShelf, Fail> {
-    let fails = number_of(call, "shelf")?;
-    let inner = settings_of(alloc, value_of(call, "a", "-"))?;
-    let outer = settings_of(alloc, value_of(call, "b", "-"))?;
-    Ok(shelf_with(alloc, inner.as_bytes(), outer.as_bytes(), fails)?)
-}
-
-/// The objects of a run.
-fn outside_of(alloc: Global, call: &str, input: &[u8]) -> Result<Outside, Fail> {
-    is_known(call)?;
-    let fails = [
-        Failing::Input(number_of(call, "input")?),
-        Failing::Output(number_of(call, "output")?),
-        Failing::Rack(number_of(call, "rack")?),
-    ];
-    let given = Given {
-        room: value_of(call, "room", "10000").parse()?,
-        fails: &fails,
-        ..faultless(&[], &[], input)
-    };
-    let shelf = shelf_of(alloc, call)?;
-    let mut outside = Outside::new(alloc, &given)?;
-    outside.shelf = shelf;
-    Ok(outside)
+    Ok(fails)
 }
 
 /// The words of a call.
-fn words_of(alloc: Global, call: &str) -> Result<Vec<String>, OutOfMemory> {
+fn words_of(alloc: Global, call: &str) -> Result<Vec<&str>, OutOfMemory> {
     let (text, _) = call.split_once(';').unwrap_or((call, ""));
     let mut words = Vec::new(alloc);
     for word in text.split(',') {
-        words.push(word.to_string(alloc)?)?;
+        words.push(word)?;
     }
     Ok(words)
-}
-
-/// Runs the program with these words. The contract of `run` is long: it is proved once.
-fn run_over(alloc: Global, words: &[String], outside: &mut Outside) -> Status {
-    run(
-        alloc,
-        words,
-        &mut outside.shelf,
-        &mut outside.input,
-        &mut outside.output,
-        &mut outside.rack,
-        &mut outside.complaints,
-    )
-}
-
-/// The status of a run that reports this line.
-fn status_of(line: &str) -> Result<Status, Fail> {
-    match line {
-        "" => Ok(Status::Done),
-        "fault of the settings file" => Ok(Status::ShelfFault),
-        "fault of the input" => Ok(Status::SourceFault),
-        "fault of the output" => Ok(Status::SinkFault),
-        "fault of a written file" => Ok(Status::RackFault),
-        _ if line.starts_with("offered ") => Ok(Status::Done),
-        _ if line.starts_with("capture ") => Ok(Status::Capture),
-        _ if line.starts_with("settings ") => Ok(Status::Settings),
-        _ if line.starts_with("usage: ") => Ok(Status::Usage),
-        _ => Err("no such line".into()),
-    }
-}
-
-/// The whole line that is reported, empty where there is none.
-fn whole_line(alloc: Global, line: &str) -> Result<String, OutOfMemory> {
-    if line.is_empty() {
-        return Ok(String::new(alloc));
-    }
-    format!(in alloc; "ipencap: {line}\n")
 }
 
 /// The file that a call writes, empty where it writes the output.
@@ -188,62 +100,59 @@ fn file_of(call: &str) -> &'static str {
     }
 }
 
-/// What differs from what a run must leave, with this line.
-fn difference_from(run: &Run<'_>, line: &str, outside: &Outside) -> &'static str {
+/// Runs the program, and compares all that it leaves.
+fn leaves(alloc: Global, case: &str, run: &Run<'_>, given: &Given<'_>) -> Result<(), Fail> {
     let bytes = run.left.unwrap_or(&[]);
     let has_failed = run.line.starts_with("fault ");
     let flushed = if has_failed { 0 } else { bytes.len() };
     let name = file_of(run.call);
-    if name.is_empty() {
-        return outside.difference(&Left {
-            output: bytes,
-            flushed,
-            line,
-            files: &[],
-        });
-    }
     let files = [FileLeft {
         name,
         bytes,
         flushed,
     }];
-    let count = if run.left.is_some() { 1 } else { 0 };
-    outside.difference(&Left {
-        output: &[],
-        flushed: 0,
-        line,
-        files: &files[..count],
-    })
+    let left = if name.is_empty() {
+        Left {
+            output: bytes,
+            flushed,
+            ..Left::line(run.line)
+        }
+    } else {
+        let count = if run.left.is_some() { 1 } else { 0 };
+        Left {
+            files: &files[..count],
+            ..Left::line(run.line)
+        }
+    };
+    expect(alloc, case, given, &left)
 }
 
-/// Runs the program, and answers what differs.
-fn difference_after(
+/// Runs the program over these settings and calls that fail.
+fn ends_over(
     alloc: Global,
+    case: &str,
     run: &Run<'_>,
-    words: &[String],
-    outside: &mut Outside,
-) -> Result<&'static str, Fail> {
-    if run_over(alloc, words, outside) != status_of(run.line)? {
-        return Ok("the status");
-    }
-    let line = whole_line(alloc, run.line)?;
-    Ok(difference_from(run, &line, outside))
-}
-
-/// What differs; nothing at all: an empty text.
-fn difference(alloc: Global, run: &Run<'_>) -> Result<&'static str, Fail> {
+    settings: [&str; 2],
+    fails: &[Failing],
+) -> Result<(), Fail> {
     let words = words_of(alloc, run.call)?;
-    let mut outside = outside_of(alloc, run.call, run.input)?;
-    difference_after(alloc, run, &words, &mut outside)
+    let [inner, outer] = settings;
+    let given = Given {
+        name: if inner.is_empty() { "c.toml" } else { "a.toml" },
+        outer: outer.as_bytes(),
+        room: value_of(run.call, "room", "10000").parse()?,
+        fails,
+        ..faultless(&words, inner.as_bytes(), run.input)
+    };
+    leaves(alloc, case, run, &given)
 }
 
 /// Runs the program, and compares all that it leaves. A difference fails as a text: the case, and what differs.
 pub fn ends(alloc: Global, case: &str, run: &Run<'_>) -> Result<(), Fail> {
-    let difference = difference(alloc, run)?;
-    if difference.is_empty() {
-        return Ok(());
-    }
-    Err(Fail::new(format!(in alloc; "{case}: {difference}")?))
+    let fails = fails_in(alloc, run.call)?;
+    let inner = settings_of(alloc, value_of(run.call, "a", "-"))?;
+    let outer = settings_of(alloc, value_of(run.call, "b", "-"))?;
+    ends_over(alloc, case, run, [&inner, &outer], &fails)
 }
 
 /// What is left.
@@ -251,9 +160,9 @@ fn left_of(alloc: Global, words: &str) -> Result<Vec<u8>, Fail> {
     let Some((size, words)) = words.split_once(" of ") else {
         return bytes_in(alloc, words);
     };
-    let mut bytes = bytes_in(alloc, words)?;
-    bytes.truncate(size.parse()?);
-    Ok(bytes)
+    let bytes = bytes_in(alloc, words)?;
+    let front = bytes.get(..size.parse()?).ok_or("fewer bytes")?;
+    Ok(Vec::from_slice(alloc, front)?)
 }
 
 /// A run of the columns of a line: the case, the call and the other three.

@@ -1,4 +1,4 @@
-//! Words of a table -> bytes, and what happens to them.
+//! Words of a table -> bytes.
 //!
 //! | Word | What |
 //! |---|---|
@@ -9,14 +9,12 @@
 //! | `PMT_LONG/1@8190:3` | the next one of this section, which goes on, with continuity_counter 3 in place of 0 |
 //! | `FILL` | bytes FF up to the end of the packet |
 //! | `ZEROS` | zeros up to the end of the baseband frame, of 2,000 bytes |
-//! | `5` `1-2` | numbers: 5, and 1 to 2. As a harm: these records are lost |
-//! | `0-27*3` | a harm: each of these records comes three times |
 ghost use Rattle.std.specs.Prelude.{◌<◌};
 
 use crate::discovery_sections::section_of;
 use std::alloc::{AllocError as OutOfMemory, Global};
 use std::test::Fail;
-use test_recordings::{Harm, bytes_of, damaged, go_on, on_pid, start};
+use test_recordings::{bytes_of, go_on, left_of, on_pid, start};
 
 /// What a name stands for. A word that is no name stands for itself.
 fn pieces_of(word: &str) -> &str {
@@ -116,33 +114,8 @@ pub fn bytes_in(alloc: Global, words: &str) -> Result<Vec<u8>, Fail> {
     Ok(bytes)
 }
 
-/// The first and the last number of a word.
-pub fn span_of(word: &str) -> Result<(usize, usize), Fail> {
-    let (first, last) = word.split_once('-').unwrap_or((word, word));
-    Ok((first.parse::<usize>()?, last.parse::<usize>()?))
-}
-
-/// The harm of a word: a record that comes no time is lost.
-fn harm_of(word: &str) -> Result<Harm, Fail> {
-    let (records, times) = word.split_once('*').unwrap_or((word, "0"));
-    let (first, last) = span_of(records)?;
-    let times = times.parse::<usize>()?;
-    Ok(Harm::Repeat { first, last, times })
-}
-
-/// The harms of words.
-fn harms_of(alloc: Global, words: &str) -> Result<Vec<Harm>, Fail> {
-    let mut harms = Vec::new(alloc);
-    for word in words.split_whitespace() {
-        harms.push(harm_of(word)?)?;
-    }
-    Ok(harms)
-}
-
-/// What is left of a stream, by the bytes of its records and what happens to them, as `188 1-2`.
+/// What is left of a stream, by the bytes of its records and the harms of `test_recordings`, as `188 1-2`.
 pub fn harmed(alloc: Global, stream: &[u8], words: &str) -> Result<Vec<u8>, Fail> {
-    let (size, words) = words.split_once(' ').unwrap_or((words, ""));
-    let size = size.parse::<usize>()?;
-    let harms = harms_of(alloc, words)?;
-    Ok(damaged(alloc, stream, size, &harms)?)
+    let (size, harms) = words.split_once(' ').unwrap_or((words, ""));
+    left_of(alloc, stream, size.parse()?, harms)
 }

@@ -12,7 +12,7 @@
 use crate::burst_losses::OTHERS_AND_BOTH;
 use crate::burst_sent::{SHORT, SLICED, SMALL, TWO_BURSTS, form_of};
 use crate::cast::{all_come, capture_of, stream_of};
-use scenario_runs::{Status, ran, sent};
+use scenario_runs::{ran, sent};
 use std::alloc::Global;
 use std::test::Fail;
 use test_recordings::settings::{FILES, INT, settings_of};
@@ -113,7 +113,7 @@ fn are_whole(alloc: Global, settings: &str, recording: &[u8], files: &[u8]) -> R
     let ended = ran(alloc, &given)?;
     let rack = &ended.outside.rack;
     let whole = rack.files() == 2 && rack.name(1) == "files.pcap" && rack.file(1) == files;
-    Ok(ended.status == Status::Done && whole)
+    Ok(ended.reports("")? && whole)
 }
 
 /// Sends, gives the record of a line another time, and receives: the files are whole.

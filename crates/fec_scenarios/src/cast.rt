@@ -7,7 +7,7 @@
 //!    says so.
 //! 3. The numbers of the datagrams that are given, as `0-16 22`.
 //! 4. The other columns are the report, as `test_recordings::report_of` reads them.
-use scenario_runs::{Status, expect, sent};
+use scenario_runs::{expect, sent};
 use std::alloc::Global;
 use std::test::Fail;
 use test_recordings::settings::settings_of;
@@ -72,7 +72,7 @@ pub fn leaves(
         ..faultless(&["receive", "a.toml"], settings.as_bytes(), recording)
     };
     let left = Left::flushed(report.as_bytes(), "", files);
-    expect(alloc, name, &given, Status::Done, &left)
+    expect(alloc, name, &given, &left)
 }
 
 /// Receives a recording, and compares the capture and the report with the columns from the third on.

@@ -9,11 +9,10 @@
 //! | `24`, `24*58` | the first 24 bytes of the file, none of them flushed; the same for each of 58 calls |
 //! | `840/840` | 840 bytes of the file, of which 840 are flushed |
 //! | `840/840/unflushed` | all of the output too, of which nothing is flushed |
-use scenario_runs::{Status, expect};
+use scenario_runs::expect;
 use std::alloc::Global;
 use std::test::Fail;
-use test_recordings::Failing::{self, Input, Output, Rack, Shelf};
-use test_recordings::{FileLeft, Given, Left, faultless};
+use test_recordings::{Failing, FileLeft, Given, Left, faultless};
 
 /// What a run is given, and what it leaves where no call fails: a file, and the output.
 #[derive(Clone, Copy)]
@@ -27,16 +26,6 @@ pub struct Whole<'a> {
     pub output: &'a [u8],
 }
 
-/// The status of a run in which a call fails, and what is reported.
-fn end_of(failing: Failing) -> (Status, &'static str) {
-    match failing {
-        Shelf(_) => (Status::ShelfFault, "ipencap: fault of the settings file\n"),
-        Input(_) => (Status::SourceFault, "ipencap: fault of the input\n"),
-        Output(_) => (Status::SinkFault, "ipencap: fault of the output\n"),
-        Rack(_) => (Status::RackFault, "ipencap: fault of a written file\n"),
-    }
-}
-
 /// How many bytes of the output are left, and how many of them are flushed.
 fn counts_of(word: &str, output: &[u8]) -> Result<(usize, usize), Fail> {
     match word {
@@ -47,19 +36,18 @@ fn counts_of(word: &str, output: &[u8]) -> Result<(usize, usize), Fail> {
     }
 }
 
-/// Runs the program, which ends so, reports this line, and leaves what a word says.
+/// Runs the program, which reports this line, and leaves what a word says.
 fn leaves(
     alloc: Global,
     case: &str,
     whole: &Whole<'_>,
     fails: &[Failing],
-    status: Status,
     line: &str,
     word: &str,
 ) -> Result<(), Fail> {
     let (size, rest) = word.split_once('/').unwrap_or((word, "0"));
     let (file_flushed, output) = rest.split_once('/').unwrap_or((rest, "nothing"));
-    let (size, files) = match size {
+    let (size, files) = match word {
         "-" => (0, 0),
         _ => (size.parse::<usize>()?, 1),
     };
@@ -79,7 +67,7 @@ fn leaves(
         fails,
         ..faultless(whole.words, whole.settings, whole.recording)
     };
-    expect(alloc, case, &given, status, &left)
+    expect(alloc, case, &given, &left)
 }
 
 /// The run ends Done: all is whole and flushed.
@@ -91,7 +79,7 @@ pub fn ends_done(
 ) -> Result<(), Fail> {
     let size = whole.file.len();
     let word = format!(in alloc; "{size}/{size}/flushed")?;
-    leaves(alloc, case, whole, fails, Status::Done, "", &word)
+    leaves(alloc, case, whole, fails, "", &word)
 }
 
 /// A call fails, and the run leaves what a word says; where there is none, the call does not come.
@@ -107,8 +95,7 @@ fn call_fails(
     if word.is_empty() {
         return ends_done(alloc, &case, whole, &[failing]);
     }
-    let (status, line) = end_of(failing);
-    leaves(alloc, &case, whole, &[failing], status, line, word)
+    leaves(alloc, &case, whole, &[failing], failing.fault(), word)
 }
 
 /// The calls of a word fail in turn, of which the first one has this number. Returns the number of the next one.

@@ -1,5 +1,5 @@
 //! What a recording of baseband frames must leave: the capture of each service, and the report. An independent program gave the numbers.
-use scenario_runs::{Status, expect};
+use scenario_runs::expect;
 use std::alloc::{AllocError as OutOfMemory, Global};
 use std::test::Fail;
 use test_recordings::settings::settings_of;
@@ -103,7 +103,7 @@ fn leaves(
         room: ROOM,
         ..faultless(&words, settings.as_bytes(), input)
     };
-    expect(alloc, case, &given, Status::Done, left)
+    expect(alloc, case, &given, left)
 }
 
 /// Receives a recording, and compares all that is left.
@@ -127,7 +127,7 @@ fn line_of(alloc: Global, datagrams: &[Datagram], unrouted: usize) -> Result<Str
     let mut line = String::new(alloc);
     write!(
         &mut line,
-        "ipencap: offered {offered}, not IP 0, unrouted {unrouted}, too long 0\n"
+        "offered {offered}, not IP 0, unrouted {unrouted}, too long 0"
     )?;
     Ok(line)
 }

@@ -1,48 +1,19 @@
 //! Each call of each object fails in turn while a recording is received.
 use crate::pair::{SETTINGS, stream_of_pair};
 use crate::settings_words::settings_of;
-use scenario_runs::{Ended, Status, ran};
+use scenario_runs::{Ended, ran};
 use std::alloc::Global;
 use std::test::Fail;
 use test_recordings::{Failing, Given, faultless};
 
-/// An object and how many calls it has, how the run ends where one fails, and its line.
-#[derive(Clone, Copy)]
-struct Case<'a> {
-    calls: Failing,
-    status: Status,
-    line: &'a str,
-    /// Whether the report may stand.
-    has_report: bool,
-}
-
-/// The shelf has its load; the input two reads of each of 29 records and one at the end; the output a write and a flush; the rack an
-/// add, a head and a flush of each of two files, and for each of 17 datagrams its head and its bytes.
-static CASES: [Case; 4] = [
-    Case {
-        calls: Failing::Shelf(1),
-        status: Status::ShelfFault,
-        line: "ipencap: fault of the settings file\n",
-        has_report: false,
-    },
-    Case {
-        calls: Failing::Input(59),
-        status: Status::SourceFault,
-        line: "ipencap: fault of the input\n",
-        has_report: false,
-    },
-    Case {
-        calls: Failing::Output(2),
-        status: Status::SinkFault,
-        line: "ipencap: fault of the output\n",
-        has_report: true,
-    },
-    Case {
-        calls: Failing::Rack(40),
-        status: Status::RackFault,
-        line: "ipencap: fault of a written file\n",
-        has_report: false,
-    },
+/// An object with how many calls it has, and whether the report may stand where one fails. The shelf has its load; the input two reads of
+/// each of 29 records and one at the end; the output a write and a flush; the rack an add, a head and a flush of each of two files, and for
+/// each of 17 datagrams its head and its bytes.
+const CASES: [(Failing, bool); 4] = [
+    (Failing::Shelf(1), false),
+    (Failing::Input(59), false),
+    (Failing::Output(2), true),
+    (Failing::Rack(40), false),
 ];
 
 /// The settings of the pair, and its stream.
@@ -68,32 +39,36 @@ fn received(alloc: Global, pair: &Pair, fails: &[Failing]) -> Result<Ended, Fail
     ran(alloc, &Given { fails, ..given })
 }
 
-/// What is wrong with the run in which a call of the case fails; an empty text where nothing is.
-fn difference(ended: &Ended, case: &Case<'_>, whole: &Ended) -> &'static str {
-    if ended.status != case.status {
-        return "the status";
+/// What is wrong with the run in which a call fails; an empty text where nothing is.
+fn difference(
+    ended: &Ended,
+    line: &str,
+    has_report: bool,
+    whole: &Ended,
+) -> Result<&'static str, Fail> {
+    if !ended.reports(line)? {
+        return Ok("the line or the status");
     }
-    if ended.outside.complaints.bytes() != case.line.as_bytes() {
-        return "the line";
-    }
-    if !case.has_report && !ended.outside.output.bytes().is_empty() {
-        return "a report";
+    if !has_report && !ended.outside.output.bytes().is_empty() {
+        return Ok("a report");
     }
     if !ended.outside.is_front_of(&whole.outside) {
-        return "no front of what a run leaves";
+        return Ok("no front of what a run leaves");
     }
-    ""
+    Ok("")
 }
 
-/// The same of each call of the case.
+/// The same of each call of an object.
 fn first_difference(
     alloc: Global,
     pair: &Pair,
-    case: &Case<'_>,
+    case: (Failing, bool),
     whole: &Ended,
 ) -> Result<&'static str, Fail> {
-    for call in 0..case.calls.call() {
-        let found = difference(&received(alloc, pair, &[case.calls.at(call)])?, case, whole);
+    let (calls, has_report) = case;
+    for call in 0..calls.call() {
+        let ended = received(alloc, pair, &[calls.at(call)])?;
+        let found = difference(&ended, calls.fault(), has_report, whole)?;
         if !found.is_empty() {
             return Ok(found);
         }
@@ -101,10 +76,10 @@ fn first_difference(
     Ok("")
 }
 
-/// Whether the call after the last one of the case comes: then the run does not end as a whole one.
-fn comes_again(alloc: Global, pair: &Pair, case: &Case<'_>, whole: &Ended) -> Result<bool, Fail> {
-    let ended = received(alloc, pair, &[case.calls])?;
-    Ok(ended.status != Status::Done || !whole.outside.is_front_of(&ended.outside))
+/// Whether the call after the last one comes: then the run does not end as a whole one.
+fn comes_again(alloc: Global, pair: &Pair, calls: Failing, whole: &Ended) -> Result<bool, Fail> {
+    let ended = received(alloc, pair, &[calls])?;
+    Ok(!ended.reports("")? || !whole.outside.is_front_of(&ended.outside))
 }
 
 /// The run ends with the fault of that object, and what it leaves are fronts; without the report but for a fault of the output. The
@@ -113,19 +88,15 @@ fn comes_again(alloc: Global, pair: &Pair, case: &Case<'_>, whole: &Ended) -> Re
 fn each_call_that_fails_ends_the_reception(rt: HostRuntime) -> Result<(), Fail> {
     let pair = sent_pair(rt.alloc())?;
     let whole = received(rt.alloc(), &pair, &[])?;
-    assert_eq!(rt; whole.status, Status::Done);
-    for case in &CASES {
+    assert!(rt; whole.reports("")?);
+    for case in CASES {
+        let line = case.0.fault();
         assert_eq!(rt;
             first_difference(rt.alloc(), &pair, case, &whole)?,
             "",
-            "{}",
-            case.line
+            "{line}"
         );
-        assert!(rt;
-            !comes_again(rt.alloc(), &pair, case, &whole)?,
-            "{}",
-            case.line
-        );
+        assert!(rt; !comes_again(rt.alloc(), &pair, case.0, &whole)?, "{line}");
     }
     Ok(())
 }

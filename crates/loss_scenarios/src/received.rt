@@ -11,7 +11,7 @@
 //! A scope without a column has that of `whole`.
 use crate::datagrams::datagrams_of;
 use crate::settings_words::settings_of;
-use scenario_runs::{Status, expect};
+use scenario_runs::expect;
 use std::alloc::{AllocError as OutOfMemory, Global};
 use std::test::Fail;
 use test_recordings::{FileLeft, Left, capture_of, faultless, put_scope};
@@ -150,7 +150,7 @@ fn leaves(
     let files = files_of(alloc, reception.services, &due.captures)?;
     let left = Left::flushed(due.report.as_bytes(), "", &files);
     let given = faultless(&["receive", "a.toml"], settings.as_bytes(), recording);
-    expect(alloc, case, &given, Status::Done, &left)
+    expect(alloc, case, &given, &left)
 }
 
 /// Of a recording comes what the columns of a case say.

@@ -1,9 +1,9 @@
 //! What a run is given -> [ipencap_engine] -> what it leaves, compared with what it must leave.
 //!
-//! For the tests of whole runs alone, which have `run` and `Status` from here. Begin with `expect`.
+//! For the tests of whole runs alone, which have `Status` from here. Begin with `expect`.
 #![tactic(auto)]
 
 mod runs;
 
-pub use ipencap_engine::{Status, run};
+pub use ipencap_engine::Status;
 pub use runs::{Ended, expect, ran, sent};

@@ -45,13 +45,32 @@ fn output_of(alloc: Global, ended: &Ended) -> Result<Vec<u8>, Fail> {
     Ok(Vec::from_slice(alloc, ended.outside.output.bytes())?)
 }
 
+/// The status of a run that reports this line.
+fn status_of(line: &str) -> Result<Status, Fail> {
+    match line {
+        "" => Ok(Status::Done),
+        "fault of the settings file" => Ok(Status::ShelfFault),
+        "fault of the input" => Ok(Status::SourceFault),
+        "fault of the output" => Ok(Status::SinkFault),
+        "fault of a written file" => Ok(Status::RackFault),
+        _ if line.starts_with("offered ") => Ok(Status::Done),
+        _ if line.starts_with("capture ") => Ok(Status::Capture),
+        _ if line.starts_with("settings ") => Ok(Status::Settings),
+        _ if line.starts_with("usage: ") => Ok(Status::Usage),
+        _ => Err("no such line".into()),
+    }
+}
+
+impl Ended {
+    /// Whether the run has reported this line, and has ended with its status.
+    pub fn reports(&self, line: &str) -> Result<bool, Fail> {
+        Ok(self.status == status_of(line)? && self.outside.line() == Some(line))
+    }
+}
+
 /// What differs where the program runs; nothing at all: an empty text.
-fn difference(
-    alloc: Global,
-    given: &Given<'_>,
-    status: Status,
-    left: &Left<'_>,
-) -> Result<&'static str, Fail> {
+fn difference(alloc: Global, given: &Given<'_>, left: &Left<'_>) -> Result<&'static str, Fail> {
+    let status = status_of(left.line)?;
     let ended = ran(alloc, given)?;
     Ok(if ended.status == status {
         ended.outside.difference(left)
@@ -60,15 +79,10 @@ fn difference(
     })
 }
 
-/// Runs the program, and compares all that it leaves. A difference fails as a text: the case, and what differs.
-pub fn expect(
-    alloc: Global,
-    case: &str,
-    given: &Given<'_>,
-    status: Status,
-    left: &Left<'_>,
-) -> Result<(), Fail> {
-    let difference = difference(alloc, given, status, left)?;
+/// Runs the program, and compares all that it leaves; the line determines the status. A difference fails as a text: the case, and what
+/// differs.
+pub fn expect(alloc: Global, case: &str, given: &Given<'_>, left: &Left<'_>) -> Result<(), Fail> {
+    let difference = difference(alloc, given, left)?;
     if difference.is_empty() {
         return Ok(());
     }

@@ -34,6 +34,16 @@ impl Failing {
         }
     }
 
+    /// The line that is reported where it ends a run.
+    pub fn fault(self) -> &'static str {
+        match self {
+            Failing::Shelf(_) => "fault of the settings file",
+            Failing::Input(_) => "fault of the input",
+            Failing::Output(_) => "fault of the output",
+            Failing::Rack(_) => "fault of a written file",
+        }
+    }
+
     /// Another call of the same object.
     pub fn at(self, call: u32) -> Failing {
         match self {
@@ -65,9 +75,11 @@ pub fn fails_of(alloc: Global, words: &str) -> Result<Vec<Failing>, Fail> {
 pub struct Given<'a> {
     /// The words after the program's name.
     pub words: &'a [&'a str],
-    /// The name of the one file on the shelf, and its bytes.
+    /// The name of a file on the shelf, and its bytes.
     pub name: &'a str,
     pub settings: &'a [u8],
+    /// The bytes of another one, `b.toml`: without a byte there is none.
+    pub outer: &'a [u8],
     /// The input's bytes, of which a read gives 100 at most.
     pub input: &'a [u8],
     /// How many bytes the output takes.
@@ -81,6 +93,7 @@ pub fn faultless<'a>(words: &'a [&'a str], settings: &'a [u8], input: &'a [u8]) 
         words,
         name: "a.toml",
         settings,
+        outer: &[],
         input,
         room: 10_000,
         fails: &[],
@@ -131,7 +144,7 @@ pub struct Left<'a> {
     /// The output's bytes, and how many of them are flushed.
     pub output: &'a [u8],
     pub flushed: usize,
-    /// What is reported.
+    /// The line that is reported, without `ipencap: ` before it and its end; empty where there is none.
     pub line: &'a str,
     /// The files of the rack.
     pub files: &'a [FileLeft<'a>],
@@ -172,7 +185,11 @@ fn calls_of(alloc: Global, fails: &[Failing], first: Failing) -> Result<Vec<u32>
 
 fn shelf_of(alloc: Global, given: &Given<'_>) -> Result<MemShelf, OutOfMemory> {
     let fails = calls_of(alloc, given.fails, Failing::Shelf(0))?;
-    MemShelf::new(alloc, given.name, given.settings, &fails)
+    let mut shelf = MemShelf::new(alloc, given.name, given.settings, &fails)?;
+    if !given.outer.is_empty() && given.name != "b.toml" {
+        shelf.also(alloc, "b.toml", given.outer)?;
+    }
+    Ok(shelf)
 }
 
 fn input_of(alloc: Global, given: &Given<'_>) -> Result<MemSource, OutOfMemory> {
@@ -217,9 +234,19 @@ impl Outside {
         })
     }
 
+    /// The line that is reported, as [Left] has it.
+    pub fn line(&self) -> Option<&str> {
+        let text = std::str::from_utf8(self.complaints.bytes()).ok()?;
+        if text.is_empty() {
+            return Some(text);
+        }
+        let line = text.strip_prefix("ipencap: ")?.strip_suffix("\n")?;
+        if line.is_empty() { None } else { Some(line) }
+    }
+
     /// What differs from what a run must leave; an empty text where nothing does.
     pub fn difference(&self, left: &Left<'_>) -> &'static str {
-        if self.complaints.bytes() != left.line.as_bytes() {
+        if self.line() != Some(left.line) {
             return "the line";
         }
         if self.output.bytes() != left.output {

@@ -1,6 +1,6 @@
 //! What no clause says of `check SETTINGS`: that a run over objects in memory ends so, with ample memory.
 use crate::run_lines::{Run, RunLine, ends, pair_of, read_line, settings_of};
-use scenario_runs::{Status, expect};
+use scenario_runs::expect;
 use std::alloc::{AllocError as OutOfMemory, Global};
 use std::test::Fail;
 use test_recordings::{Left, faultless, filled};
@@ -78,20 +78,18 @@ fn ends_so(alloc: Global, settings: &str, case: &RunLine<'_>) -> Result<(), Fail
     ends(alloc, case, &run)
 }
 
-/// Checks the settings of a line, for which nothing is printed.
+/// Checks settings, which are refused with this line.
+fn is_refused(alloc: Global, settings: &[u8], line: &str) -> Result<(), Fail> {
+    let given = faultless(&["check", "a.toml"], settings, &[]);
+    expect(alloc, line, &given, &Left::line(line))
+}
+
+/// Checks the settings of a line.
 fn are_refused(alloc: Global, line: &str) -> Result<(), Fail> {
     let (names, rest) = line.split_once('|').ok_or("no lines")?;
     let (lines, line) = rest.split_once('|').ok_or("no fault")?;
     let settings = text_of(alloc, names, lines)?;
-    let case = RunLine {
-        name: "refused settings",
-        given: "40",
-        shelved: "a.toml",
-        fails: "",
-        left: "0 0",
-        line,
-    };
-    ends_so(alloc, &settings, &case)
+    is_refused(alloc, settings.as_bytes(), line)
 }
 
 /// Each run over these settings ends so.
@@ -116,17 +114,16 @@ fn refused_settings_have_the_line_of_their_fault(rt: HostRuntime) -> Result<(), 
     Ok(())
 }
 
-/// Checks a file of so many of one byte, which is refused with this line.
-fn is_refused(alloc: Global, byte: u8, count: usize, line: &str) -> Result<(), Fail> {
+/// Checks a file of so many of one byte.
+fn bytes_are_refused(alloc: Global, byte: u8, count: usize, line: &str) -> Result<(), Fail> {
     let settings = filled(alloc, byte, count)?;
-    let given = faultless(&["check", "a.toml"], &settings, &[]);
-    expect(alloc, line, &given, Status::Settings, &Left::line(line))
+    is_refused(alloc, &settings, line)
 }
 
 /// Bytes that are no text, the longest file, and one byte more.
 #[test]
 fn a_file_is_a_text_of_1048576_bytes_at_most(rt: HostRuntime) -> Result<(), Fail> {
-    is_refused(rt.alloc(), 0xFF, 1, "ipencap: settings 1\n")?;
-    is_refused(rt.alloc(), 0x20, 1_048_576, "ipencap: settings 2 service\n")?;
-    is_refused(rt.alloc(), 0x20, 1_048_577, "ipencap: settings too long\n")
+    bytes_are_refused(rt.alloc(), 0xFF, 1, "settings 1")?;
+    bytes_are_refused(rt.alloc(), 0x20, 1_048_576, "settings 2 service")?;
+    bytes_are_refused(rt.alloc(), 0x20, 1_048_577, "settings too long")
 }

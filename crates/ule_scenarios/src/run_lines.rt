@@ -8,11 +8,11 @@
 //!    the input; the other objects are `shelf`, `output` and `rack`.
 //! 4. What is left: each table says what its words are.
 //! 5. The line that is reported, without `ipencap: ` before it and its end. It determines the status.
-use scenario_runs::{Status, expect};
-use std::alloc::{AllocError as OutOfMemory, Global};
+use scenario_runs::expect;
+use std::alloc::Global;
 use std::test::Fail;
 use test_recordings::settings::{FILES, INT, STAMPED};
-use test_recordings::{Failing, FileLeft, Given, Left, fails_of, faultless};
+use test_recordings::{FileLeft, Given, Left, fails_of, faultless};
 
 /// A lecture in sliced frames.
 const SLICED: &str =
@@ -98,63 +98,20 @@ pub fn settings_of(name: &str) -> Result<&'static str, Fail> {
     }
 }
 
-/// The status of a run that reports a line with such a first word.
-fn status_by_word(line: &str) -> Result<Status, Fail> {
-    let (word, _) = line.split_once(' ').ok_or("one word")?;
-    match word {
-        "offered" => Ok(Status::Done),
-        "capture" => Ok(Status::Capture),
-        "settings" => Ok(Status::Settings),
-        _ => Err("no such line".into()),
-    }
-}
-
-/// The status of a run that reports this line.
-fn status_of(line: &str) -> Result<Status, Fail> {
-    match line {
-        "" => Ok(Status::Done),
-        "fault of the settings file" => Ok(Status::ShelfFault),
-        "fault of the input" => Ok(Status::SourceFault),
-        "fault of the output" => Ok(Status::SinkFault),
-        "fault of a written file" => Ok(Status::RackFault),
-        _ => status_by_word(line),
-    }
-}
-
-/// The whole line that is reported, empty where there is none.
-fn whole_line(alloc: Global, line: &str) -> Result<String, OutOfMemory> {
-    if line.is_empty() {
-        return Ok(String::new(alloc));
-    }
-    format!(in alloc; "ipencap: {line}\n")
-}
-
-/// Runs a command in which these calls fail, and compares all that is left.
-fn leaves(
-    alloc: Global,
-    case: &RunLine<'_>,
-    run: &Run<'_>,
-    fails: &[Failing],
-    line: &str,
-) -> Result<(), Fail> {
+/// Runs the command of a line, and compares all that is left.
+pub fn ends(alloc: Global, case: &RunLine<'_>, run: &Run<'_>) -> Result<(), Fail> {
+    let fails = fails_of(alloc, case.fails)?;
     let given = Given {
         name: case.shelved,
         room: run.room,
-        fails,
+        fails: &fails,
         ..faultless(run.words, run.settings.as_bytes(), run.input)
     };
     let left = Left {
         output: run.output,
         flushed: run.flushed,
-        line,
+        line: case.line,
         files: run.files,
     };
-    expect(alloc, case.name, &given, status_of(case.line)?, &left)
-}
-
-/// Runs the command of a line, and compares all that is left.
-pub fn ends(alloc: Global, case: &RunLine<'_>, run: &Run<'_>) -> Result<(), Fail> {
-    let fails = fails_of(alloc, case.fails)?;
-    let line = whole_line(alloc, case.line)?;
-    leaves(alloc, case, run, &fails, &line)
+    expect(alloc, case.name, &given, &left)
 }

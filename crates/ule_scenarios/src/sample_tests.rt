@@ -1,5 +1,5 @@
 //! What no clause says of `sample NUMBER`: that a run over objects in memory ends so, with ample memory, and what it prints.
-use scenario_runs::{Status, expect};
+use scenario_runs::expect;
 use std::test::Fail;
 use test_recordings::{Failing, Given, Left, faultless};
 
@@ -21,5 +21,5 @@ fn a_sample_prints_its_summary(rt: HostRuntime) -> Result<(), Fail> {
         ..faultless(&["sample", "1"], &[], &[])
     };
     let left = Left::flushed(SUMMARY.as_bytes(), "", &[]);
-    expect(rt.alloc(), "sample 1", &given, Status::Done, &left)
+    expect(rt.alloc(), "sample 1", &given, &left)
 }

@@ -9,7 +9,7 @@
 //!    pointer_field 77, in which a unit starts; it carries the bytes of the stream from 367 up to before 532, as many as there are. In
 //!    `0:183-367` no unit starts. Another packet has `0x` and all digits before these bytes. One without `:` carries none.
 //! 4. The SNDUs whose datagrams are delivered.
-use scenario_runs::{Status, expect};
+use scenario_runs::expect;
 use std::alloc::Global;
 use std::test::Fail;
 use test_recordings::{
@@ -142,7 +142,7 @@ pub fn writes(alloc: Global, name: &str, recording: &[u8], capture: &[u8]) -> Re
     let files = [FileLeft::whole("ule.pcap", capture)];
     let left = Left::flushed(&[], "", &files);
     let given = faultless(&["ule", "256"], &[], recording);
-    expect(alloc, name, &given, Status::Done, &left)
+    expect(alloc, name, &given, &left)
 }
 
 /// The datagrams of a line are delivered, and no other.

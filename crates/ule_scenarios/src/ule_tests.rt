@@ -2,13 +2,13 @@
 //! memory, and what small recordings give.
 use crate::run_lines::pair_of;
 use crate::sndu_lines::writes;
-use scenario_runs::{Status, expect};
+use scenario_runs::expect;
 use std::alloc::Global;
 use std::test::Fail;
 use test_recordings::{Left, SmallPacket, faultless, small_capture, small_recording};
 
 const USAGE: &str =
-    "ipencap: usage: send SETTINGS, receive SETTINGS, ule PID, check SETTINGS, sample NUMBER, tables SETTINGS, find PID, bridge CARRIER, unbridge CARRIER, relay IN OUT\n";
+    "usage: send SETTINGS, receive SETTINGS, ule PID, check SETTINGS, sample NUMBER, tables SETTINGS, find PID, bridge CARRIER, unbridge CARRIER, relay IN OUT";
 
 const REFUSED: [&[&str]; 15] = [
     &[],
@@ -34,7 +34,7 @@ fn words_that_form_no_command_add_no_file(rt: HostRuntime) -> Result<(), Fail> {
     let left = Left::line(USAGE);
     for words in REFUSED {
         let given = faultless(words, &[], &input);
-        expect(rt.alloc(), "refused", &given, Status::Usage, &left)?;
+        expect(rt.alloc(), "refused", &given, &left)?;
     }
     Ok(())
 }
