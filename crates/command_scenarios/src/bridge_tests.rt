@@ -150,7 +150,7 @@ fn capture_of(alloc: Global, sizes: &str) -> Result<Vec<u8>, Fail> {
 
 /// What is left of the stream of a run that has reported this line, and written no file.
 fn left_of(alloc: Global, done: &Outcome, line: &str, harms: &str) -> Result<Vec<u8>, Fail> {
-    if done.line != line || done.files != 0 {
+    if done.line.as_str() != line || done.files != 0 {
         return Err("bridged in another way".into());
     }
     harmed(alloc, &done.output, harms)
