@@ -3,10 +3,10 @@
 //! It is copied out of the objects of the run, which one function owns: each way out of a function drops all that it owns, and that is dear
 //! to check.
 use crate::settings::settings_of;
-use scenario_runs::{Status, ran};
+use scenario_runs::{Ended, Status, ran};
 use std::alloc::Global;
 use std::test::Fail;
-use test_recordings::{Given, Outside, faultless};
+use test_recordings::{Given, faultless};
 
 /// What a run that is done has left: the output, the line that it reports, how many files, and the bytes of one.
 #[derive(Drop)]
@@ -17,8 +17,12 @@ pub struct Outcome {
     pub file: Vec<u8>,
 }
 
-/// Copies what a run has left, which has flushed all.
-fn read_done(alloc: Global, outside: &Outside) -> Result<Outcome, Fail> {
+/// Copies what a run has left, which must be done, and have flushed all.
+fn read_done(alloc: Global, ended: &Ended) -> Result<Outcome, Fail> {
+    if ended.status != Status::Done {
+        return Err("not done".into());
+    }
+    let outside = &ended.outside;
     let bytes = outside.output.bytes();
     let files = outside.rack.files();
     let file = if files == 1 {
@@ -52,10 +56,7 @@ pub fn done_under(
         ..faultless(words, settings.as_bytes(), input)
     };
     let ended = ran(alloc, &given)?;
-    if ended.status != Status::Done {
-        return Err("not done".into());
-    }
-    read_done(alloc, &ended.outside)
+    read_done(alloc, &ended)
 }
 
 /// Runs a command under the settings of these names, which must be done.

@@ -12,7 +12,7 @@
 use crate::burst_losses::OTHERS_AND_BOTH;
 use crate::burst_sent::{SHORT, SLICED, SMALL, TWO_BURSTS, form_of};
 use crate::cast::{all_come, capture_of, stream_of};
-use scenario_runs::{ran, sent};
+use scenario_runs::{Ended, ran, sent};
 use std::alloc::Global;
 use std::test::Fail;
 use test_recordings::settings::{FILES, INT, settings_of};
@@ -104,6 +104,13 @@ fn recording_of(alloc: Global, settings: &str, files: &[u8], stamp: &str) -> Res
     restamped(alloc, &stream, record, &time)
 }
 
+/// Whether a run has left whole files.
+fn has_whole(ended: &Ended, files: &[u8]) -> Result<bool, Fail> {
+    let rack = &ended.outside.rack;
+    let whole = rack.files() == 2 && rack.name(1) == "files.pcap" && rack.file(1) == files;
+    Ok(ended.reports("")? && whole)
+}
+
 /// Whether the files are whole that a reception of the recording leaves.
 fn are_whole(alloc: Global, settings: &str, recording: &[u8], files: &[u8]) -> Result<bool, Fail> {
     let given = Given {
@@ -111,9 +118,7 @@ fn are_whole(alloc: Global, settings: &str, recording: &[u8], files: &[u8]) -> R
         ..faultless(&["receive", "a.toml"], settings.as_bytes(), recording)
     };
     let ended = ran(alloc, &given)?;
-    let rack = &ended.outside.rack;
-    let whole = rack.files() == 2 && rack.name(1) == "files.pcap" && rack.file(1) == files;
-    Ok(ended.reports("")? && whole)
+    has_whole(&ended, files)
 }
 
 /// Sends, gives the record of a line another time, and receives: the files are whole.

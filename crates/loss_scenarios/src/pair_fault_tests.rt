@@ -76,10 +76,15 @@ fn first_difference(
     Ok("")
 }
 
-/// Whether the call after the last one comes: then the run does not end as a whole one.
-fn comes_again(alloc: Global, pair: &Pair, calls: Failing, whole: &Ended) -> Result<bool, Fail> {
+/// Whether a run ends as a whole one, and leaves no less.
+fn is_whole(ended: &Ended, whole: &Ended) -> Result<bool, Fail> {
+    Ok(ended.reports("")? && whole.outside.is_front_of(&ended.outside))
+}
+
+/// Whether the run is whole in which the call after the last one would fail, which does not come.
+fn ends_whole(alloc: Global, pair: &Pair, calls: Failing, whole: &Ended) -> Result<bool, Fail> {
     let ended = received(alloc, pair, &[calls])?;
-    Ok(!ended.reports("")? || !whole.outside.is_front_of(&ended.outside))
+    is_whole(&ended, whole)
 }
 
 /// The run ends with the fault of that object, and what it leaves are fronts; without the report but for a fault of the output. The
@@ -96,7 +101,7 @@ fn each_call_that_fails_ends_the_reception(rt: HostRuntime) -> Result<(), Fail> 
             "",
             "{line}"
         );
-        assert!(rt; !comes_again(rt.alloc(), &pair, case.0, &whole)?, "{line}");
+        assert!(rt; ends_whole(rt.alloc(), &pair, case.0, &whole)?, "{line}");
     }
     Ok(())
 }
