@@ -58,22 +58,16 @@ fn difference(
     Ok("")
 }
 
-/// The same of each call of an object.
-fn first_difference(
+/// The same of the run in which this call fails.
+fn difference_at(
     alloc: Global,
     pair: &Pair,
-    case: (Failing, bool),
+    failing: Failing,
+    has_report: bool,
     whole: &Ended,
 ) -> Result<&'static str, Fail> {
-    let (calls, has_report) = case;
-    for call in 0..calls.call() {
-        let ended = received(alloc, pair, &[calls.at(call)])?;
-        let found = difference(&ended, calls.fault(), has_report, whole)?;
-        if !found.is_empty() {
-            return Ok(found);
-        }
-    }
-    Ok("")
+    let ended = received(alloc, pair, &[failing])?;
+    difference(&ended, failing.fault(), has_report, whole)
 }
 
 /// Whether a run ends as a whole one, and leaves no less.
@@ -81,27 +75,48 @@ fn is_whole(ended: &Ended, whole: &Ended) -> Result<bool, Fail> {
     Ok(ended.reports("")? && whole.outside.is_front_of(&ended.outside))
 }
 
-/// Whether the run is whole in which the call after the last one would fail, which does not come.
-fn ends_whole(alloc: Global, pair: &Pair, calls: Failing, whole: &Ended) -> Result<bool, Fail> {
-    let ended = received(alloc, pair, &[calls])?;
+/// Whether the run is whole in which this call would fail.
+fn ends_whole(alloc: Global, pair: &Pair, failing: Failing, whole: &Ended) -> Result<bool, Fail> {
+    let ended = received(alloc, pair, &[failing])?;
     is_whole(&ended, whole)
 }
 
-/// The run ends with the fault of that object, and what it leaves are fronts; without the report but for a fault of the output. The
-/// call after the last one doesn't come.
+/// Each call of an object fails in turn, and the one after the last one does not come.
+fn calls_fail(
+    alloc: Global,
+    pair: &Pair,
+    calls: Failing,
+    has_report: bool,
+    whole: &Ended,
+) -> Result<(), Fail> {
+    for call in 0..calls.call() {
+        let found = difference_at(alloc, pair, calls.at(call), has_report, whole)?;
+        if !found.is_empty() {
+            let line = calls.fault();
+            return Err(Fail::new(format_args!("{line}, call {call}: {found}")));
+        }
+    }
+    if !ends_whole(alloc, pair, calls, whole)? {
+        return Err(calls.fault().into());
+    }
+    Ok(())
+}
+
+/// The same of each object.
+fn all_fail(alloc: Global, pair: &Pair, whole: &Ended) -> Result<(), Fail> {
+    if !whole.reports("")? {
+        return Err("no whole run".into());
+    }
+    for (calls, has_report) in CASES {
+        calls_fail(alloc, pair, calls, has_report, whole)?;
+    }
+    Ok(())
+}
+
+/// The run ends with the fault of that object, and what it leaves are fronts; without the report but for a fault of the output.
 #[test]
 fn each_call_that_fails_ends_the_reception(rt: HostRuntime) -> Result<(), Fail> {
     let pair = sent_pair(rt.alloc())?;
     let whole = received(rt.alloc(), &pair, &[])?;
-    assert!(rt; whole.reports("")?);
-    for case in CASES {
-        let line = case.0.fault();
-        assert_eq!(rt;
-            first_difference(rt.alloc(), &pair, case, &whole)?,
-            "",
-            "{line}"
-        );
-        assert!(rt; ends_whole(rt.alloc(), &pair, case.0, &whole)?, "{line}");
-    }
-    Ok(())
+    all_fail(rt.alloc(), &pair, &whole)
 }
