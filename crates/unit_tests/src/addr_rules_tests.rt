@@ -1,5 +1,5 @@
 //! Addresses and texts from the standards, and texts at their edges.
-use addr_rules::{Label, MacList, Rule, RuleList, mac_of, matches, parse_mac, parse_rule, wants};
+use addr_rules::{Label, MacList, Rule, mac_of, matches, parse_mac, parse_rule, wants};
 use hex::FromHex;
 use ip_datagram::IpAddress;
 use std::alloc::Global;
@@ -139,21 +139,4 @@ none 010203|true
 fn bits_and_labels_are_compared(rt: HostRuntime) -> Result<(), Fail> {
     expect_lines(rt.alloc(), is_matched, MATCHES)?;
     expect_lines(rt.alloc(), is_wanted, LABELS)
-}
-
-#[test]
-fn rule_lists_have_what_was_pushed(rt: HostRuntime) -> Result<(), Fail> {
-    let rule = parse_rule("239.1.128.0/17").ok_or("no rule")?;
-    let mut rules = RuleList::new(rt.alloc());
-    rules.push(rule)?;
-    assert_eq!(rt; (rules.len(), *rules.at(0)), (1, rule));
-    Ok(())
-}
-
-#[test]
-fn filters_have_what_was_pushed(rt: HostRuntime) -> Result<(), Fail> {
-    let mut filter = MacList::new(rt.alloc());
-    filter.push([2; 6])?;
-    assert_eq!(rt; (filter.len(), *filter.at(0)), (1, [2; 6]));
-    Ok(())
 }

@@ -1,5 +1,5 @@
 //! Headers from the standards' syntax, written by hand.
-use ip_datagram::{DatagramList, destination, front, length_hint};
+use ip_datagram::{destination, front, length_hint};
 use std::alloc::Global;
 use std::test::Fail;
 use test_lines::expect_lines;
@@ -57,15 +57,4 @@ const HINTS: &str = "\
 #[test]
 fn prefixes_tell_what_they_can(rt: HostRuntime) -> Result<(), Fail> {
     expect_lines(rt.alloc(), hint_of, HINTS)
-}
-
-#[test]
-fn lists_keep_their_order(rt: HostRuntime) -> Result<(), Fail> {
-    let mut list = DatagramList::new(rt.alloc());
-    list.push(&[7, 8])?;
-    list.push(&[])?;
-    assert_eq!(rt; list.len(), 2);
-    assert_eq!(rt; list.at(0), [7, 8].as_slice());
-    assert_eq!(rt; list.at(1).len(), 0);
-    Ok(())
 }

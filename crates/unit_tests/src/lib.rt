@@ -1,5 +1,6 @@
-//! Tests of units and tables: bytes and texts by hand -> [ip_datagram, addr_rules, crc_unit, ts_packet, unit_stream, section_codec,
-//! mpe_section, ule_unit, ule_extension, int_table, psi_tables, loss_report] -> check sums, fields, bytes, lines and faults.
+//! Tests of units, tables and baseband frames: bytes and texts by hand -> [ip_datagram, addr_rules, crc_unit, ts_packet, unit_stream,
+//! section_codec, mpe_section, ule_unit, ule_extension, bb_frame, gse_packet, gse_reassembly, gse_pack, gse_classes, int_table, psi_tables,
+//! loss_report] -> check sums, fields, bytes, lines and faults.
 //!
 //! Tests alone. They stand apart from the crates that they test, so that each of these is proved once. Begin with `cases`.
 #![tactic(auto)]
@@ -7,9 +8,21 @@
 #[cfg(test)]
 mod addr_rules_tests;
 #[cfg(test)]
+mod bb_frame_tests;
+#[cfg(test)]
 mod cases;
 #[cfg(test)]
 mod crc_unit_tests;
+#[cfg(test)]
+mod datagrams;
+#[cfg(test)]
+mod gse_classes_tests;
+#[cfg(test)]
+mod gse_pack_tests;
+#[cfg(test)]
+mod gse_packet_tests;
+#[cfg(test)]
+mod gse_reassembly_tests;
 #[cfg(test)]
 mod int_table_tests;
 #[cfg(test)]
@@ -28,6 +41,8 @@ mod psi_finder_tests;
 mod section_codec_tests;
 #[cfg(test)]
 mod small_form;
+#[cfg(test)]
+mod texts;
 #[cfg(test)]
 mod ts_packet_tests;
 #[cfg(test)]
