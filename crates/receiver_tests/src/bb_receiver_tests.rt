@@ -146,7 +146,10 @@ a refused datagram|ISI_3 LABELLED ISI_4 refuses=2|0 -|stream records=2|one heard
 fn frames_are_led_to_the_services_of_their_isis(rt: HostRuntime) -> Result<(), Fail> {
     let plan = plan_of(rt.alloc(), &[SETTINGS])?;
     for line in CASES.lines() {
-        case_comes(rt.alloc(), &plan, &read_line(line)?)?;
+        let Some(case) = read_line(line) else {
+            return Err(Fail::new(format_args!("{line}: no case")));
+        };
+        case_comes(rt.alloc(), &plan, &case)?;
     }
     Ok(())
 }

@@ -9,6 +9,7 @@ use bridge_frame::Bridge;
 use gse_reassembly::{FRAG_IDS, PDU_BUFFER_SIZE};
 use std::alloc::Global;
 use std::test::Fail;
+use test_lines::expect;
 
 /// The longest baseband frame of these tests.
 const LONGEST: usize = 300;
@@ -41,7 +42,7 @@ fn take(
     bridge: &mut Bridge<Global>,
     text: Option<&str>,
     outlet: &mut Noted,
-) -> Result<bool, Fail>
+) -> Result<(), Fail>
     requires pdus { is_of_sndus bridge.old.units ≡ false }
     requires selected { is_some bridge.old.id ≡ true }
     requires few { bridge.old.taken < 2 ^ 10 }
@@ -50,13 +51,20 @@ fn take(
     ensures few { bridge.new.taken < bridge.old.taken + 2 }
 {
     let Some(text) = text else {
-        return Ok(true);
+        return Ok(());
     };
     let frame = frame_of(alloc, text)?;
     if frame.len() < 10 {
         return Err(Fail::new("no whole header"));
     }
-    Ok(bridge.step_frame(&frame, outlet).is_ok())
+    bridge.step_frame(&frame, outlet)?;
+    Ok(())
+}
+
+/// The frames of a case, and what must be delivered of them.
+fn columns_of(case: &str) -> Option<(&str, &str)> {
+    let (_, columns) = case.split_once('|')?;
+    columns.split_once('|')
 }
 
 /// Fails where a case gives something else than it must.
@@ -68,18 +76,15 @@ fn receive(alloc: Global, bridge: &mut Bridge<Global>, case: &str) -> Result<(),
     ensures selected { is_some bridge.new.id ≡ true }
     ensures few { bridge.new.taken < bridge.old.taken + 4 }
 {
-    let (name, case) = case.split_once('|').ok_or("no name")?;
-    let (texts, want) = case.split_once('|').ok_or("no frames")?;
+    let Some((texts, due)) = columns_of(case) else {
+        return Err(Fail::new(format_args!("{case}: no case")));
+    };
     let mut outlet = outlet_of(9);
     let mut texts = texts.split(';');
-    let first = take(alloc, bridge, texts.next(), &mut outlet)?;
-    let second = take(alloc, bridge, texts.next(), &mut outlet)?;
-    let third = take(alloc, bridge, texts.next(), &mut outlet)?;
-    let text = text_of(alloc, &outlet)?;
-    if !(first && second && third) || text.as_str() != want {
-        return Err(Fail::new(name));
-    }
-    Ok(())
+    take(alloc, bridge, texts.next(), &mut outlet)?;
+    take(alloc, bridge, texts.next(), &mut outlet)?;
+    take(alloc, bridge, texts.next(), &mut outlet)?;
+    expect(case, &text_of(alloc, &outlet)?, due)
 }
 
 /// One bridge takes all cases, one after another.

@@ -1,6 +1,7 @@
 //! An outlet that counts, and how counts rise, as text.
 use ipe_io::{Failed, Outlet};
-use std::alloc::AllocError as OutOfMemory;
+use service_counts::ServiceCounts;
+use std::alloc::{AllocError as OutOfMemory, Global};
 
 /// The service of all tests.
 pub(crate) const SERVICE: u32 = 3;
@@ -66,13 +67,15 @@ impl Outlet for Noted {
     }
 }
 
+/// What a reception has counted, and what its outlet has.
+#[derive(Clone, Copy)]
+pub(crate) struct Seen {
+    pub(crate) counts: ServiceCounts,
+    pub(crate) outlet: Noted,
+}
+
 /// Appends a number's name and how much it rose, where it did.
-pub(crate) fn put_rise(
-    text: &mut String,
-    name: &str,
-    old: u64,
-    new: u64,
-) -> Result<(), OutOfMemory> {
+fn put_rise(text: &mut String, name: &str, old: u64, new: u64) -> Result<(), OutOfMemory> {
     if new > old {
         if !text.is_empty() {
             text.push(' ')?;
@@ -82,13 +85,44 @@ pub(crate) fn put_rise(
     Ok(())
 }
 
-/// Appends what an outlet took and refused since an earlier state.
-pub(crate) fn put_deliveries(
+/// Appends how much the numbers of a service rose.
+fn put_counts(
     text: &mut String,
-    old: &Noted,
-    new: &Noted,
+    old: &ServiceCounts,
+    new: &ServiceCounts,
 ) -> Result<(), OutOfMemory> {
+    put_rise(text, "heard", old.heard, new.heard)?;
+    put_rise(text, "repeats", old.repeats, new.repeats)?;
+    put_rise(text, "gaps", old.gaps, new.gaps)?;
+    put_rise(text, "units", old.units, new.units)?;
+    put_rise(text, "bad_check", old.bad_check, new.bad_check)?;
+    put_rise(text, "delimited", old.delimited, new.delimited)?;
+    put_rise(text, "bad_length", old.bad_length, new.bad_length)?;
+    put_rise(text, "unread", old.unread, new.unread)?;
+    put_rise(text, "filtered", old.filtered, new.filtered)?;
+    put_rise(text, "frames", old.frames, new.frames)?;
+    put_rise(text, "rows_mended", old.rows_mended, new.rows_mended)?;
+    put_rise(text, "rows_left", old.rows_left, new.rows_left)?;
+    put_rise(text, "datagrams", old.datagrams, new.datagrams)
+}
+
+/// Appends what an outlet took and refused more.
+fn put_deliveries(text: &mut String, old: &Noted, new: &Noted) -> Result<(), OutOfMemory> {
     put_rise(text, "delivered", old.delivered, new.delivered)?;
     put_rise(text, "others", old.others, new.others)?;
     put_rise(text, "refused", old.refused, new.refused)
+}
+
+/// How much the numbers rose from an earlier state to a later one, and `failed 1` where a datagram was refused.
+pub(crate) fn rises(
+    alloc: Global,
+    old: &Seen,
+    new: &Seen,
+    is_ok: bool,
+) -> Result<String, OutOfMemory> {
+    let mut text = String::new(alloc);
+    put_counts(&mut text, &old.counts, &new.counts)?;
+    put_deliveries(&mut text, &old.outlet, &new.outlet)?;
+    put_rise(&mut text, "failed", u64::from(is_ok), 1)?;
+    Ok(text)
 }

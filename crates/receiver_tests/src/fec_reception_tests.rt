@@ -2,15 +2,15 @@
 ghost use Rattle.std.specs.Prelude.{◌≡◌, ◌<◌, ◌^◌, IfOk};
 
 use crate::buffers::zeros;
-use crate::counting_outlet::{DATAGRAM, Noted, SERVICE, put_deliveries, put_rise};
+use crate::counting_outlet::{DATAGRAM, Noted, SERVICE, Seen, rises};
 use fec_frame::Table;
 use fec_reception::FecReception;
 use ipe_io::Failed;
 use mpe_section::{Fec, RealTime, write_fec, write_mpe};
-use service_counts::ServiceCounts;
 use std::alloc::{AllocError as OutOfMemory, Global};
 use std::test::Fail;
 use test_lines::expect;
+use test_recordings::{go_on, start};
 use ts_packet::parse;
 
 /// EN 301 192 clause 9: the first parity byte of rows with the bytes of `DATAGRAM` in column 0 and zeros in the others, by long
@@ -18,24 +18,6 @@ use ts_packet::parse;
 const PARITY: [u8; 20] = [
     0xE9, 0, 0, 0x1E, 0, 0, 0, 0, 0x60, 0x97, 0, 0, 0x0F, 0, 0, 0x8F, 0x16, 0x8F, 0x03, 0x8C,
 ];
-
-/// A packet of PID 256: where it starts a unit with the pointer 0, then these bytes, as many as have room, and bytes FF.
-fn packet(starts: bool, bytes: &[u8]) -> [u8; 188] {
-    let mut packet = [0xFF; 188];
-    let head: &[u8] = if starts {
-        &[0x47, 0x41, 0, 0x10, 0]
-    } else {
-        &[0x47, 0x01, 0, 0x10]
-    };
-    for place in 0..188usize {
-        if place < head.len() {
-            packet[place] = head[place];
-        } else if place - head.len() < bytes.len() {
-            packet[place] = bytes[place - head.len()];
-        }
-    }
-    packet
-}
 
 /// The datagram_section of `DATAGRAM`.
 fn data_section(delta: u16, address: u32, table_boundary: bool) -> [u8; 36]
@@ -103,57 +85,62 @@ fn new_receiver(alloc: Global, sliced: bool, room: u64) -> Result<Receiver, OutO
     })
 }
 
-/// Takes a packet with the next continuity_counter.
-fn take(receiver: &mut Receiver, packet: [u8; 188], moment: u64) -> Result<(), Failed> {
-    let mut bytes = packet;
-    bytes[3] = 0x10 + receiver.packets % 16;
+/// Takes a packet.
+fn take(receiver: &mut Receiver, bytes: &[u8; 188], moment: u64) -> Result<(), Failed> {
     receiver.packets = receiver.packets.wrapping_add(1);
     let outlet = &mut receiver.outlet;
-    match parse(&bytes) {
+    match parse(bytes) {
         Ok(packet) => receiver
             .reception
-            .take(&bytes, &packet, moment, SERVICE, outlet),
+            .take(bytes, &packet, moment, SERVICE, outlet),
         Err(_) => Err(Failed),
     }
 }
 
+/// Takes the packet in which a section starts, with the next continuity_counter.
+fn take_start(receiver: &mut Receiver, section: &[u8], moment: u64) -> bool {
+    let packet = start(receiver.packets, 0, section);
+    take(receiver, &packet, moment).is_ok()
+}
+
 /// Takes the packet of a datagram_section.
-fn take_data(receiver: &mut Receiver, fields: &str) -> Result<bool, Fail> {
-    let (delta, fields) = fields.split_once(' ').ok_or("no delta_t")?;
-    let (address, fields) = fields.split_once(' ').ok_or("no address")?;
-    let (boundary, moment) = fields.split_once(' ').ok_or("no moment")?;
-    let delta = delta.parse::<u16>()?;
-    let address = address.parse::<u32>()?;
+fn take_data(receiver: &mut Receiver, fields: &str) -> Option<bool> {
+    let (delta, fields) = fields.split_once(' ')?;
+    let (address, fields) = fields.split_once(' ')?;
+    let (boundary, moment) = fields.split_once(' ')?;
+    let delta = delta.parse::<u16>().ok()?;
+    let address = address.parse::<u32>().ok()?;
+    let moment = moment.parse::<u64>().ok()?;
     if delta > 4095 || address > 262_143 {
-        return Err(Fail::new("a field has fewer bits"));
+        return None;
     }
     let section = data_section(delta, address, boundary == "end");
-    let taken = take(receiver, packet(true, &section), moment.parse::<u64>()?);
-    Ok(taken.is_ok())
+    Some(take_start(receiver, &section, moment))
 }
 
 /// Takes the two packets of a column.
-fn take_column(receiver: &mut Receiver, delta: u16) -> Result<bool, Fail> {
+fn take_column(receiver: &mut Receiver, delta: u16) -> Option<bool> {
     if delta > 4095 {
-        return Err(Fail::new("a field has fewer bits"));
+        return None;
     }
     let section = column_section(delta);
-    let first = take(receiver, packet(true, &section), 0);
-    let second = take(receiver, packet(false, &section[183..]), 0);
-    Ok(first.is_ok() && second.is_ok())
+    let first = take_start(receiver, &section, 0);
+    let packet = go_on(receiver.packets, &section[183..]);
+    let second = take(receiver, &packet, 0);
+    Some(first && second.is_ok())
 }
 
 /// Does what the words say; false where a datagram was refused.
-fn act(receiver: &mut Receiver, words: &str) -> Result<bool, Fail> {
-    let (word, fields) = words.split_once(' ').ok_or("no word")?;
+fn act(receiver: &mut Receiver, words: &str) -> Option<bool> {
+    let (word, fields) = words.split_once(' ')?;
     match word {
         "data" => take_data(receiver, fields),
-        "column" => take_column(receiver, fields.parse::<u16>()?),
+        "column" => take_column(receiver, fields.parse::<u16>().ok()?),
         "begin" => {
             receiver.reception.begin_anew();
-            Ok(true)
+            Some(true)
         }
-        _ => Ok(
+        _ => Some(
             receiver
                 .reception
                 .close(SERVICE, &mut receiver.outlet)
@@ -162,52 +149,23 @@ fn act(receiver: &mut Receiver, words: &str) -> Result<bool, Fail> {
     }
 }
 
-/// Appends how much the numbers of packets and units rose.
-fn put_units(
-    text: &mut String,
-    old: &ServiceCounts,
-    new: &ServiceCounts,
-) -> Result<(), OutOfMemory> {
-    put_rise(text, "heard", old.heard, new.heard)?;
-    put_rise(text, "repeats", old.repeats, new.repeats)?;
-    put_rise(text, "gaps", old.gaps, new.gaps)?;
-    put_rise(text, "units", old.units, new.units)?;
-    put_rise(text, "bad_check", old.bad_check, new.bad_check)?;
-    put_rise(text, "delimited", old.delimited, new.delimited)?;
-    put_rise(text, "bad_length", old.bad_length, new.bad_length)?;
-    put_rise(text, "unread", old.unread, new.unread)
+/// What is counted so far.
+fn seen(receiver: &Receiver) -> Seen {
+    Seen {
+        counts: receiver.reception.counts(),
+        outlet: receiver.outlet,
+    }
 }
 
-/// Appends how much the numbers of frames rose.
-fn put_frames(
-    text: &mut String,
-    old: &ServiceCounts,
-    new: &ServiceCounts,
-) -> Result<(), OutOfMemory> {
-    put_rise(text, "frames", old.frames, new.frames)?;
-    put_rise(text, "rows_mended", old.rows_mended, new.rows_mended)?;
-    put_rise(text, "rows_left", old.rows_left, new.rows_left)?;
-    put_rise(text, "datagrams", old.datagrams, new.datagrams)
-}
-
-/// Does what the words say, and answers how much the numbers rise, and what the outlet took and refused.
-fn outcome_of(alloc: Global, receiver: &mut Receiver, words: &str) -> Result<String, Fail> {
-    let old = receiver.reception.counts();
-    let outlet = receiver.outlet;
-    let is_ok = act(receiver, words)?;
-    let new = receiver.reception.counts();
-    let mut text = String::new(alloc);
-    put_units(&mut text, &old, &new)?;
-    put_frames(&mut text, &old, &new)?;
-    put_deliveries(&mut text, &outlet, &receiver.outlet)?;
-    put_rise(&mut text, "failed", u64::from(is_ok), 1)?;
-    Ok(text)
-}
-
-/// Fails where a line has another outcome than the one after its bar.
+/// Fails where a line has another outcome than the one after its bar: how much the numbers rise.
 fn check(alloc: Global, receiver: &mut Receiver, line: &str) -> Result<(), Fail> {
-    let (words, due) = line.split_once('|').ok_or("no bar")?;
-    expect(line, &outcome_of(alloc, receiver, words)?, due)
+    let (words, due) = line.split_once('|').unwrap_or(("", ""));
+    let old = seen(receiver);
+    let Some(is_ok) = act(receiver, words) else {
+        return Err(Fail::new(format_args!("{line}: no such act")));
+    };
+    let outcome = rises(alloc, &old, &seen(receiver), is_ok)?;
+    expect(line, &outcome, due)
 }
 
 /// Fails where a line has another outcome with a new receiver, whose outlet takes so many datagrams.

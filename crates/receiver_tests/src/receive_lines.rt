@@ -17,10 +17,23 @@ use receive_command::{ReceiveFault, receive_recording, ule};
 use service_plan::Plan;
 use std::alloc::Global;
 use std::test::Fail;
+use test_lines::expect;
 use test_recordings::units::{INT_OF_TWO, WRONG_HASH};
 use test_recordings::{
-    FileLeft, Given, Left, Outside, fails_of, faultless, recording_of_two, report_of, small_capture,
+    FileLeft, Given, Left, Outside, bytes_of, fails_of, faultless, recording_of_two, report_of,
+    small_capture,
 };
+
+/// What is received of a recording.
+#[derive(Clone, Copy)]
+pub(crate) enum Wanted<'a> {
+    /// The services of a plan.
+    Plan(&'a Plan),
+    /// PID 256.
+    Pid,
+    /// The same, from a source that lends.
+    LentPid,
+}
 
 /// The columns of a line.
 #[derive(Clone, Copy)]
@@ -41,24 +54,24 @@ struct Ended {
 }
 
 /// The end of a word.
-fn end_of(word: &str) -> Result<Result<(), ReceiveFault>, Fail> {
+fn end_of(word: &str) -> Option<Result<(), ReceiveFault>> {
     match word {
-        "Ok" => Ok(Ok(())),
-        "Source" => Ok(Err(ReceiveFault::Source)),
-        "Sink" => Ok(Err(ReceiveFault::Sink)),
-        "Rack" => Ok(Err(ReceiveFault::Rack)),
-        _ => Err("no such end".into()),
+        "Ok" => Some(Ok(())),
+        "Source" => Some(Err(ReceiveFault::Source)),
+        "Sink" => Some(Err(ReceiveFault::Sink)),
+        "Rack" => Some(Err(ReceiveFault::Rack)),
+        _ => None,
     }
 }
 
 /// Reads a line.
-fn read_line(line: &str) -> Result<Case<'_>, Fail> {
-    let (name, rest) = line.split_once('|').ok_or("no recording")?;
-    let (recording, rest) = rest.split_once('|').ok_or("no call")?;
-    let (fails, rest) = rest.split_once('|').ok_or("no end")?;
-    let (end, rest) = rest.split_once('|').ok_or("no files")?;
-    let (files, report) = rest.split_once('|').ok_or("no report")?;
-    Ok(Case {
+fn read_line(line: &str) -> Option<Case<'_>> {
+    let (name, rest) = line.split_once('|')?;
+    let (recording, rest) = rest.split_once('|')?;
+    let (fails, rest) = rest.split_once('|')?;
+    let (end, rest) = rest.split_once('|')?;
+    let (files, report) = rest.split_once('|')?;
+    Some(Case {
         name,
         recording,
         fails,
@@ -69,42 +82,35 @@ fn read_line(line: &str) -> Result<Case<'_>, Fail> {
 }
 
 /// The header of a frame on ISI 3 with 192 bits of data, and a complete packet for all receivers with the datagram of the captures
-/// (EN 302 307-1 clause 5.1.6, TS 102 606-1 clause 4.2); the CRC-8 was worked out apart from this program.
-const BASEBAND_FRAME: [u8; 34] = [
-    0x50, 3, 0, 0, 0, 0xC0, 0, 0, 0, 0x41, 0xE0, 0x16, 0x08, 0x00, 0x45, 0, 0, 20, 0, 0, 0, 0,
-    0x40, 0x11, 0, 0, 10, 0, 0, 1, 239, 1, 2, 3,
-];
-
-/// The frame, one of zeros, and 299 bytes more.
-fn recording_of_frames() -> [u8; 899] {
-    let mut recording = [0; 899];
-    recording[..34].copy_from_slice(&BASEBAND_FRAME);
-    recording
-}
+/// (EN 302 307-1 clause 5.1.6, TS 102 606-1 clause 4.2); the CRC-8 was worked out apart from this program. Then zeros: the rest of its 300
+/// bytes, another frame, and 299 bytes more.
+const BASEBAND_FRAMES: &str =
+    "5003000000C000000041 E0160800 450000140000000040110000 0A000001EF010203 00*865";
 
 /// A recording by its name.
 fn recording_of(alloc: Global, words: &str) -> Result<Vec<u8>, Fail> {
     let (name, tail) = words.split_once(' ').unwrap_or((words, "0"));
     let tail = tail.parse::<usize>()?;
-    match name {
-        "EMPTY" => Ok(Vec::new(alloc)),
-        "FRAME" => Ok(Vec::from_slice(alloc, &packet_of_frame())?),
-        "BASEBAND" => Ok(Vec::from_slice(alloc, &recording_of_frames())?),
-        "INT_OF_TWO" => Ok(recording_of_two(alloc, &INT_OF_TWO, tail)?),
-        "WRONG_HASH" => Ok(recording_of_two(alloc, &WRONG_HASH, tail)?),
-        _ => Err("no such recording".into()),
-    }
+    let section = match name {
+        "EMPTY" => return Ok(Vec::new(alloc)),
+        "FRAME" => return Ok(Vec::from_slice(alloc, &packet_of_frame())?),
+        "BASEBAND" => return bytes_of(alloc, BASEBAND_FRAMES),
+        "INT_OF_TWO" => INT_OF_TWO,
+        "WRONG_HASH" => WRONG_HASH,
+        _ => return Err("no such recording".into()),
+    };
+    Ok(recording_of_two(alloc, &section, tail)?)
 }
 
 /// The file of a word, which holds a front of a capture.
-fn file_of<'a>(capture: &'a [u8], word: &'a str) -> Result<FileLeft<'a>, Fail> {
-    let (name, sizes) = word.split_once('=').ok_or("no size")?;
-    let (size, flushed) = sizes.split_once('/').ok_or("none flushed")?;
-    let size = size.parse::<usize>()?;
-    Ok(FileLeft {
+fn file_of<'a>(capture: &'a [u8], word: &'a str) -> Option<FileLeft<'a>> {
+    let (name, sizes) = word.split_once('=')?;
+    let (size, flushed) = sizes.split_once('/')?;
+    let size = size.parse::<usize>().ok()?;
+    Some(FileLeft {
         name,
-        bytes: capture.get(..size).ok_or("no such front")?,
-        flushed: flushed.parse::<usize>()?,
+        bytes: capture.get(..size)?,
+        flushed: flushed.parse::<usize>().ok()?,
     })
 }
 
@@ -116,7 +122,10 @@ fn files_of<'a>(
 ) -> Result<Vec<FileLeft<'a>>, Fail> {
     let mut files = Vec::new(alloc);
     for word in words.split_whitespace() {
-        files.push(file_of(capture, word)?)?;
+        let Some(file) = file_of(capture, word) else {
+            return Err(Fail::new(format_args!("{word}: no file")));
+        };
+        files.push(file)?;
     }
     Ok(files)
 }
@@ -129,18 +138,22 @@ fn text_of(alloc: Global, columns: &str) -> Result<String, Fail> {
     report_of(alloc, columns)
 }
 
-/// Receives under a plan; without one, PID 256.
-fn received(alloc: Global, plan: Option<&Plan>, given: &Given<'_>) -> Result<Ended, Fail> {
+/// Receives a recording.
+fn received(alloc: Global, wanted: Wanted<'_>, given: &Given<'_>) -> Result<Ended, Fail> {
     let mut outside = Outside::new(alloc, given)?;
-    let end = match plan {
-        Some(plan) => receive_recording(
+    let end = match wanted {
+        Wanted::Plan(plan) => receive_recording(
             alloc,
             plan,
             &mut outside.input,
             &mut outside.output,
             &mut outside.rack,
         ),
-        None => ule(alloc, 256, &mut outside.input, &mut outside.rack),
+        Wanted::Pid => ule(alloc, 256, &mut outside.input, &mut outside.rack),
+        Wanted::LentPid => {
+            let mut input = StdSource::new(alloc, given.input)?;
+            ule(alloc, 256, &mut input, &mut outside.rack)
+        }
     };
     Ok(Ended { end, outside })
 }
@@ -148,7 +161,7 @@ fn received(alloc: Global, plan: Option<&Plan>, given: &Given<'_>) -> Result<End
 /// Receives a recording where these calls fail.
 fn received_with(
     alloc: Global,
-    plan: Option<&Plan>,
+    wanted: Wanted<'_>,
     input: &[u8],
     fails: &str,
 ) -> Result<Ended, Fail> {
@@ -157,7 +170,7 @@ fn received_with(
         fails: &fails,
         ..faultless(&[], &[], input)
     };
-    received(alloc, plan, &given)
+    received(alloc, wanted, &given)
 }
 
 /// What differs from how a reception must end and from what it must leave; an empty text where nothing does.
@@ -182,48 +195,29 @@ fn difference(
 fn expect_left(alloc: Global, case: &Case<'_>, capture: &[u8], ended: &Ended) -> Result<(), Fail> {
     let files = files_of(alloc, capture, case.files)?;
     let report = text_of(alloc, case.report)?;
-    let difference = difference(ended, case.end, &report, &files);
-    if !difference.is_empty() {
-        return Err(Fail::new(format_args!("{}: {difference}", case.name)));
-    }
-    Ok(())
+    expect(case.name, difference(ended, case.end, &report, &files), "")
 }
 
-/// Receives the recording of a line, and compares what is left.
-fn line_comes(alloc: Global, plan: Option<&Plan>, capture: &[u8], line: &str) -> Result<(), Fail> {
-    let case = read_line(line)?;
+/// Receives the recording of a case, and compares what is left.
+fn case_comes(
+    alloc: Global,
+    wanted: Wanted<'_>,
+    capture: &[u8],
+    case: &Case<'_>,
+) -> Result<(), Fail> {
     let input = recording_of(alloc, case.recording)?;
-    let ended = received_with(alloc, plan, &input, case.fails)?;
-    expect_left(alloc, &case, capture, &ended)
+    let ended = received_with(alloc, wanted, &input, case.fails)?;
+    expect_left(alloc, case, capture, &ended)
 }
 
 /// The same of each line of a table.
-pub(crate) fn all_come(alloc: Global, plan: Option<&Plan>, table: &str) -> Result<(), Fail> {
+pub(crate) fn all_come(alloc: Global, wanted: Wanted<'_>, table: &str) -> Result<(), Fail> {
     let capture = small_capture(alloc, 3)?;
     for line in table.lines() {
-        line_comes(alloc, plan, &capture, line)?;
+        let Some(case) = read_line(line) else {
+            return Err(Fail::new(format_args!("{line}: no case")));
+        };
+        case_comes(alloc, wanted, &capture, &case)?;
     }
     Ok(())
-}
-
-/// Receives PID 256 of a source that lends.
-fn received_from_lent(alloc: Global, recording: &[u8]) -> Result<Ended, Fail> {
-    let mut input = StdSource::new(alloc, recording)?;
-    let mut outside = Outside::new(alloc, &faultless(&[], &[], &[]))?;
-    let end = ule(alloc, 256, &mut input, &mut outside.rack);
-    Ok(Ended { end, outside })
-}
-
-/// Compares what is left of it.
-fn lent_line_comes(alloc: Global, capture: &[u8], line: &str) -> Result<(), Fail> {
-    let case = read_line(line)?;
-    let recording = recording_of(alloc, case.recording)?;
-    let ended = received_from_lent(alloc, &recording)?;
-    expect_left(alloc, &case, capture, &ended)
-}
-
-/// Receives PID 256 of the recording of a line from a source that lends, and compares what is left.
-pub(crate) fn lent_comes(alloc: Global, line: &str) -> Result<(), Fail> {
-    let capture = small_capture(alloc, 1)?;
-    lent_line_comes(alloc, &capture, line)
 }

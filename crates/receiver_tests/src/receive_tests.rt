@@ -1,6 +1,6 @@
 //! Receptions of small recordings into objects in memory: files, report, and each call that fails. `receive_lines` says what the columns of a
 //! line are.
-use crate::receive_lines::{all_come, lent_comes};
+use crate::receive_lines::{Wanted, all_come};
 use crate::receiver_cases::plan_of;
 use service_plan::ule_plan;
 use std::test::Fail;
@@ -35,7 +35,7 @@ the input fails|INT_OF_TWO 0|input=12|Source|one.pcap=60/0 two.pcap=60/0|";
 #[test]
 fn recordings_are_received_and_each_failing_call_ends_it(rt: HostRuntime) -> Result<(), Fail> {
     let plan = plan_of(rt.alloc(), &[INT, ONE_AND_TWO])?;
-    all_come(rt.alloc(), Some(&plan), CASES)
+    all_come(rt.alloc(), Wanted::Plan(&plan), CASES)
 }
 
 /// The report has a head and 18 lines.
@@ -44,7 +44,7 @@ const NO_RECORD: &str = "no record|EMPTY||Ok|ule.pcap=24/24|stream records=0|ule
 #[test]
 fn an_empty_recording_has_a_report(rt: HostRuntime) -> Result<(), Fail> {
     let plan = ule_plan(rt.alloc(), 256)?;
-    all_come(rt.alloc(), Some(&plan), NO_RECORD)
+    all_come(rt.alloc(), Wanted::Plan(&plan), NO_RECORD)
 }
 
 /// Of one PID nothing is reported.
@@ -55,7 +55,7 @@ PID 256|INT_OF_TWO 100|input=0|Source|ule.pcap=24/0|";
 
 #[test]
 fn one_pid_is_received_alone(rt: HostRuntime) -> Result<(), Fail> {
-    all_come(rt.alloc(), None, PID_256)
+    all_come(rt.alloc(), Wanted::Pid, PID_256)
 }
 
 /// The first case from a source that lends.
@@ -64,7 +64,7 @@ const LENT: &str = "PID 256|INT_OF_TWO 100||Ok|ule.pcap=60/60|";
 /// Records that are lent out of the input's buffer are received as those that are read.
 #[test]
 fn a_recording_is_received_from_a_source_that_lends(rt: HostRuntime) -> Result<(), Fail> {
-    lent_comes(rt.alloc(), LENT)
+    all_come(rt.alloc(), Wanted::LentPid, LENT)
 }
 
 /// A frame of three datagrams is under way at the end. They are written after the input has ended: the head of a record and the
@@ -82,7 +82,7 @@ a frame under way|FRAME|output=0|Sink|lecture.pcap=132/132|";
 #[test]
 fn a_frame_under_way_at_the_end_is_written(rt: HostRuntime) -> Result<(), Fail> {
     let plan = plan_of(rt.alloc(), &[FRAMES])?;
-    all_come(rt.alloc(), Some(&plan), FRAME_CASES)
+    all_come(rt.alloc(), Wanted::Plan(&plan), FRAME_CASES)
 }
 
 /// Settings of a service on ISI 3.
@@ -110,5 +110,5 @@ fn a_recording_of_frames_is_received_and_each_failing_call_ends_it(
     rt: HostRuntime,
 ) -> Result<(), Fail> {
     let plan = plan_of(rt.alloc(), &[BASEBAND])?;
-    all_come(rt.alloc(), Some(&plan), BASEBAND_CASES)
+    all_come(rt.alloc(), Wanted::Plan(&plan), BASEBAND_CASES)
 }

@@ -25,10 +25,10 @@ use ts_record::Record;
 /// The plan of these settings.
 pub(crate) fn plan_of(alloc: Global, settings: &[&str]) -> Result<Plan, Fail> {
     let settings = settings_of(alloc, settings)?;
-    match read_plan(alloc, settings.as_bytes()) {
-        Ok(plan) => Ok(plan),
-        Err(_) => Err("settings".into()),
-    }
+    let Ok(plan) = read_plan(alloc, settings.as_bytes()) else {
+        return Err("settings".into());
+    };
+    Ok(plan)
 }
 
 /// Three datagram_sections of one MPE-FEC frame (EN 301 192 clauses 7 and 9), with the addresses 0, 20 and 40. The last has
@@ -65,31 +65,31 @@ fn with_byte(counter: u8, place: usize, byte: u8) -> [u8; 188] {
 }
 
 /// The packet of PID 256 that carries what a word says.
-fn packet_of(what: &str, counter: u8) -> Result<[u8; 188], Fail> {
+fn packet_of(what: &str, counter: u8) -> Option<[u8; 188]> {
     let count = counter % 16;
     match what {
-        "sndu" | "timeless" => Ok(start(counter, 0, &SNDU)),
-        "head" => Ok(head_of_sndu(counter)),
-        "tail" => Ok(go_on(counter, &SNDU[10..])),
-        "section" => Ok(start(counter, 0, &SECTION)),
-        "int" => Ok(start(counter, 0, &INT)),
-        "next" => Ok(start(counter, 0, &NEXT_INT)),
-        "frame" => Ok(start(counter, 0, &FRAME)),
-        "marked" => Ok(with_byte(counter, 1, 0xC1)),
-        "scrambled" => Ok(with_byte(counter, 3, 0x90 + count)),
-        "unsynced" => Ok(with_byte(counter, 0, 0x46)),
-        "unloaded" => Ok(with_byte(counter, 3, 0x20 + count)),
-        _ => Err("no such packet".into()),
+        "sndu" | "timeless" => Some(start(counter, 0, &SNDU)),
+        "head" => Some(head_of_sndu(counter)),
+        "tail" => Some(go_on(counter, &SNDU[10..])),
+        "section" => Some(start(counter, 0, &SECTION)),
+        "int" => Some(start(counter, 0, &INT)),
+        "next" => Some(start(counter, 0, &NEXT_INT)),
+        "frame" => Some(start(counter, 0, &FRAME)),
+        "marked" => Some(with_byte(counter, 1, 0xC1)),
+        "scrambled" => Some(with_byte(counter, 3, 0x90 + count)),
+        "unsynced" => Some(with_byte(counter, 0, 0x46)),
+        "unloaded" => Some(with_byte(counter, 3, 0x20 + count)),
+        _ => None,
     }
 }
 
 /// The record of a word, at moment 0.
-pub(crate) fn record_of(word: &str) -> Result<Record, Fail> {
+pub(crate) fn record_of(word: &str) -> Option<Record> {
     let (what, place) = word.split_once(':').unwrap_or(("sndu", word));
-    let (pid, counter) = place.split_once('/').ok_or("no counter")?;
-    let packet = packet_of(what, counter.parse()?)?;
-    Ok(Record {
+    let (pid, counter) = place.split_once('/')?;
+    let packet = packet_of(what, counter.parse::<u8>().ok()?)?;
+    Some(Record {
         moment: if what == "timeless" { None } else { Some(0) },
-        bytes: on_pid(packet, pid.parse()?),
+        bytes: on_pid(packet, pid.parse::<u16>().ok()?),
     })
 }

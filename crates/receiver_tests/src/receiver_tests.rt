@@ -38,7 +38,10 @@ fn give(receiver: &mut Receiver<'_>, words: &str, noted: &mut NotedOutlet) -> Re
     ensures { plan_in receiver.new ≡ plan_in receiver.old }
 {
     for word in words.split_whitespace() {
-        take(receiver, &record_of(word)?, noted);
+        let Some(record) = record_of(word) else {
+            return Err(Fail::new(format_args!("{word}: no record")));
+        };
+        take(receiver, &record, noted);
     }
     Ok(!receiver.is_open() || receiver.finish(noted).is_ok())
 }
@@ -59,7 +62,10 @@ fn case_comes(alloc: Global, plan: &Plan, case: &Case<'_>) -> Result<(), Fail> {
 /// Of each line of a table comes what must come.
 fn all_come(alloc: Global, plan: &Plan, table: &str) -> Result<(), Fail> {
     for line in table.lines() {
-        case_comes(alloc, plan, &read_line(line)?)?;
+        let Some(case) = read_line(line) else {
+            return Err(Fail::new(format_args!("{line}: no case")));
+        };
+        case_comes(alloc, plan, &case)?;
     }
     Ok(())
 }

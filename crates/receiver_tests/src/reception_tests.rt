@@ -1,12 +1,12 @@
 //! What is counted of packets by hand, and which datagrams are delivered.
-use crate::reception_cases::{Case, SECTIONS, SNDUS, read_line};
+use crate::reception_cases::{Case, SECTIONS, SNDUS, packet_of, read_line};
 use addr_rules::MacList;
 use ipe_io::Failed;
 use section_codec::SectionForm;
-use service_counts::ServiceCounts;
 use service_reception::{Reception, UnitReader};
 use std::alloc::Global;
 use std::test::Fail;
+use test_lines::expect_lines;
 use test_recordings::units::{DATAGRAM, SECTION, SNDU};
 use test_recordings::{NotedOutlet, counts_of, go_on, start};
 use ts_packet::parse;
@@ -44,37 +44,56 @@ fn filter_of(alloc: Global, listed: Option<[u8; 6]>) -> Result<MacList, Fail> {
     Ok(filter)
 }
 
+/// Fails where a reception has counted other numbers than those of the words, or where not as many right datagrams came.
+fn expect_counts<K: UnitReader>(
+    name: &str,
+    reception: &Reception<K, Global>,
+    noted: &NotedOutlet,
+    words: &str,
+) -> Result<(), Fail> {
+    let counts = counts_of(words)?;
+    if reception.counts() != counts || noted.order().len() as u64 != counts.datagrams {
+        return Err(Fail::new(name));
+    }
+    Ok(())
+}
+
 /// Takes the packets of a case, and the one of a good unit.
 fn take_case<K: UnitReader>(
     reception: &mut Reception<K, Global>,
     filter: &MacList,
     case: &Case<'_>,
-    good: &[u8],
+    packets: [[u8; 188]; 2],
     noted: &mut NotedOutlet,
-) -> Result<(), Failed> {
+) -> Result<(), Fail> {
+    let [packet, good] = packets;
     for _ in 0..case.times {
-        take(reception, &case.packet, filter, noted)?;
+        take(reception, &packet, filter, noted)?;
     }
-    take(reception, &start(1, 0, good), filter, noted)
+    take(reception, &good, filter, noted)?;
+    expect_counts(case.name, reception, noted, case.counts)
 }
 
-/// Whether a case gives its numbers, and as many right datagrams.
-fn is_counted<K: UnitReader>(alloc: Global, good: &[u8], case: &Case<'_>) -> Result<bool, Fail> {
+/// The same of a reception that has taken nothing.
+fn take_anew<K: UnitReader>(
+    alloc: Global,
+    case: &Case<'_>,
+    packets: [[u8; 188]; 2],
+) -> Result<(), Fail> {
     let filter = filter_of(alloc, case.filter)?;
     let mut reception = reception_of::<K>(alloc)?;
     let mut noted = NotedOutlet::new(100);
-    take_case(&mut reception, &filter, case, good, &mut noted)?;
-    let right = noted.order().len() as u64;
-    Ok(reception.counts() == case.counts && right == case.counts.datagrams)
+    take_case(&mut reception, &filter, case, packets, &mut noted)
 }
 
-/// Fails where a case of a table gives other numbers.
+/// The same of each case of a table.
 fn all_counted<K: UnitReader>(alloc: Global, good: &[u8], table: &str) -> Result<(), Fail> {
     for line in table.lines() {
-        let case = read_line(alloc, line)?;
-        if !is_counted::<K>(alloc, good, &case)? {
-            return Err(Fail::new(case.name));
-        }
+        let Some(case) = read_line(line) else {
+            return Err(Fail::new(format_args!("{line}: no case")));
+        };
+        let packet = packet_of(alloc, &case)?;
+        take_anew::<K>(alloc, &case, [packet, start(1, 0, good)])?;
     }
     Ok(())
 }
@@ -103,13 +122,19 @@ fn take_headers(
     reception: &mut Reception<UleForm, Global>,
     filter: &MacList,
     noted: &mut NotedOutlet,
-) -> Result<(), Failed> {
+) -> Result<(), Fail> {
     let unit = two_thousand_headers();
     take(reception, &start(0, 0, &unit), filter, noted)?;
     for (number, piece) in unit[183..].chunks(184).enumerate() {
         take(reception, &go_on(number as u8 + 1, piece), filter, noted)?;
     }
-    take(reception, &start(0, 0, &SNDU), filter, noted)
+    take(reception, &start(0, 0, &SNDU), filter, noted)?;
+    expect_counts(
+        "2,000 headers",
+        reception,
+        noted,
+        "heard=23 gaps=1 units=2 datagrams=2",
+    )
 }
 
 #[test]
@@ -117,42 +142,14 @@ fn two_thousand_headers_are_passed(rt: HostRuntime) -> Result<(), Fail> {
     let filter = MacList::new(rt.alloc());
     let mut reception = reception_of::<UleForm>(rt.alloc())?;
     let mut noted = NotedOutlet::new(100);
-    take_headers(&mut reception, &filter, &mut noted)?;
-    let counts = counts_of("heard=23 gaps=1 units=2 datagrams=2")?;
-    assert_eq!(rt; reception.counts(), counts);
-    assert_eq!(rt; noted.order().len(), 2);
-    Ok(())
+    take_headers(&mut reception, &filter, &mut noted)
 }
 
-/// Of two units in a packet: from which call on the outlet refuses, how many calls there are, and how many datagrams are right.
-#[derive(Clone, Copy)]
-struct Refusal {
-    refuses_from: usize,
-    calls: usize,
-    right: usize,
-    is_ok: bool,
-}
-
-static REFUSALS: [Refusal; 3] = [
-    Refusal {
-        refuses_from: 1,
-        calls: 1,
-        right: 0,
-        is_ok: false,
-    },
-    Refusal {
-        refuses_from: 2,
-        calls: 2,
-        right: 1,
-        is_ok: false,
-    },
-    Refusal {
-        refuses_from: 3,
-        calls: 2,
-        right: 2,
-        is_ok: true,
-    },
-];
+/// Of two units in a packet: from which call on the outlet refuses; what is answered, how many calls there are, and how many datagrams are
+/// right.
+const REFUSALS: &str = "1|Err(Failed) 1 0
+2|Err(Failed) 2 1
+3|Ok(()) 2 2";
 
 /// The packet with both units.
 fn packet_of_two() -> [u8; 188] {
@@ -162,48 +159,36 @@ fn packet_of_two() -> [u8; 188] {
     start(0, 0, &units)
 }
 
-/// Whether the units are offered as a case says.
-fn is_refused(alloc: Global, packet: &[u8; 188], case: &Refusal) -> Result<bool, Fail> {
+/// What comes of the packet where the outlet refuses from this call on.
+fn offered_of(alloc: Global, refuses_from: &str) -> Result<String, Fail> {
+    let mut noted = NotedOutlet::new(refuses_from.parse::<usize>()?);
     let filter = MacList::new(alloc);
     let mut reception = reception_of::<UleForm>(alloc)?;
-    let mut noted = NotedOutlet::new(case.refuses_from);
-    let taken = take(&mut reception, packet, &filter, &mut noted);
-    Ok(
-        taken.is_ok() == case.is_ok
-            && noted.calls() == case.calls
-            && noted.order().len() == case.right,
-    )
+    let taken = take(&mut reception, &packet_of_two(), &filter, &mut noted);
+    Ok(format!(in alloc; "{taken:?} {} {}", noted.calls(), noted.order().len())?)
 }
 
 /// Where the outlet refuses the first of two units, the second is not offered.
 #[test]
 fn after_a_refused_datagram_none_is_offered(rt: HostRuntime) -> Result<(), Fail> {
-    let packet = packet_of_two();
-    for case in &REFUSALS {
-        assert!(rt;
-            is_refused(rt.alloc(), &packet, case)?,
-            "call {}",
-            case.refuses_from
-        );
-    }
-    Ok(())
+    expect_lines(rt.alloc(), offered_of, REFUSALS)
 }
 
-/// Takes the beginning of a unit, begins anew, and takes the rest of the unit and a whole one. Whether nothing is counted where the
-/// reception begins anew.
+/// Takes the beginning of a unit, begins anew, and takes the rest of the unit and a whole one.
 fn begin_anew_in_a_unit(
     reception: &mut Reception<UleForm, Global>,
     filter: &MacList,
     noted: &mut NotedOutlet,
-) -> Result<bool, Failed> {
+) -> Result<(), Fail> {
     let mut unit = [0u8; 200];
     unit[..4].copy_from_slice(&[0x80, 0xC4, 8, 0]);
     take(reception, &start(0, 0, &unit), filter, noted)?;
     reception.begin_anew();
-    let is_anew = reception.counts() == ServiceCounts::default();
+    expect_counts("begun anew", reception, noted, "")?;
     take(reception, &go_on(1, &unit[183..]), filter, noted)?;
     take(reception, &start(2, 0, &SNDU), filter, noted)?;
-    Ok(is_anew)
+    let counts = "heard=2 units=1 datagrams=1";
+    expect_counts("the rest and a unit", reception, noted, counts)
 }
 
 /// Where a reception begins anew, the unit under way is dropped without an event, and nothing is counted.
@@ -212,9 +197,5 @@ fn a_unit_under_way_ends_where_a_reception_begins_anew(rt: HostRuntime) -> Resul
     let filter = MacList::new(rt.alloc());
     let mut reception = reception_of::<UleForm>(rt.alloc())?;
     let mut noted = NotedOutlet::new(100);
-    let is_anew = begin_anew_in_a_unit(&mut reception, &filter, &mut noted)?;
-    assert!(rt; is_anew);
-    let counts = counts_of("heard=2 units=1 datagrams=1")?;
-    assert_eq!(rt; reception.counts(), counts);
-    Ok(())
+    begin_anew_in_a_unit(&mut reception, &filter, &mut noted)
 }
