@@ -17,7 +17,9 @@ pub(crate) fn expect_calls<C: Calls>(
     lines: &str,
 ) -> Result<(), Fail> {
     for line in lines.lines() {
-        let (call, due) = line.split_once('|').ok_or("no bar")?;
+        let Some((call, due)) = line.split_once('|') else {
+            return Err(Fail::new(format_args!("{line}: no bar")));
+        };
         expect(call, &object.answer(alloc, call)?, due)?;
     }
     Ok(())

@@ -1,8 +1,8 @@
 //! What no clause says of the real objects: what the system sees of them. The files stand in the current folder.
 use crate::calls::{Calls, expect_calls, loaded, sink_answer};
 use ipe_io::{
-    AddFault, Failed, FileRack, FileShelf, Rack, Shelf, Sink, Source, StdSink, StdSource, fill,
-    put_all, put_file,
+    AddFault, Failed, FileRack, FileShelf, LoadFault, Rack, Shelf, Sink, Source, StdSink,
+    StdSource, fill, put_all, put_file,
 };
 use std::alloc::{AllocError as OutOfMemory, Global};
 use std::fs::File;
@@ -56,28 +56,30 @@ fn add_and_write<R: Rack>(
     !flush || rack.flush(0).is_ok() && rack.flush(1).is_ok()
 }
 
-/// Whether the calls of a rack did what they must, what its second file holds before and after the flush of all, and what the load of a
-/// file that is not there answers.
-fn held_back(rt: HostRuntime) -> Result<String, Fail> {
+/// Whether the calls of a rack did what they must, and its second file holds nothing before the flush of all, and its text after it.
+fn is_held_back(rt: HostRuntime) -> bool {
     let alloc = rt.alloc();
     let mut rack = FileRack::new(alloc, rt);
     let mut shelf = FileShelf::new(rt);
-    let done = add_and_write(alloc, &mut rack, b"", b"123", false);
-    let before = loaded(alloc, &mut shelf, "ipe_io_b")?;
-    let flush = rack.flush_all();
-    let after = loaded(alloc, &mut shelf, "ipe_io_b")?;
-    let none = loaded(alloc, &mut shelf, "ipe_io_none")?;
-    Ok(format!(in alloc; "{done} [{before}] {flush:?} [{after}] {none}")?)
+    add_and_write(alloc, &mut rack, b"", b"123", false)
+        && loads(alloc, &mut shelf, "ipe_io_b", b"")
+        && rack.flush_all().is_ok()
+        && loads(alloc, &mut shelf, "ipe_io_b", b"123")
 }
 
-/// The same of a rack that was dropped without a flush.
-fn dropped(rt: HostRuntime) -> Result<String, Fail> {
+/// Whether the second file of a rack that was dropped without a flush holds its text.
+fn is_written_at_drop(rt: HostRuntime) -> bool {
     let alloc = rt.alloc();
     let mut rack = FileRack::new(alloc, rt);
     let done = add_and_write(alloc, &mut rack, b"4", b"567", false);
     drop(rack);
-    let after = loaded(alloc, &mut FileShelf::new(rt), "ipe_io_b")?;
-    Ok(format!(in alloc; "{done} [{after}]")?)
+    done && loads(alloc, &mut FileShelf::new(rt), "ipe_io_b", b"567")
+}
+
+/// Whether the load of a file that is not there fails.
+fn is_missed(rt: HostRuntime) -> bool {
+    let loaded = FileShelf::new(rt).load(rt.alloc(), "ipe_io_none");
+    matches!(loaded, Err(LoadFault::Failed))
 }
 
 /// Whether two files of a new rack that is flushed hold these texts and nothing else.
@@ -90,18 +92,15 @@ fn rewritten(rt: HostRuntime, first: &[u8], second: &[u8]) -> bool {
         && loads(alloc, &mut shelf, "ipe_io_b", second)
 }
 
-/// Three runs over the same two files, with texts of these lengths: how many did what they must.
-fn runs_that_rewrite(rt: HostRuntime) -> Result<u32, Fail> {
-    let text = long_text(rt.alloc(), 70_000)?;
-    let mut runs: u32 = 0;
+/// Whether each of three runs over the same two files, with pieces of a text of these lengths, did what it must.
+fn all_rewritten(rt: HostRuntime, text: &[u8]) -> Option<bool> {
     for (first, second) in [(70_000, 65_537), (65_536, 3), (1, 0)] {
-        let first = text.get(..first).ok_or("a short text")?;
-        let second = text.get(7..7 + second).ok_or("a short text")?;
-        if rewritten(rt, first, second) {
-            runs = runs.saturating_add(1);
+        let second = text.get(7..)?.get(..second)?;
+        if !rewritten(rt, text.get(..first)?, second) {
+            return Some(false);
         }
     }
-    Ok(runs)
+    Some(true)
 }
 
 /// Files of the folder: a rack writes them, a shelf loads them, and what a rack holds back is written by a flush, and when the rack is
@@ -109,10 +108,10 @@ fn runs_that_rewrite(rt: HostRuntime) -> Result<u32, Fail> {
 /// are held back.
 #[test]
 fn a_rack_writes_files(rt: HostRuntime) -> Result<(), Fail> {
-    let want = "true [] Ok(()) [123] Failed";
-    expect("a flush", &held_back(rt)?, want)?;
-    expect("a drop", &dropped(rt)?, "true [567]")?;
-    assert_eq!(rt; runs_that_rewrite(rt)?, 3);
+    assert!(rt; is_held_back(rt) && is_missed(rt));
+    assert!(rt; is_written_at_drop(rt));
+    let text = long_text(rt.alloc(), 70_000)?;
+    assert!(rt; all_rewritten(rt, &text) == Some(true));
     fs::remove_file(&rt, "ipe_io_a")?;
     fs::remove_file(&rt, "ipe_io_b")?;
     Ok(())
@@ -243,21 +242,23 @@ fn read_back(rt: HostRuntime, text: &[u8]) -> Result<String, Fail> {
     Ok(format!(in alloc; "{same} {lent} {left} {:?}", rest.get(100))?)
 }
 
-/// The longest text that a shelf loads, written and read.
-fn longest(rt: HostRuntime) -> Result<String, Fail> {
-    let text = long_text(rt.alloc(), 1_048_576)?;
-    let written = long_written(rt, &text)?;
-    let read = read_back(rt, &text)?;
-    Ok(format!(in rt.alloc(); "{written}, {read}")?)
-}
-
 /// The longest file that a shelf loads has 1,048,576 bytes. A file is read as it was written: what a source lends and what it moves are
 /// together its bytes in order. The first record of 188 bytes and each that lies across one of 15 ends of the buffer of 65,536 bytes is
 /// moved, and those after it are lent: all but 16 of 5,577, and 101 bytes are left, of which the last is the 8.
 #[test]
 fn the_longest_file_is_read_as_it_was_written(rt: HostRuntime) -> Result<(), Fail> {
-    let want = "Ok(()) true Ok(()) Some(TooLong), 5577 5561 101 Some(56)";
-    expect("the longest file", &longest(rt)?, want)?;
+    let text = long_text(rt.alloc(), 1_048_576)?;
+    let written = long_written(rt, &text)?;
+    expect(
+        "the longest file",
+        &written,
+        "Ok(()) true Ok(()) Some(TooLong)",
+    )?;
+    expect(
+        "its pieces",
+        &read_back(rt, &text)?,
+        "5577 5561 101 Some(56)",
+    )?;
     fs::remove_file(&rt, "ipe_io_d")?;
     Ok(())
 }

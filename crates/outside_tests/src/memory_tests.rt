@@ -114,7 +114,9 @@ fn answer_at(
 /// The answer, the number of files, and the faults.
 impl Calls for MemRack {
     fn answer(&mut self, alloc: Global, call: &str) -> Result<String, Fail> {
-        let (kind, rest) = call.split_once(' ').ok_or("no name and no place")?;
+        let Some((kind, rest)) = call.split_once(' ') else {
+            return Err(Fail::new(format_args!("{call}: no name and no place")));
+        };
         let mut text = if kind == "add" {
             format!(in alloc; "{:?}", self.add(alloc, rest))?
         } else {

@@ -22,7 +22,10 @@ const ETHERNET: &str = "A1B23C4D 0002 0004 00000000 00000000 00040000 00000001
 
 /// Lets the records of a capture stand so many times.
 fn repeat(alloc: Global, bytes: &mut Vec<u8>, times: u16) -> Result<(), Fail> {
-    let records = Vec::from_slice(alloc, bytes.get(24..).ok_or("no head")?)?;
+    let Some(records) = bytes.get(24..) else {
+        return Err("no head".into());
+    };
+    let records = Vec::from_slice(alloc, records)?;
     for _ in 1..times {
         bytes.extend_from_slice(&records)?;
     }
@@ -36,7 +39,9 @@ fn change(alloc: Global, bytes: &mut Vec<u8>, key: &str, value: &str) -> Result<
         "to" => bytes.truncate(value.parse::<usize>()?),
         "times" => repeat(alloc, bytes, value.parse::<u16>()?)?,
         _ => {
-            let byte = bytes.get_mut(key.parse::<usize>()?).ok_or("no such byte")?;
+            let Some(byte) = bytes.get_mut(key.parse::<usize>()?) else {
+                return Err(Fail::new(format_args!("{key}: no such byte")));
+            };
             *byte = u8::from_str_radix(value, 16)?;
         }
     }
@@ -53,7 +58,7 @@ struct Given {
 
 /// Takes a word of what is given.
 fn take_word(alloc: Global, given: &mut Given, word: &str) -> Result<(), Fail> {
-    let (key, value) = word.split_once('=').ok_or("no value")?;
+    let (key, value) = word.split_once('=').unwrap_or((word, ""));
     match key {
         "by" => given.by = value.parse::<usize>()?,
         "fail" => given.fail = value.parse::<u32>()?,

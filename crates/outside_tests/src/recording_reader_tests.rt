@@ -3,7 +3,7 @@ ghost use Rattle.std.specs.Prelude.{◌≡◌, [], IfOk};
 ghost use Rattle.recording_reader.specs.Any.{HasReadIn, count_in};
 
 use ipe_io::{Failed, MemSource, Recording, Source, StdSource};
-use recording_reader::{FramePieces, PacketPieces, RecordingPieces, Taker, read_to_end};
+use recording_reader::{FramePieces, PacketPieces, ReadFault, RecordingPieces, Taker, read_to_end};
 use std::alloc::{AllocError as OutOfMemory, Global};
 use std::fmt::Write;
 use std::test::Fail;
@@ -81,6 +81,14 @@ fn frames_of(alloc: Global, size: u16) -> Result<RecordingPieces<Global>, Fail>
     Ok(RecordingPieces::Frames(FramePieces::over(size, place)))
 }
 
+/// Appends the answer: how many bytes are left over, or the fault.
+fn put_answer(text: &mut String, answer: Result<u32, ReadFault>) -> Result<(), OutOfMemory> {
+    match answer {
+        Ok(tail) => write!(text, "left {tail}"),
+        Err(fault) => write!(text, "{fault:?}"),
+    }
+}
+
 /// What a taker notes that stops at a record, and the answer.
 fn noted<I: Source>(alloc: Global, form: &str, source: &mut I, last: u32) -> Result<String, Fail> {
     let mut pieces = pieces_of(alloc, form)?;
@@ -91,10 +99,7 @@ fn noted<I: Source>(alloc: Global, form: &str, source: &mut I, last: u32) -> Res
     };
     let answer = read_to_end(&mut pieces, source, &mut notes, &mut ());
     let Notes { mut text, .. } = notes;
-    match answer {
-        Ok(tail) => write!(text, "left {tail}")?,
-        Err(fault) => write!(text, "{fault:?}")?,
-    }
+    put_answer(&mut text, answer)?;
     Ok(text)
 }
 
@@ -117,7 +122,7 @@ M2ts: 3FFFFFFF 00*187 01 80000009 00*187 02 EE*4|1073741823:188:01 1073741833:18
 
 /// What is noted of a form and a recording whose source lends, after the first piece.
 fn noted_lent(alloc: Global, given: &str) -> Result<String, Fail> {
-    let (form, text) = given.split_once(": ").ok_or("no form")?;
+    let (form, text) = given.split_once(": ").unwrap_or(("", given));
     let bytes = bytes_of(alloc, text)?;
     let mut source = StdSource::new(alloc, bytes.as_slice())?;
     noted(alloc, form, &mut source, 9)
@@ -125,7 +130,7 @@ fn noted_lent(alloc: Global, given: &str) -> Result<String, Fail> {
 
 /// What is noted of a form and a recording whose source never lends.
 fn noted_moved(alloc: Global, given: &str) -> Result<String, Fail> {
-    let (form, text) = given.split_once(": ").ok_or("no form")?;
+    let (form, text) = given.split_once(": ").unwrap_or(("", given));
     let mut source = MemSource::new(alloc, &bytes_of(alloc, text)?, 100, &[])?;
     noted(alloc, form, &mut source, 9)
 }
@@ -164,8 +169,8 @@ Plain: 9 2|0:188:01 0:188:02 left 1
 
 /// What is noted of those two pieces.
 fn stopped(alloc: Global, given: &str) -> Result<String, Fail> {
-    let (form, rest) = given.split_once(": ").ok_or("no form")?;
-    let (call, last) = rest.split_once(' ').ok_or("no record")?;
+    let (form, rest) = given.split_once(": ").unwrap_or(("", given));
+    let (call, last) = rest.split_once(' ').unwrap_or((rest, ""));
     let call = call.parse::<u32>()?;
     let last = last.parse::<u32>()?;
     let mut source = MemSource::new(alloc, &bytes_of(alloc, TWO)?, 100, &[call])?;
