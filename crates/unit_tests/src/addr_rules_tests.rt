@@ -14,16 +14,16 @@ fn rule_of(alloc: Global, given: &str) -> Result<String, Fail> {
                 address: IpAddress::V4(bytes),
                 slash,
             },
-        ) => format!(in alloc; "{bytes:?} {slash}")?,
+        ) => format!(in alloc; "{bytes:?} {slash}"),
         Some(
             Rule {
                 address: IpAddress::V6(bytes),
                 slash,
             },
-        ) => format!(in alloc; "{} {slash}", hex::encode(alloc, bytes)?)?,
-        None => "none".to_string(alloc)?,
+        ) => format!(in alloc; "{} {slash}", hex::encode(alloc, bytes)?),
+        None => "none".to_string(alloc),
     };
-    Ok(text)
+    Ok(text?)
 }
 
 /// Spellings of RFC 4291 section 2.2, and what is left out of them here. 2001:db8::/32 is for documentation (RFC 3849).
@@ -55,10 +55,10 @@ ff0e::/14|none
 /// What the text of a MAC address is read as.
 fn mac_in(alloc: Global, given: &str) -> Result<String, Fail> {
     let text = match parse_mac(given) {
-        Some(mac) => hex::encode(alloc, mac)?,
-        None => "none".to_string(alloc)?,
+        Some(mac) => hex::encode(alloc, mac),
+        None => "none".to_string(alloc),
     };
-    Ok(text)
+    Ok(text?)
 }
 
 const MACS: &str = "\
@@ -76,7 +76,9 @@ fn rules_and_mac_addresses_are_read(rt: HostRuntime) -> Result<(), Fail> {
 
 /// The MAC address of the destination that a rule has, where that of unicast is 02:02:02:02:02:02.
 fn mac_to(alloc: Global, given: &str) -> Result<String, Fail> {
-    let rule = parse_rule(given).ok_or("no rule")?;
+    let Some(rule) = parse_rule(given) else {
+        return Err(Fail::new("no rule"));
+    };
     Ok(hex::encode(alloc, mac_of(&rule.address, [2; 6]))?)
 }
 
@@ -94,12 +96,18 @@ fn destinations_have_their_mac_address(rt: HostRuntime) -> Result<(), Fail> {
     expect_lines(rt.alloc(), mac_to, DESTINATIONS)
 }
 
-/// Whether the first rule matches the address of the second.
+/// Whether the first of two rules matches the address of the second.
+fn first_matches(rules: &str) -> Option<bool> {
+    let (rule, other) = rules.split_once(' ')?;
+    Some(matches(&parse_rule(rule)?, &parse_rule(other)?.address))
+}
+
+/// The same as text.
 fn is_matched(alloc: Global, given: &str) -> Result<String, Fail> {
-    let (rule, other) = given.split_once(' ').ok_or("one rule")?;
-    let rule = parse_rule(rule).ok_or("no rule")?;
-    let other = parse_rule(other).ok_or("no rule")?;
-    Ok(format!(in alloc; "{}", matches(&rule, &other.address))?)
+    let Some(matched) = first_matches(given) else {
+        return Err(Fail::new("no two rules"));
+    };
+    Ok(format!(in alloc; "{matched}")?)
 }
 
 const MATCHES: &str = "\
@@ -119,12 +127,15 @@ fn label_of(digits: &str) -> Result<Label, Fail> {
 
 /// Whether a filter of one MAC address, or of none, wants a label.
 fn is_wanted(alloc: Global, given: &str) -> Result<String, Fail> {
-    let (mac, label) = given.split_once(' ').ok_or("no label")?;
+    let Some((mac, label)) = given.split_once(' ') else {
+        return Err(Fail::new("no label"));
+    };
+    let label = label_of(label)?;
     let mut filter = MacList::new(alloc);
     if let Some(mac) = parse_mac(mac) {
         filter.push(mac)?;
     }
-    Ok(format!(in alloc; "{}", wants(&filter, &label_of(label)?))?)
+    Ok(format!(in alloc; "{}", wants(&filter, &label))?)
 }
 
 const LABELS: &str = "\

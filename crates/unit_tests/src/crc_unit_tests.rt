@@ -1,14 +1,13 @@
 //! Check values from outside: catalogues of check sums, RFC 4326, a section, and long division by hand; and pieces of all lengths beside
 //! their bytes one by one.
+use crate::cases::expect_read;
 use crc_unit::{crc8, crc32, crc32_step};
-use std::alloc::Global;
+use std::alloc::{AllocError as OutOfMemory, Global};
 use std::test::Fail;
-use test_lines::expect_lines;
-use test_recordings::bytes_of;
 
 /// CRC-32 as text.
-fn crc32_of(alloc: Global, given: &str) -> Result<String, Fail> {
-    Ok(format!(in alloc; "{:08x}", crc32(&bytes_of(alloc, given)?))?)
+fn crc32_of(alloc: Global, bytes: &[u8]) -> Result<String, OutOfMemory> {
+    format!(in alloc; "{:08x}", crc32(bytes))
 }
 
 /// The catalogue's check value over `123456789` (CRC-32/MPEG-2); the start value is left over no byte.
@@ -19,8 +18,8 @@ const LONG: &str = "\
 00b00d00 01c10000 0001f000|2ab104b2";
 
 /// CRC-8 as text.
-fn crc8_of(alloc: Global, given: &str) -> Result<String, Fail> {
-    Ok(format!(in alloc; "{:02x}", crc8(&bytes_of(alloc, given)?))?)
+fn crc8_of(alloc: Global, bytes: &[u8]) -> Result<String, OutOfMemory> {
+    format!(in alloc; "{:02x}", crc8(bytes))
 }
 
 /// The catalogue's check value over `123456789` (CRC-8/DVB-S2); the start value is left over no byte.
@@ -33,8 +32,8 @@ const SHORT: &str = "\
 
 #[test]
 fn check_sums_are_those_known_elsewhere(rt: HostRuntime) -> Result<(), Fail> {
-    expect_lines(rt.alloc(), crc32_of, LONG)?;
-    expect_lines(rt.alloc(), crc8_of, SHORT)
+    expect_read(rt.alloc(), crc32_of, LONG)?;
+    expect_read(rt.alloc(), crc8_of, SHORT)
 }
 
 /// Appendix B of RFC 4326: an SNDU with an IPv6 datagram, and its CRC-32, 7C171763.
@@ -49,20 +48,20 @@ const SNDU: [u8; 67] = [
 /// ISO/IEC 13818-1 annex A: over a whole unit, its CRC-32 included, the register ends at 0.
 #[test]
 fn a_unit_in_pieces_ends_at_zero(rt: HostRuntime) {
-    assert_eq!(rt; crc32(&SNDU[..63]), 0x7C17_1763);
+    assert!(rt; crc32(&SNDU[..63]) == 0x7C17_1763);
     for cut in 0..=SNDU.len() {
         let register = crc32(&SNDU[..cut]);
-        assert_eq!(rt; crc32_step(register, &SNDU[cut..]), 0, "at {cut}");
+        assert!(rt; crc32_step(register, &SNDU[cut..]) == 0, "at {cut}");
     }
 }
 
-/// The register after bytes that are given one by one: each goes through the plain body alone.
-fn one_by_one(register: u32, bytes: &[u8]) -> u32 {
+/// Whether the register after bytes is that after the bytes one by one, each of which goes through the plain body alone.
+fn is_right(register: u32, bytes: &[u8]) -> bool {
     let mut running = register;
     for byte in bytes {
         running = crc32_step(running, &[*byte]);
     }
-    running
+    crc32_step(register, bytes) == running
 }
 
 /// A call steps by sixteen bytes, then by eight, then by one: it gives at each length and from each kind of register what one
@@ -71,9 +70,7 @@ fn one_by_one(register: u32, bytes: &[u8]) -> u32 {
 fn sixteen_bytes_a_step_give_what_one_byte_a_step_gives(rt: HostRuntime) {
     for register in [0, 1, 0x8000_0000, 0x1234_5678, 0xFFFF_FFFF] {
         for length in 0..=SNDU.len() {
-            let bytes = &SNDU[..length];
-            let want = one_by_one(register, bytes);
-            assert_eq!(rt; crc32_step(register, bytes), want, "at {length}");
+            assert!(rt; is_right(register, &SNDU[..length]), "at {length}");
         }
     }
 }
@@ -95,8 +92,6 @@ fn division_by_five_terms_gives_what_one_byte_a_step_gives(rt: HostRuntime) {
     for length in [
         303usize, 304, 511, 512, 640, 1535, 1536, 1537, 1839, 1840, 5000,
     ] {
-        let piece = &bytes[..length];
-        let want = one_by_one(0x1234_5678, piece);
-        assert_eq!(rt; crc32_step(0x1234_5678, piece), want, "at {length}");
+        assert!(rt; is_right(0x1234_5678, &bytes[..length]), "at {length}");
     }
 }

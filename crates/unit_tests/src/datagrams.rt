@@ -10,9 +10,11 @@ use std::test::Fail;
 pub(crate) fn datagram(alloc: Global, size: u16, group: u8) -> Result<Vec<u8>, Fail>
     ensures { IfOk result (λ bytes. IsShortDatagram bytes.items) }
 {
-    let length = size.to_be_bytes();
-    let mut bytes = Vec::from_slice(alloc, &[0x45, 0, length[0], length[1]])?;
-    bytes.extend_from_slice(&[0, 0, 0, 0, 64, 17, 0, 0, 10, 0, 0, 1, 239, group, 2, 3])?;
+    let [high, low] = size.to_be_bytes();
+    let header = [
+        0x45, 0, high, low, 0, 0, 0, 0, 64, 17, 0, 0, 10, 0, 0, 1, 239, group, 2, 3,
+    ];
+    let mut bytes = Vec::from_slice(alloc, &header)?;
     for _ in bytes.len()..usize::from(size) {
         bytes.push(0)?;
     }

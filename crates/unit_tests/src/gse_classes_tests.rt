@@ -1,17 +1,21 @@
 //! Frames of 300 bytes with urgent datagrams, by hand; the CRC-8 of their headers is not looked at.
 use crate::datagrams::datagram;
-use crate::texts::bytes_of;
-use addr_rules::{RuleList, parse_rule};
+use addr_rules::{Rule, RuleList};
 use gse_classes::{is_urgent, pack_classes};
 use gse_pack::Frames;
-use ip_datagram::DatagramList;
-use std::alloc::Global;
+use ip_datagram::{DatagramList, IpAddress};
+use std::alloc::{AllocError as OutOfMemory, Global};
 use std::test::Fail;
+use test_lines::numbers_of;
+use test_recordings::bytes_of;
 
 /// The rule of the group 239.2.0.0/16.
-fn second_group(alloc: Global) -> Result<RuleList, Fail> {
+fn second_group(alloc: Global) -> Result<RuleList, OutOfMemory> {
     let mut rules = RuleList::new(alloc);
-    rules.push(parse_rule("239.2.0.0/16").ok_or("no rule")?)?;
+    rules.push(Rule {
+        address: IpAddress::V4([239, 2, 0, 0]),
+        slash: 16,
+    })?;
     Ok(rules)
 }
 
@@ -38,14 +42,17 @@ const PIECES: &str = "0 4|09 10
 
 /// Whether there are four frames, and the one that a line names has these bytes at this place.
 fn has_piece(alloc: Global, frames: &Frames, line: &str) -> Result<bool, Fail> {
-    let (place, piece) = line.split_once('|').ok_or("no bar")?;
-    let (frame, at) = place.split_once(' ').ok_or("no place")?;
-    let frame = frame.parse::<usize>()?;
-    let at = at.parse::<usize>()?;
-    if frames.count() != 4 || frame >= 4 || at > frames.frame(frame).len() {
+    let Some((places, piece)) = line.split_once('|') else {
+        return Ok(false);
+    };
+    let [frame, place] = numbers_of::<2>(places)?;
+    let piece = bytes_of(alloc, piece)?;
+    if frames.count() != 4 || frame >= 4 {
         return Ok(false);
     }
-    Ok(frames.frame(frame)[at..].starts_with(&bytes_of(alloc, piece)?))
+    let frame = frames.frame(frame as usize);
+    let place = place as usize;
+    Ok(place <= frame.len() && frame[place..].starts_with(&piece))
 }
 
 #[test]

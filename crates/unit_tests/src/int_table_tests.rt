@@ -3,14 +3,16 @@ ghost use Rattle.std.specs.Prelude.{◌≡◌, true, IfOk};
 ghost use Rattle.std.specs.List.{list_all};
 ghost use Rattle.int_spec.specs.Descriptors.{has_right_slash};
 
+use crate::cases::expect_read;
+use crate::texts::bytes_of;
 use addr_rules::{Rule, RuleList};
 use int_table::{IntEntry, IntFault, IntReadFault, IntTable, version_of};
 use ip_datagram::IpAddress;
 use section_codec::write;
-use std::alloc::{AllocError, Global};
+use std::alloc::{AllocError as OutOfMemory, Global};
 use std::process::Abort;
 use std::test::Fail;
-use test_lines::{expect, expect_lines};
+use test_lines::expect;
 
 /// Two streams of one transport stream, 239.1.0.0/16, sliced, and 239.2.0.0/16 (EN 301 192 clause 8.4): the head, a target loop,
 /// its operational loop, another target loop, its operational loop and the CRC_32.
@@ -34,37 +36,8 @@ F007 0F05 EF020000 10
 F00B 1309 0002 0003 0004 000A 02
 5A06C520";
 
-/// The bytes of words that are names of pieces of a body or hex digits.
-fn bytes_of(alloc: Global, text: &str) -> Result<Vec<u8>, Fail> {
-    let mut bytes = Vec::new(alloc);
-    for word in text.split_whitespace() {
-        let digits = match word {
-            // action_type 1, the right hash, version 0 in force, the only section, platform 1, and an empty platform loop
-            "HEAD" => "0101C1000000000100F000",
-            // a target loop of 239.1.0.0/16
-            "TARGET" => "F0070F05EF01000010",
-            // network 2, original network 3, transport stream 4, service 10, component 1
-            "LOCATION" => "1309000200030004000A01",
-            _ => word,
-        };
-        bytes.extend_from_slice(&hex::decode(alloc, digits)?)?;
-    }
-    Ok(bytes)
-}
-
-/// A section of a body of 5 to 100 bytes, with table_id 0x4C.
-fn section_of(alloc: Global, text: &str) -> Result<Vec<u8>, Fail> {
-    let body = bytes_of(alloc, text)?;
-    if body.len() < 5 || body.len() > 100 {
-        return Err("the size of a body")?;
-    }
-    let mut section = [0u8; 128];
-    let size = write(0x4C, 0xF0, &body, &mut section);
-    Ok(section.get(..size).ok_or("size")?.to_vec(alloc)?)
-}
-
 /// So many times the rule 239.n.0.0/16.
-fn same_rules(alloc: Global, n: u8, count: usize) -> Result<RuleList, AllocError>
+fn same_rules(alloc: Global, n: u8, count: usize) -> Result<RuleList, OutOfMemory>
     ensures { IfOk result (λ rules. list_all has_right_slash rules ≡ true) }
 {
     let mut rules = RuleList::new(alloc);
@@ -83,68 +56,70 @@ fn push(
     rules: RuleList,
     component_tag: u8,
     slices: Option<[u8; 3]>,
-) -> Result<(), Fail>
+) -> Result<(), OutOfMemory>
     requires { list_all has_right_slash rules ≡ true }
 {
-    table
-        .push(IntEntry {
-            rules,
-            service_id: 10,
-            component_tag,
-            slices,
-        })
-        .map_err(|_| "out of memory")?;
-    Ok(())
+    let entry = IntEntry {
+        rules,
+        service_id: 10,
+        component_tag,
+        slices,
+    };
+    match table.push(entry) {
+        Ok(()) => Ok(()),
+        Err(_) => Err(OutOfMemory),
+    }
 }
 
-/// The section of a table.
-fn written(alloc: Global, table: &IntTable) -> Result<Vec<u8>, Fail> {
+/// Whether a table is written as this section.
+fn is_written_so(table: &IntTable, section: &[u8]) -> bool {
     let mut into = [0u8; 4096];
-    let size = table.write(&mut into)?;
-    Ok(into.get(..size).ok_or("size")?.to_vec(alloc)?)
+    table.write(&mut into) == Ok(section.len()) && into.starts_with(section)
 }
 
-/// A line for each entry of a table: service_id, component_tag, slices and rules.
-fn entries_of(alloc: Global, table: &IntTable) -> Result<String, Fail> {
+/// Appends an entry: service_id, component_tag, slices and rules.
+fn put_entry(text: &mut String, entry: &IntEntry) -> Result<(), OutOfMemory> {
+    let (service, tag) = (entry.service_id, entry.component_tag);
+    write!(text, "{service} {tag} {:?}", entry.slices)?;
+    for at in 0..entry.rules.len() {
+        write!(text, " {:?}", entry.rules.at(at))?;
+    }
+    text.push('\n')
+}
+
+/// A line for each entry of a table.
+fn entries_of(alloc: Global, table: &IntTable) -> Result<String, OutOfMemory> {
     let mut text = String::new(alloc);
     for at in 0..table.len() {
-        let entry = table.entry(at);
-        write!(
-            text,
-            "{} {} {:?}",
-            entry.service_id, entry.component_tag, entry.slices
-        )?;
-        for at in 0..entry.rules.len() {
-            write!(text, " {:?}", entry.rules.at(at))?;
-        }
-        text.push('\n')?;
+        put_entry(&mut text, table.entry(at))?;
     }
     Ok(text)
 }
 
 /// The number of entries that are read of a section, or the fault.
-fn read_of(alloc: Global, section: &[u8]) -> Result<String, Fail> {
+fn read_of(alloc: Global, section: &[u8]) -> Result<String, OutOfMemory> {
     match IntTable::read(alloc, section) {
-        Ok(table) => Ok(format!(in alloc; "{}", table.len())?),
-        Err(IntReadFault::Fault(fault)) => Ok(format!(in alloc; "{fault:?}")?),
-        Err(IntReadFault::OutOfMemory) => Err("out of memory".into()),
+        Ok(table) => format!(in alloc; "{}", table.len()),
+        Err(IntReadFault::Fault(fault)) => format!(in alloc; "{fault:?}"),
+        Err(IntReadFault::OutOfMemory) => Err(OutOfMemory),
     }
 }
 
-/// The same of the section of a body.
-fn read_of_body(alloc: Global, body: &str) -> Result<String, Fail> {
-    read_of(alloc, &section_of(alloc, body)?)
+/// The same of the section of a body of 5 to 100 bytes, with table_id 0x4C.
+fn read_of_body(alloc: Global, body: &[u8]) -> Result<String, OutOfMemory> {
+    if body.len() < 5 || body.len() > 100 {
+        return "no body".to_string(alloc);
+    }
+    let mut section = [0u8; 128];
+    let size = write(0x4C, 0xF0, body, &mut section);
+    read_of(alloc, &section[..size])
 }
 
 /// The table of two streams.
-fn two_streams(alloc: Global) -> Result<IntTable, Fail> {
+fn two_streams(alloc: Global) -> Result<IntTable, OutOfMemory> {
     let mut table = IntTable::new(alloc, 0, 1, 2, 3, 4);
-    push(
-        &mut table,
-        same_rules(alloc, 1, 1)?,
-        1,
-        Some([0xBB, 7, 0x70]),
-    )?;
+    let slices = Some([0xBB, 7, 0x70]);
+    push(&mut table, same_rules(alloc, 1, 1)?, 1, slices)?;
     push(&mut table, same_rules(alloc, 2, 1)?, 2, None)?;
     Ok(table)
 }
@@ -152,22 +127,30 @@ fn two_streams(alloc: Global) -> Result<IntTable, Fail> {
 /// EN 301 192 clause 8.4, byte for byte.
 #[test]
 fn a_table_is_written(rt: HostRuntime) -> Result<(), Fail> {
-    let alloc = rt.alloc();
-    let section = written(alloc, &two_streams(alloc)?)?;
-    assert_eq!(rt; section, bytes_of(alloc, TWO_STREAMS)?);
+    let table = two_streams(rt.alloc())?;
+    let section = bytes_of(rt.alloc(), TWO_STREAMS)?;
+    assert!(rt; is_written_so(&table, &section));
     Ok(())
+}
+
+/// The entries of the table of a section, which is written again as the section.
+fn read_entries(alloc: Global, section: &[u8]) -> Result<String, Fail> {
+    let Ok(table) = IntTable::read(alloc, section) else {
+        return Err(Fail::new("no table"));
+    };
+    if !is_written_so(&table, section) {
+        return Err(Fail::new("another section"));
+    }
+    Ok(entries_of(alloc, &table)?)
 }
 
 #[test]
 fn a_table_is_read(rt: HostRuntime) -> Result<(), Fail> {
-    let alloc = rt.alloc();
-    let section = bytes_of(alloc, TWO_STREAMS)?;
+    let section = bytes_of(rt.alloc(), TWO_STREAMS)?;
     let versions = [version_of(&section, 1), version_of(&section, 2)];
-    assert_eq!(rt; versions, [Some(0), None]);
-    let table = IntTable::read(alloc, &section).map_err(|_| "no table")?;
-    expect("the two streams", &entries_of(alloc, &table)?, ENTRIES)?;
-    assert_eq!(rt; written(alloc, &table)?, section);
-    Ok(())
+    assert!(rt; versions == [Some(0), None]);
+    let entries = read_entries(rt.alloc(), &section)?;
+    expect("the two streams", &entries, ENTRIES)
 }
 
 /// Bodies, the number of entries that are read or the fault, and what the body has (EN 301 192 clause 8.4 and the rules of the
@@ -193,25 +176,26 @@ HEAD TARGET F00B LOCATION TARGET F00B 1309 0002 0003 0005 000A 01|Descriptor|two
 
 #[test]
 fn each_fault_is_named(rt: HostRuntime) -> Result<(), Fail> {
-    expect_lines(rt.alloc(), read_of_body, BODIES)?;
+    expect_read(rt.alloc(), read_of_body, BODIES)?;
     let section = bytes_of(rt.alloc(), WRONG_HASH)?;
     expect("a wrong hash", &read_of(rt.alloc(), &section)?, "Hash")
 }
 
 /// Places in a section, and the bytes there: action_type, the hash, version 31 and platform_id; the head of a loop, a descriptor of
 /// 51 rules, one of another rule, and one of an IPv6 rule.
-const PLACES: &str = "3 01 FF FF 00 00 FFFFFF
-14 F11B 0FFF
-273 0F05
-280 1111";
+const PLACES: &str = "3|01 FF FF 00 00 FFFFFF
+14|F11B 0FFF
+273|0F05
+280|1111";
 
 /// Whether a section has such bytes at their place.
 fn holds(alloc: Global, section: &[u8], line: &str) -> Result<bool, Fail> {
-    let (place, text) = line.split_once(' ').ok_or("no space")?;
-    let at: usize = place.parse()?;
-    let bytes = bytes_of(alloc, text)?;
-    let rest = section.get(at..).ok_or("too short")?;
-    Ok(rest.starts_with(&bytes))
+    let Some((place, bytes)) = line.split_once('|') else {
+        return Ok(false);
+    };
+    let place = place.parse::<usize>()?;
+    let bytes = bytes_of(alloc, bytes)?;
+    Ok(place <= section.len() && section[place..].starts_with(&bytes))
 }
 
 /// Asserts that a section has the bytes of each line at their place.
@@ -223,7 +207,7 @@ fn assert_places(rt: &impl Abort, alloc: Global, section: &[u8], lines: &str) ->
 }
 
 /// A table of 52 rules of IPv4 and one of IPv6 for one stream.
-fn many_rules(alloc: Global) -> Result<IntTable, Fail> {
+fn many_rules(alloc: Global) -> Result<IntTable, OutOfMemory> {
     let mut rules = same_rules(alloc, 1, 52)?;
     rules.push(Rule {
         address: IpAddress::V6([0; 16]),
@@ -239,11 +223,11 @@ fn many_rules(alloc: Global) -> Result<IntTable, Fail> {
 fn rules_share_descriptors(rt: HostRuntime) -> Result<(), Fail> {
     let alloc = rt.alloc();
     let mut table = many_rules(alloc)?;
-    let section = written(alloc, &table)?;
+    let mut section = [0; 4096];
     // 18 of the section, 4 of two loops, 257 + 7 + 19 of three descriptors, 11 of the location
-    assert_eq!(rt; section.len(), 316);
+    assert!(rt; table.write(&mut section) == Ok(316));
     assert_places(&rt, alloc, &section, PLACES)?;
     push(&mut table, same_rules(alloc, 1, 900)?, 2, None)?;
-    assert_eq!(rt; table.write(&mut [0; 4096]), Err(IntFault::TooLarge));
+    assert!(rt; table.write(&mut section) == Err(IntFault::TooLarge));
     Ok(())
 }

@@ -1,18 +1,15 @@
 //! Headers from the standards' syntax, written by hand.
+use crate::cases::expect_read;
 use ip_datagram::{destination, front, length_hint};
-use std::alloc::Global;
+use std::alloc::{AllocError as OutOfMemory, Global};
 use std::test::Fail;
-use test_lines::expect_lines;
-use test_recordings::bytes_of;
 
 /// The length and the destination of the datagram that bytes begin with, or the fault.
-fn front_of(alloc: Global, given: &str) -> Result<String, Fail> {
-    let bytes = bytes_of(alloc, given)?;
-    let text = match front(&bytes) {
-        Ok(length) => format!(in alloc; "{length} to {:?}", destination(&bytes))?,
-        Err(fault) => format!(in alloc; "{fault:?}")?,
-    };
-    Ok(text)
+fn front_of(alloc: Global, bytes: &[u8]) -> Result<String, OutOfMemory> {
+    match front(bytes) {
+        Ok(length) => format!(in alloc; "{length} to {:?}", destination(bytes)),
+        Err(fault) => format!(in alloc; "{fault:?}"),
+    }
 }
 
 /// IPv4 with IHL 5 (RFC 791 section 3.1), and IPv6 with Payload Length 2 and Next Header 59 (RFC 8200 section 3).
@@ -33,13 +30,12 @@ const FRONTS: &str = "\
 /// The header says the length, and the destination; each fault has its name.
 #[test]
 fn fronts_are_measured_and_each_fault_is_named(rt: HostRuntime) -> Result<(), Fail> {
-    expect_lines(rt.alloc(), front_of, FRONTS)
+    expect_read(rt.alloc(), front_of, FRONTS)
 }
 
 /// What bytes tell of the length of a datagram that begins with them.
-fn hint_of(alloc: Global, given: &str) -> Result<String, Fail> {
-    let bytes = bytes_of(alloc, given)?;
-    Ok(format!(in alloc; "{:?}", length_hint(&bytes))?)
+fn hint_of(alloc: Global, bytes: &[u8]) -> Result<String, OutOfMemory> {
+    format!(in alloc; "{:?}", length_hint(bytes))
 }
 
 /// The fields that tell a length stand in the first 4 bytes of IPv4 and the first 7 of IPv6.
@@ -56,5 +52,5 @@ const HINTS: &str = "\
 
 #[test]
 fn prefixes_tell_what_they_can(rt: HostRuntime) -> Result<(), Fail> {
-    expect_lines(rt.alloc(), hint_of, HINTS)
+    expect_read(rt.alloc(), hint_of, HINTS)
 }

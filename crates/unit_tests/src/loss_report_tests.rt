@@ -4,12 +4,12 @@ use addr_rules::{Rule, parse_rule};
 use ip_datagram::IpAddress;
 use loss_report::{Report, ServiceCounts, StreamCounts};
 use std::alloc::{AllocError, Global};
-use std::process::Abort;
 use std::test::Fail;
+use test_lines::expect;
 use test_recordings::counts_of;
 
 /// Two services, a table and a version: an MPE-FEC service of which 56 packets were lost in a row, and a ULE service that lost none.
-const REALISTIC: &[u8] = b"scope,name,value
+const REALISTIC: &str = "scope,name,value
 stream,records,1817
 stream,tail_bytes,0
 stream,unreadable,0
@@ -50,7 +50,7 @@ rule,239.2.0.0/16,2
 
 /// No service, each number of the stream another, the largest among them; an IPv6 rule of the prefix for documentation
 /// (RFC 3849), all of it and none of it, and an IPv4 rule with numbers of one to three digits.
-const RULES: &[u8] = b"scope,name,value
+const RULES: &str = "scope,name,value
 stream,records,18446744073709551615
 stream,tail_bytes,187
 stream,unreadable,10
@@ -86,16 +86,10 @@ fn v6(address: [u8; 16], slash: u8) -> Rule {
     }
 }
 
-/// Asserts that a report is printed so.
-fn assert_printed(
-    rt: &impl Abort,
-    alloc: Global,
-    report: &Report,
-    want: &[u8],
-) -> Result<(), Fail> {
+/// Fails where a report is printed otherwise.
+fn expect_printed(alloc: Global, report: &Report, want: &str) -> Result<(), Fail> {
     let text = report.text(alloc)?;
-    assert_eq!(rt; text.as_slice(), want);
-    Ok(())
+    expect("a report", std::str::from_utf8(&text)?, want)
 }
 
 /// The service that lost packets, and the one that lost none.
@@ -128,7 +122,7 @@ fn a_whole_report_is_printed(rt: HostRuntime) -> Result<(), Fail> {
     let files = counts_of(FILES)?;
     let mut report = Report::new(rt.alloc(), stream);
     add_all(&mut report, lecture, files)?;
-    assert_printed(&rt, rt.alloc(), &report, REALISTIC)
+    expect_printed(rt.alloc(), &report, REALISTIC)
 }
 
 /// Adds a table, and rules of both versions.
@@ -153,18 +147,22 @@ fn rules_of_both_versions_are_printed(rt: HostRuntime) -> Result<(), Fail> {
     };
     let mut report = Report::new(rt.alloc(), stream);
     add_rules(&mut report)?;
-    assert_printed(&rt, rt.alloc(), &report, RULES)
+    expect_printed(rt.alloc(), &report, RULES)
 }
 
-/// What is read of the rule in the last line of a report.
-fn read_again(alloc: Global, rule: &Rule) -> Result<Option<Rule>, Fail> {
+/// The rule in the last line of a report.
+fn rule_in(text: &str) -> Option<Rule> {
+    let (_, line) = text.split_once("rule,")?;
+    let (printed, _) = line.split_once(',')?;
+    parse_rule(printed)
+}
+
+/// Whether the report of a rule is read as the rule.
+fn is_read_again(alloc: Global, rule: &Rule) -> Result<bool, Fail> {
     let mut report = Report::new(alloc, EMPTY);
     report.add_rule(rule, 1)?;
     let bytes = report.text(alloc)?;
-    let text = std::str::from_utf8(&bytes)?;
-    let (_, line) = text.split_once("rule,").ok_or("no line of a rule")?;
-    let (printed, _) = line.split_once(',').ok_or("no second comma")?;
-    Ok(parse_rule(printed))
+    Ok(rule_in(std::str::from_utf8(&bytes)?) == Some(*rule))
 }
 
 #[test]
@@ -173,7 +171,7 @@ fn a_printed_rule_is_read_again(rt: HostRuntime) -> Result<(), Fail> {
     global[0] = 0xFF;
     global[1] = 0x0E;
     for rule in [v4([239, 1, 0, 0], 16), v4([0; 4], 0), v6(global, 16)] {
-        assert_eq!(rt; read_again(rt.alloc(), &rule)?, Some(rule));
+        assert!(rt; is_read_again(rt.alloc(), &rule)?, "{rule:?}");
     }
     Ok(())
 }

@@ -1,8 +1,8 @@
 //! PATs by hand, each with its CRC_32 by an independent program, and sections with one fault or two.
+use crate::cases::expect_read;
 use psi_tables::{Pat, PatReadFault, Program, read_pat, write_pat};
-use std::alloc::Global;
+use std::alloc::{AllocError as OutOfMemory, Global};
 use std::test::Fail;
-use test_lines::expect_lines;
 use test_recordings::bytes_of;
 
 /// Sections, transport_stream_id with number and PID of each program or the fault, and what the section has (ISO/IEC 13818-1 clause
@@ -34,9 +34,9 @@ const SECTIONS: &str = "00B00D 0004 C1 0000 000AFFFE 1F4B477D|4 10:8190|one prog
 00B00C 0004 C1 0100 000AFF 0B1A8E7C|Numbers|section_number 1 and a loop that is not whole";
 
 /// What a PAT says; of more than ten programs their number.
-fn text_of(alloc: Global, pat: &Pat) -> Result<String, Fail> {
+fn text_of(alloc: Global, pat: &Pat) -> Result<String, OutOfMemory> {
     if pat.len() > 10 {
-        return Ok(format!(in alloc; "{} programs", pat.len())?);
+        return format!(in alloc; "{} programs", pat.len());
     }
     let mut text = format!(in alloc; "{}", pat.transport_stream_id)?;
     for place in 0..pat.len() {
@@ -47,17 +47,17 @@ fn text_of(alloc: Global, pat: &Pat) -> Result<String, Fail> {
 }
 
 /// What is read of a section, or the fault.
-fn read_of(alloc: Global, section: &str) -> Result<String, Fail> {
-    match read_pat(alloc, &bytes_of(alloc, section)?) {
+fn read_of(alloc: Global, section: &[u8]) -> Result<String, OutOfMemory> {
+    match read_pat(alloc, section) {
         Ok(pat) => text_of(alloc, &pat),
-        Err(PatReadFault::Fault(fault)) => Ok(format!(in alloc; "{fault:?}")?),
-        Err(PatReadFault::OutOfMemory) => Err("out of memory".into()),
+        Err(PatReadFault::Fault(fault)) => format!(in alloc; "{fault:?}"),
+        Err(PatReadFault::OutOfMemory) => Err(OutOfMemory),
     }
 }
 
 #[test]
 fn a_pat_is_read_or_its_first_fault_is_named(rt: HostRuntime) -> Result<(), Fail> {
-    expect_lines(rt.alloc(), read_of, SECTIONS)
+    expect_read(rt.alloc(), read_of, SECTIONS)
 }
 
 /// Two programs, byte for byte, and the byte after the section.
@@ -76,7 +76,7 @@ fn a_pat_is_written(rt: HostRuntime) -> Result<(), Fail> {
         pid: 8189,
     })?;
     let mut into = [0xEE; 4096];
-    assert_eq!(rt; write_pat(&pat, &mut into), 20);
+    assert!(rt; write_pat(&pat, &mut into) == 20);
     assert!(rt; into.starts_with(&bytes_of(alloc, WRITTEN)?));
     Ok(())
 }

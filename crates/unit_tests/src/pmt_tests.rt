@@ -1,8 +1,8 @@
 //! PMTs by hand, each with its CRC_32 by an independent program, and sections with one fault or two.
+use crate::cases::expect_read;
 use psi_tables::{Pmt, PmtReadFault, Stream, read_pmt, write_pmt};
-use std::alloc::Global;
+use std::alloc::{AllocError as OutOfMemory, Global};
 use std::test::Fail;
-use test_lines::expect_lines;
 use test_recordings::bytes_of;
 
 /// Sections, program_number with PID and component_tag of each stream or the fault, and what the section has (ISO/IEC 13818-1 clause
@@ -52,9 +52,9 @@ const SECTIONS: &str =
 02B014 000A C1 0000 FFFF F002 5200 80E201F001 4B179FFE|Loop|a stream that passes the body after a tag of no byte";
 
 /// What a PMT says; of more than ten streams their number.
-fn text_of(alloc: Global, pmt: &Pmt) -> Result<String, Fail> {
+fn text_of(alloc: Global, pmt: &Pmt) -> Result<String, OutOfMemory> {
     if pmt.len() > 10 {
-        return Ok(format!(in alloc; "{} streams", pmt.len())?);
+        return format!(in alloc; "{} streams", pmt.len());
     }
     let mut text = format!(in alloc; "{}", pmt.number)?;
     for place in 0..pmt.len() {
@@ -68,17 +68,17 @@ fn text_of(alloc: Global, pmt: &Pmt) -> Result<String, Fail> {
 }
 
 /// What is read of a section, or the fault.
-fn read_of(alloc: Global, section: &str) -> Result<String, Fail> {
-    match read_pmt(alloc, &bytes_of(alloc, section)?) {
+fn read_of(alloc: Global, section: &[u8]) -> Result<String, OutOfMemory> {
+    match read_pmt(alloc, section) {
         Ok(pmt) => text_of(alloc, &pmt),
-        Err(PmtReadFault::Fault(fault)) => Ok(format!(in alloc; "{fault:?}")?),
-        Err(PmtReadFault::OutOfMemory) => Err("out of memory".into()),
+        Err(PmtReadFault::Fault(fault)) => format!(in alloc; "{fault:?}"),
+        Err(PmtReadFault::OutOfMemory) => Err(OutOfMemory),
     }
 }
 
 #[test]
 fn a_pmt_is_read_or_its_first_fault_is_named(rt: HostRuntime) -> Result<(), Fail> {
-    expect_lines(rt.alloc(), read_of, SECTIONS)
+    expect_read(rt.alloc(), read_of, SECTIONS)
 }
 
 /// A stream with component_tag 1 and one without, byte for byte, and the byte after the section.
@@ -97,7 +97,7 @@ fn a_pmt_is_written(rt: HostRuntime) -> Result<(), Fail> {
         tag: None,
     })?;
     let mut into = [0xEE; 4096];
-    assert_eq!(rt; write_pmt(&pmt, &mut into), 29);
+    assert!(rt; write_pmt(&pmt, &mut into) == 29);
     assert!(rt; into.starts_with(&bytes_of(alloc, WRITTEN)?));
     Ok(())
 }

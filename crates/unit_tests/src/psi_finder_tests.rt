@@ -1,8 +1,8 @@
 //! A finder, record by record: what it prints after each.
 use psi_tables::Finder;
-use std::alloc::Global;
-use std::process::Abort;
+use std::alloc::{AllocError as OutOfMemory, Global};
 use std::test::Fail;
+use test_lines::expect;
 use test_recordings::{bytes_of, on_pid, start};
 use ts_record::Record;
 
@@ -19,53 +19,49 @@ another PMT|8190|3|02B01D 000A C1 0000 FFFF F000 80E202F003520101 80E203F0035201
 another PAT|0|1|00B00D 0004 C3 0000 000AFFFD 8CA6B186|512 513
 the PMT that it names|8189|0|02B01D 000A C1 0000 FFFF F000 80E202F003520101 80E203F003520102 52C616CD|512 513";
 
-/// What is printed where the rules have these PIDs; none where there are no rules.
-fn text_of(alloc: Global, pids: &str) -> Result<String, Fail> {
-    let mut text = "rule,service,tag,pid\n".to_string(alloc)?;
-    if let Some((first, second)) = pids.split_once(' ') {
-        write!(&mut text, "239.1.0.0/16,10,1,{first}\n")?;
-        write!(&mut text, "239.2.0.0/16,10,2,{second}\n")?;
-    }
-    Ok(text)
+/// What is printed where there are no rules.
+const NO_RULE: &str = "rule,service,tag,pid\n";
+
+/// What is printed where the rules have these PIDs, if there are any.
+fn text_of(alloc: Global, pids: &str) -> Result<String, OutOfMemory> {
+    let Some((first, second)) = pids.split_once(' ') else {
+        return NO_RULE.to_string(alloc);
+    };
+    format!(in alloc; "{NO_RULE}239.1.0.0/16,10,1,{first}\n239.2.0.0/16,10,2,{second}\n")
 }
 
 /// Gives a finder the packet of a section, where it is open.
-fn step(finder: &mut Finder, pid: u16, counter: u8, section: &[u8]) -> Result<(), Fail> {
+fn give(finder: &mut Finder, pid: u16, counter: u8, section: &[u8]) -> Result<(), Fail> {
     if !finder.is_open() {
-        return Err("closed".into());
+        return Err(Fail::new("closed"));
     }
     let item = Record {
         moment: Some(0),
         bytes: on_pid(start(counter, 0, section), pid),
     };
-    match finder.step(&item) {
-        Ok(()) => Ok(()),
-        Err(_) => Err("out of memory".into()),
-    }
-}
-
-/// Gives a finder the packet of a line; answers what comes, and the PIDs.
-fn take<'l>(alloc: Global, finder: &mut Finder, line: &'l str) -> Result<(&'l str, &'l str), Fail> {
-    let (case, rest) = line.split_once('|').ok_or("no bar")?;
-    let (pid, rest) = rest.split_once('|').ok_or("one bar")?;
-    let (counter, rest) = rest.split_once('|').ok_or("two bars")?;
-    let (section, pids) = rest.split_once('|').ok_or("three bars")?;
-    let section = bytes_of(alloc, section)?;
-    step(finder, pid.parse()?, counter.parse()?, &section)?;
-    Ok((case, pids))
-}
-
-/// Gives a finder the packet of a line, and asserts what it prints then.
-fn assert_step(
-    rt: &impl Abort,
-    alloc: Global,
-    finder: &mut Finder,
-    line: &str,
-) -> Result<(), Fail> {
-    let (case, pids) = take(alloc, finder, line)?;
-    let text = finder.text(alloc)?;
-    assert_eq!(rt; text.as_slice(), text_of(alloc, pids)?.as_bytes(), "{case}");
+    finder.step(&item)?;
     Ok(())
+}
+
+/// Gives a finder the packet of a line, and fails where it prints something else then.
+fn take(alloc: Global, finder: &mut Finder, line: &str) -> Result<(), Fail> {
+    let Some((case, rest)) = line.split_once('|') else {
+        return Err(Fail::new("no bar"));
+    };
+    let Some((pid, rest)) = rest.split_once('|') else {
+        return Err(Fail::new("one bar"));
+    };
+    let Some((counter, rest)) = rest.split_once('|') else {
+        return Err(Fail::new("two bars"));
+    };
+    let Some((section, pids)) = rest.split_once('|') else {
+        return Err(Fail::new("three bars"));
+    };
+    let pid = pid.parse::<u16>()?;
+    let counter = counter.parse::<u8>()?;
+    give(finder, pid, counter, &bytes_of(alloc, section)?)?;
+    let text = finder.text(alloc)?;
+    expect(case, std::str::from_utf8(&text)?, &text_of(alloc, pids)?)
 }
 
 #[test]
@@ -73,7 +69,7 @@ fn the_first_tables_count_and_pmts_after_the_pat(rt: HostRuntime) -> Result<(), 
     let alloc = rt.alloc();
     let mut finder = Finder::new(alloc, 600)?;
     for line in STEPS.lines() {
-        assert_step(&rt, alloc, &mut finder, line)?;
+        take(alloc, &mut finder, line)?;
     }
     Ok(())
 }

@@ -1,6 +1,6 @@
 //! Packets by hand, after ISO/IEC 13818-1 clause 2.4.3.2.
 use hex::FromHex;
-use std::alloc::Global;
+use std::alloc::{AllocError as OutOfMemory, Global};
 use std::process::Abort;
 use std::test::Fail;
 use test_lines::{expect, expect_lines};
@@ -14,9 +14,8 @@ fn packet_of(digits: &str) -> Result<[u8; 188], Fail> {
 }
 
 /// PID, start indicator, counter, discontinuity indicator and bytes of payload of a packet, or the fault.
-fn fields_of(alloc: Global, given: &str) -> Result<String, Fail> {
-    let bytes = packet_of(given)?;
-    let text = match parse(&bytes) {
+fn text_of(alloc: Global, bytes: &[u8; 188]) -> Result<String, OutOfMemory> {
+    match parse(bytes) {
         Ok(it) => format!(in alloc;
             "{:04x} {} {} {} {}",
             it.pid,
@@ -24,10 +23,14 @@ fn fields_of(alloc: Global, given: &str) -> Result<String, Fail> {
             it.counter,
             it.broken,
             it.payload.len()
-        )?,
-        Err(fault) => format!(in alloc; "{fault:?}")?,
-    };
-    Ok(text)
+        ),
+        Err(fault) => format!(in alloc; "{fault:?}"),
+    }
+}
+
+/// The same of the packet that begins with these digits.
+fn read_of(alloc: Global, digits: &str) -> Result<String, Fail> {
+    Ok(text_of(alloc, &packet_of(digits)?)?)
 }
 
 /// First the first packet of an SDT (EN 300 468: PID 0x0011).
@@ -49,14 +52,18 @@ const PACKETS: &str = "\
 
 #[test]
 fn packets_are_read_and_each_fault_is_named(rt: HostRuntime) -> Result<(), Fail> {
-    expect_lines(rt.alloc(), fields_of, PACKETS)
+    expect_lines(rt.alloc(), read_of, PACKETS)
 }
 
-/// How the next packet follows.
-fn link_of(alloc: Global, continuity: &mut Continuity, given: &str) -> Result<String, Fail> {
+/// Fails where the packet of a line follows otherwise.
+fn follow(alloc: Global, continuity: &mut Continuity, line: &str) -> Result<(), Fail> {
+    let Some((given, due)) = line.split_once('|') else {
+        return Err(Fail::new("no bar"));
+    };
     let bytes = packet_of(given)?;
     let packet = parse(&bytes)?;
-    Ok(format!(in alloc; "{:?}", continuity.see(&bytes, &packet))?)
+    let link = format!(in alloc; "{:?}", continuity.see(&bytes, &packet))?;
+    expect(given, &link, due)
 }
 
 /// The packets of one recording.
@@ -75,9 +82,7 @@ const FOLLOWING: &str = "\
 fn packets_follow_by_counter_and_bytes(rt: HostRuntime) -> Result<(), Fail> {
     let mut continuity = Continuity::new();
     for line in FOLLOWING.lines() {
-        let (given, want) = line.split_once('|').ok_or("no bar")?;
-        let link = link_of(rt.alloc(), &mut continuity, given)?;
-        expect(given, &link, want)?;
+        follow(rt.alloc(), &mut continuity, line)?;
     }
     Ok(())
 }

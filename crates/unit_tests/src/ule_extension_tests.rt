@@ -1,26 +1,26 @@
 //! Chains by hand, after RFC 4326 sections 4.4 and 5.
-use hex::FromHex;
-use std::alloc::Global;
+use crate::cases::expect_read;
+use std::alloc::{AllocError as OutOfMemory, Global};
 use std::test::Fail;
-use test_lines::expect_lines;
-use test_recordings::bytes_of;
 use ule_extension::{bridged, datagram, walk};
 
-/// A Type of 4 digits, and the bytes after it.
-fn typed(alloc: Global, given: &str) -> Result<(u16, Vec<u8>), Fail> {
-    let (first_type, bytes) = given.split_once(' ').unwrap_or((given, ""));
-    let first_type = u16::from_be_bytes(<[u8; 2]>::from_hex(first_type)?);
-    Ok((first_type, bytes_of(alloc, bytes)?))
+/// A Type, and the bytes after it.
+fn typed(bytes: &[u8]) -> Option<(u16, &[u8])> {
+    let [high, low, rest @ ..] = bytes else {
+        return None;
+    };
+    Some((u16::from_be_bytes([*high, *low]), rest))
 }
 
 /// The EtherType at the end of the chain and the bytes after it, or the fault.
-fn end_of(alloc: Global, given: &str) -> Result<String, Fail> {
-    let (first_type, bytes) = typed(alloc, given)?;
-    let text = match walk(first_type, &bytes) {
-        Ok(it) => format!(in alloc; "{:04x} [{}]", it.ether_type, hex::encode(alloc, it.bytes)?)?,
-        Err(fault) => format!(in alloc; "{fault:?}")?,
+fn end_of(alloc: Global, bytes: &[u8]) -> Result<String, OutOfMemory> {
+    let Some((first_type, bytes)) = typed(bytes) else {
+        return "no Type".to_string(alloc);
     };
-    Ok(text)
+    match walk(first_type, bytes) {
+        Ok(it) => format!(in alloc; "{:04x} [{}]", it.ether_type, hex::encode(alloc, it.bytes)?),
+        Err(fault) => format!(in alloc; "{fault:?}"),
+    }
 }
 
 /// RFC 4326 section 5: H-LEN 1 to 5 is a header of 2 to 10 bytes, the last two of which are the next Type.
@@ -41,17 +41,18 @@ const CHAINS: &str = "\
 
 #[test]
 fn chains_are_followed_and_each_fault_is_named(rt: HostRuntime) -> Result<(), Fail> {
-    expect_lines(rt.alloc(), end_of, CHAINS)
+    expect_read(rt.alloc(), end_of, CHAINS)
 }
 
 /// The datagram after a chain, or the fault.
-fn datagram_of(alloc: Global, given: &str) -> Result<String, Fail> {
-    let (first_type, bytes) = typed(alloc, given)?;
-    let text = match datagram(first_type, &bytes) {
-        Ok(datagram) => hex::encode(alloc, datagram)?,
-        Err(fault) => format!(in alloc; "{fault:?}")?,
+fn datagram_of(alloc: Global, bytes: &[u8]) -> Result<String, OutOfMemory> {
+    let Some((first_type, bytes)) = typed(bytes) else {
+        return "no Type".to_string(alloc);
     };
-    Ok(text)
+    match datagram(first_type, bytes) {
+        Ok(datagram) => hex::encode(alloc, datagram),
+        Err(fault) => format!(in alloc; "{fault:?}"),
+    }
 }
 
 /// RFC 4326 section 4.7: the EtherType announces the version. The datagram is an IPv4 header and no more (RFC 791 section 3.1).
@@ -65,17 +66,18 @@ const DATAGRAMS: &str = "\
 
 #[test]
 fn datagrams_are_lent_and_each_fault_is_named(rt: HostRuntime) -> Result<(), Fail> {
-    expect_lines(rt.alloc(), datagram_of, DATAGRAMS)
+    expect_read(rt.alloc(), datagram_of, DATAGRAMS)
 }
 
 /// The bridged frame after a chain.
-fn frame_of(alloc: Global, given: &str) -> Result<String, Fail> {
-    let (first_type, bytes) = typed(alloc, given)?;
-    let text = match bridged(first_type, &bytes) {
-        Some(frame) => hex::encode(alloc, frame)?,
-        None => "none".to_string(alloc)?,
+fn frame_of(alloc: Global, bytes: &[u8]) -> Result<String, OutOfMemory> {
+    let Some((first_type, bytes)) = typed(bytes) else {
+        return "no Type".to_string(alloc);
     };
-    Ok(text)
+    match bridged(first_type, bytes) {
+        Some(frame) => hex::encode(alloc, frame),
+        None => "none".to_string(alloc),
+    }
 }
 
 /// RFC 4326 section 5.2: a frame of at least an Ethernet header stands after Type 1.
@@ -87,5 +89,5 @@ const FRAMES: &str = "\
 
 #[test]
 fn frames_are_lent(rt: HostRuntime) -> Result<(), Fail> {
-    expect_lines(rt.alloc(), frame_of, FRAMES)
+    expect_read(rt.alloc(), frame_of, FRAMES)
 }

@@ -1,24 +1,22 @@
 //! SNDUs from outside: the example of RFC 4326 appendix B, and one whose CRC-32 an independent program gave.
-use crate::cases::assert_digits;
+use crate::cases::{expect_digits, expect_read};
 use hex::FromHex;
-use std::alloc::Global;
+use std::alloc::{AllocError as OutOfMemory, Global};
 use std::test::Fail;
-use test_lines::expect_lines;
-use test_recordings::bytes_of;
 use ule_unit::{Sndu, UleForm, read, read_checked, write, write_around};
 use unit_stream::UnitForm;
 
 /// NPA address, Type and bytes of an SNDU.
-fn text_of(alloc: Global, sndu: &Sndu<'_>) -> Result<String, Fail> {
+fn text_of(alloc: Global, sndu: &Sndu<'_>) -> Result<String, OutOfMemory> {
     let bytes = hex::encode(alloc, sndu.bytes)?;
-    Ok(format!(in alloc; "{:?} {:04x} {bytes}", sndu.npa, sndu.first_type)?)
+    format!(in alloc; "{:?} {:04x} {bytes}", sndu.npa, sndu.first_type)
 }
 
 /// What an SNDU is read as.
-fn fields_of(alloc: Global, given: &str) -> Result<String, Fail> {
-    match read(&bytes_of(alloc, given)?) {
+fn fields_of(alloc: Global, bytes: &[u8]) -> Result<String, OutOfMemory> {
+    match read(bytes) {
         Ok(sndu) => text_of(alloc, &sndu),
-        Err(fault) => Ok(format!(in alloc; "{fault:?}")?),
+        Err(fault) => format!(in alloc; "{fault:?}"),
     }
 }
 
@@ -36,10 +34,10 @@ ffff|Length
 80180800 450000140000000040110000 0a000001 ef010204 64aee84a|Crc";
 
 /// What an SNDU is read as whose CRC-32 was compared before.
-fn checked_of(alloc: Global, given: &str) -> Result<String, Fail> {
-    match read_checked(&bytes_of(alloc, given)?) {
+fn checked_of(alloc: Global, bytes: &[u8]) -> Result<String, OutOfMemory> {
+    match read_checked(bytes) {
         Some(sndu) => text_of(alloc, &sndu),
-        None => Ok("none".to_string(alloc)?),
+        None => "none".to_string(alloc),
     }
 }
 
@@ -51,8 +49,8 @@ const CHECKED: &str = "\
 
 #[test]
 fn fields_are_read_and_each_fault_is_named(rt: HostRuntime) -> Result<(), Fail> {
-    expect_lines(rt.alloc(), fields_of, SNDUS)?;
-    expect_lines(rt.alloc(), checked_of, CHECKED)
+    expect_read(rt.alloc(), fields_of, SNDUS)?;
+    expect_read(rt.alloc(), checked_of, CHECKED)
 }
 
 /// The example of RFC 4326 appendix B is written, and no byte after it; and what it has around its datagram.
@@ -63,30 +61,27 @@ fn an_sndu_with_an_address_is_written(rt: HostRuntime) -> Result<(), Fail> {
         "60000000000d3a4020010db830081965000000000000000120010db825091962000000000000000280009d8c063800040000000000",
     )?;
     let mut into = [0xEE; 68];
-    let end = write(Some([0, 1, 2, 3, 4, 5]), 0x86DD, &datagram, &mut into);
-    assert_eq!(rt; end, 67);
+    assert!(rt; write(Some([0, 1, 2, 3, 4, 5]), 0x86DD, &datagram, &mut into) == 67);
     let want =
         "003f86dd00010203040560000000000d3a4020010db830081965000000000000000120010db825091962000000000000000280009d8c0638000400000000007c171763ee";
-    assert_digits(&rt, alloc, &into, want)?;
+    expect_digits(alloc, &into, want)?;
     let mut around = [0; 14];
-    let head = write_around(Some([0, 1, 2, 3, 4, 5]), 0x86DD, &datagram, &mut around);
-    assert_eq!(rt; head, 10);
-    assert_digits(&rt, alloc, &around, "003f86dd0001020304057c171763")
+    assert!(rt; write_around(Some([0, 1, 2, 3, 4, 5]), 0x86DD, &datagram, &mut around) == 10);
+    expect_digits(alloc, &around, "003f86dd0001020304057c171763")
 }
 
 #[test]
 fn an_sndu_without_an_address_is_written(rt: HostRuntime) -> Result<(), Fail> {
     let datagram = <[u8; 20]>::from_hex("4500001400000000401100000a000001ef010203")?;
     let mut into = [0xEE; 34];
-    let end = write(None, 0x0800, &datagram, &mut into);
-    assert_eq!(rt; end, 28);
+    assert!(rt; write(None, 0x0800, &datagram, &mut into) == 28);
     let want = "801808004500001400000000401100000a000001ef01020364aee84aeeeeeeeeeeee";
-    assert_digits(&rt, rt.alloc(), &into, want)
+    expect_digits(rt.alloc(), &into, want)
 }
 
 /// What bytes tell of the SNDU that begins with them.
-fn span_of(alloc: Global, given: &str) -> Result<String, Fail> {
-    Ok(format!(in alloc; "{:?}", UleForm::span(&bytes_of(alloc, given)?))?)
+fn span_of(alloc: Global, bytes: &[u8]) -> Result<String, OutOfMemory> {
+    format!(in alloc; "{:?}", UleForm::span(bytes))
 }
 
 /// RFC 4326 sections 4.2 and 4.3: a length is told by two bytes, and End Indicators are no SNDU.
@@ -98,8 +93,8 @@ ffffffff|Stuffing
 80|More";
 
 /// Whether an SNDU has the right CRC-32.
-fn check_of(alloc: Global, given: &str) -> Result<String, Fail> {
-    Ok(format!(in alloc; "{}", UleForm::check(&bytes_of(alloc, given)?))?)
+fn check_of(alloc: Global, bytes: &[u8]) -> Result<String, OutOfMemory> {
+    format!(in alloc; "{}", UleForm::check(bytes))
 }
 
 const CHECKS: &str = "\
@@ -108,6 +103,6 @@ const CHECKS: &str = "\
 
 #[test]
 fn two_bytes_tell_an_sndu_and_its_end_is_checked(rt: HostRuntime) -> Result<(), Fail> {
-    expect_lines(rt.alloc(), span_of, SPANS)?;
-    expect_lines(rt.alloc(), check_of, CHECKS)
+    expect_read(rt.alloc(), span_of, SPANS)?;
+    expect_read(rt.alloc(), check_of, CHECKS)
 }

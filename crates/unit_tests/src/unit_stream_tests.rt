@@ -17,40 +17,14 @@ fn write_event(text: &mut String, event: &JoinEvent<'_>) -> Result<(), AllocErro
     }
 }
 
-/// A packet with the bytes of its payload: how it follows, and whether a unit starts in it.
-#[derive(Drop)]
-struct Step {
-    link: Link,
-    starts: bool,
-    payload: Vec<u8>,
-}
-
-impl Step {
-    /// Reads the three.
-    fn of(alloc: Global, given: &str) -> Result<Step, Fail> {
-        let (link, given) = given.split_once(' ').ok_or("no indicator")?;
-        let (starts, payload) = given.split_once(' ').ok_or("no payload")?;
-        let link = match link {
-            "First" => Link::First,
-            "Next" => Link::Next,
-            "Repeat" => Link::Repeat,
-            _ => Link::Gap,
-        };
-        Ok(Step {
-            link,
-            starts: starts == "1",
-            payload: bytes_of(alloc, payload)?,
-        })
-    }
-
-    fn packet(&self) -> Packet<'_> {
-        Packet {
-            pid: 256,
-            starts: self.starts,
-            counter: 0,
-            broken: false,
-            payload: &self.payload,
-        }
+/// How a packet follows.
+fn link_of(word: &str) -> Result<Link, Fail> {
+    match word {
+        "First" => Ok(Link::First),
+        "Next" => Ok(Link::Next),
+        "Repeat" => Ok(Link::Repeat),
+        "Gap" => Ok(Link::Gap),
+        _ => Err(Fail::new("no such link")),
     }
 }
 
@@ -73,14 +47,14 @@ fn write_next(
 fn events_of(
     alloc: Global,
     joiner: &mut Joiner<SmallForm, Global>,
-    step: &Step,
+    link: Link,
+    packet: &Packet<'_>,
     moment: u64,
 ) -> Result<String, AllocError> {
-    let packet = step.packet();
     let mut text = String::new(alloc);
-    joiner.feed(step.link, &packet, moment);
+    joiner.feed(link, packet, moment);
     for _ in 0..10 {
-        if !write_next(joiner, &packet, &mut text)? {
+        if !write_next(joiner, packet, &mut text)? {
             break;
         }
     }
@@ -108,14 +82,15 @@ impl Listener for Writer {
 fn heard_events(
     alloc: Global,
     joiner: &mut Joiner<SmallForm, Global>,
-    step: &Step,
+    link: Link,
+    packet: &Packet<'_>,
     moment: u64,
 ) -> Result<String, AllocError> {
     let mut writer = Writer {
         text: String::new(alloc),
         result: Ok(()),
     };
-    joiner.take(step.link, &step.packet(), moment, &mut writer);
+    joiner.take(link, packet, moment, &mut writer);
     writer.result?;
     Ok(writer.text)
 }
@@ -123,26 +98,26 @@ fn heard_events(
 /// The packets of one recording, each with how it follows, its start indicator, its payload and its events. A unit's first byte
 /// is its length, and a moment is a packet's place.
 const STEPS: &str = "\
-First 1 00 04 07 07|
-Next 0 08 63|unit 0 [4, 7, 7, 8];
-Next 1 00 04 07 07|
-Next 1 01 08 03 01 01 ff|unit 2 [4, 7, 7, 8];unit 3 [3, 1, 1];
-Next 1 00 04 07 07|
-Next 1 02 08 08 02 05|delimit;unit 5 [2, 5];
-Next 1 00 04 07 07|
-Next 1 09 01|delimit;
-Next 1 00 04 07 07|
-Gap 0 08 63|delimit;
-Next 1 00 04 07 07|
-Gap 1 09 01|delimit;
-Next 1 00 01 02 05|bad length;
-Next 1 00 02 09 03 01 01|bad check;unit 13 [3, 1, 1];
-Next 1 00 04 07 07|
-Repeat 1 00 04 07 07|
-Next 0 08|unit 14 [4, 7, 7, 8];
-Next 1 00 06 07|
-Next 0 07 07|
-Next 0 08 08 09|unit 17 [6, 7, 7, 7, 8, 8];";
+First|1|00 04 07 07|
+Next|0|08 63|unit 0 [4, 7, 7, 8];
+Next|1|00 04 07 07|
+Next|1|01 08 03 01 01 ff|unit 2 [4, 7, 7, 8];unit 3 [3, 1, 1];
+Next|1|00 04 07 07|
+Next|1|02 08 08 02 05|delimit;unit 5 [2, 5];
+Next|1|00 04 07 07|
+Next|1|09 01|delimit;
+Next|1|00 04 07 07|
+Gap|0|08 63|delimit;
+Next|1|00 04 07 07|
+Gap|1|09 01|delimit;
+Next|1|00 01 02 05|bad length;
+Next|1|00 02 09 03 01 01|bad check;unit 13 [3, 1, 1];
+Next|1|00 04 07 07|
+Repeat|1|00 04 07 07|
+Next|0|08|unit 14 [4, 7, 7, 8];
+Next|1|00 06 07|
+Next|0|07 07|
+Next|0|08 08 09|unit 17 [6, 7, 7, 7, 8, 8];";
 
 /// Fails where a joiner does not give the events of a line, or another one does not tell them to a listener.
 fn expect_events(
@@ -152,10 +127,30 @@ fn expect_events(
     line: &str,
     moment: u64,
 ) -> Result<(), Fail> {
-    let (given, want) = line.split_once('|').ok_or("no bar")?;
-    let step = Step::of(alloc, given)?;
-    expect(line, &events_of(alloc, joiner, &step, moment)?, want)?;
-    expect(line, &heard_events(alloc, telling, &step, moment)?, want)
+    let Some((link, rest)) = line.split_once('|') else {
+        return Err(Fail::new("no bar"));
+    };
+    let Some((starts, rest)) = rest.split_once('|') else {
+        return Err(Fail::new("no indicator"));
+    };
+    let Some((payload, due)) = rest.split_once('|') else {
+        return Err(Fail::new("no payload"));
+    };
+    let link = link_of(link)?;
+    let payload = bytes_of(alloc, payload)?;
+    let packet = Packet {
+        pid: 256,
+        starts: starts == "1",
+        counter: 0,
+        broken: false,
+        payload: &payload,
+    };
+    expect(line, &events_of(alloc, joiner, link, &packet, moment)?, due)?;
+    expect(
+        line,
+        &heard_events(alloc, telling, link, &packet, moment)?,
+        due,
+    )
 }
 
 #[test]
@@ -169,18 +164,16 @@ fn packets_give_their_events_in_order(rt: HostRuntime) -> Result<(), Fail> {
     Ok(())
 }
 
-/// The first 7 bytes of each packet that units of 4, 3 and 200 bytes fill, and how many there are; then the room in the first
+/// Appends the first 7 bytes of each packet that units of 4, 3 and 200 bytes fill, and how many there are; then the room in the first
 /// packet of the same units again, and its counter.
-fn packets_of(alloc: Global, given: &str) -> Result<String, Fail> {
+fn put_packets(alloc: Global, text: &mut String, packing: bool) -> Result<(), AllocError> {
     let mut bytes = [7u8; 207];
     bytes[0] = 4;
     bytes[4] = 3;
     bytes[7] = 200;
     let ends = [4, 7, 207];
-    let packing = given == "with packing";
     let mut packer = Packer::<SmallForm>::new(256, packing);
     let mut packet = [0; 188];
-    let mut text = String::new(alloc);
     for _ in 0..9 {
         if !packer.next(&bytes, &ends, &mut packet) {
             break;
@@ -190,7 +183,13 @@ fn packets_of(alloc: Global, given: &str) -> Result<String, Fail> {
     let count = count_packets::<SmallForm>(&ends, packing);
     packer.again();
     let room = packer.next_around(&ends, &mut packet);
-    write!(text, "{count}; {room:?} {:02x}", packet[3])?;
+    write!(text, "{count}; {room:?} {:02x}", packet[3])
+}
+
+/// The same as a text.
+fn packets_of(alloc: Global, given: &str) -> Result<String, Fail> {
+    let mut text = String::new(alloc);
+    put_packets(alloc, &mut text, given == "with packing")?;
     Ok(text)
 }
 
