@@ -46,29 +46,29 @@ fn put_burst(
     Ok(())
 }
 
-/// Puts the packets of the next window, and how many packets there are before it and whether there are more to come.
-fn put_window(
+/// Puts the packets of four windows, and before each how many packets there are and whether there are more to come.
+fn put_four(
     bytes: &mut Vec<u8>,
     ends: &mut Vec<usize>,
     bursts: &mut BurstPackets<'_>,
     text: &mut String,
 ) -> Result<(), Fail> {
-    write!(text, "; {} {}", ends.len(), bursts.has_next())?;
-    put_burst(bytes, ends, bursts)
+    for _ in 0..4 {
+        write!(text, "; {} {}", ends.len(), bursts.has_next())?;
+        put_burst(bytes, ends, bursts)?;
+    }
+    Ok(())
 }
 
-/// Puts the packets of four windows one after another, for two datagrams of 1,000 bytes, and where each packet ends.
+/// Puts the packets of the windows one after another, for two datagrams of 1,000 bytes, and where each packet ends.
 ///
-/// Answers where the bursts end in the list of datagrams, and before each window how many packets there are and whether there are more to
-/// come.
+/// Answers where the bursts end in the list of datagrams, and what is said before each window.
 fn put_windows(alloc: Global, bytes: &mut Vec<u8>, ends: &mut Vec<usize>) -> Result<String, Fail> {
     let list = list_of(alloc, 2, 1000, HOST)?;
     let datagrams = burst_ends(alloc, &list, SHAPE.rows, SHAPE.columns, TIMING.length)?;
-    let mut bursts = BurstPackets::new(alloc, SHAPE, TIMING, &list, &datagrams, 300, 14)?;
     let mut text = format!(in alloc; "{:?}", datagrams.as_slice())?;
-    for _ in 0..4 {
-        put_window(bytes, ends, &mut bursts, &mut text)?;
-    }
+    let mut bursts = BurstPackets::new(alloc, SHAPE, TIMING, &list, &datagrams, 300, 14)?;
+    put_four(bytes, ends, &mut bursts, &mut text)?;
     Ok(text)
 }
 

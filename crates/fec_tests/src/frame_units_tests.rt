@@ -3,7 +3,7 @@ ghost use Rattle.std.specs.Prelude.{◌<◌, ◌≤◌, ◌^◌, length, IfOk};
 ghost use Rattle.fec_units.specs.Ends.{AreFrameEnds};
 ghost use Rattle.fec_sent_law.specs.Frames.{AreSendable};
 
-use crate::lines::{expect_bytes, hex_at};
+use crate::lines::{bytes_at, expect_bytes, put_hex};
 use crate::sendable::{HOST, UNICAST, list_of};
 use burst_packets::{FramePackets, Shape};
 use fec_units::{BurstBuffer, FrameUnits, burst_ends, unit_ends};
@@ -11,7 +11,7 @@ use ip_datagram::DatagramList;
 use std::alloc::Global;
 use std::fmt::Write;
 use std::test::Fail;
-use test_lines::{expect, expect_lines};
+use test_lines::{expect, expect_lines, numbers_of};
 
 /// How many frames there are, and where each of their units ends.
 fn ends_of(alloc: Global, units: &FrameUnits) -> Result<String, Fail> {
@@ -118,13 +118,27 @@ fn no_datagram_has_no_unit(rt: HostRuntime) -> Result<(), Fail> {
     expect("the ends", &ends_of(alloc, &units)?, "0: []")
 }
 
-/// Where each unit of a burst ends, and its real_time_parameters.
+/// Appends where a unit of a burst ends, and its real_time_parameters.
+fn put_time(
+    text: &mut String,
+    buffer: &BurstBuffer,
+    number: usize,
+    end: usize,
+) -> Result<(), Fail> {
+    let Some(time) = bytes_at(buffer.bytes(), buffer.ends(), number, 8, 4) else {
+        return Err(Fail::new("no real_time_parameters"));
+    };
+    let separator = if number == 0 { "" } else { "; " };
+    write!(text, "{separator}{end}: ")?;
+    put_hex(text, time)?;
+    Ok(())
+}
+
+/// The same of each unit of a burst.
 fn times_of(alloc: Global, buffer: &BurstBuffer) -> Result<String, Fail> {
     let mut text = String::new(alloc);
     for (number, end) in buffer.ends().iter().enumerate() {
-        let time = hex_at(alloc, buffer.bytes(), buffer.ends(), number, 8, 4)?;
-        let separator = if number == 0 { "" } else { "; " };
-        write!(&mut text, "{separator}{end}: {time}")?;
+        put_time(&mut text, buffer, number, *end)?;
     }
     Ok(text)
 }
@@ -162,8 +176,8 @@ fn list_in(alloc: Global, words: &str) -> Result<DatagramList, Fail>
     ensures sendable { IfOk result (λ list. AreSendable list) }
     ensures few { IfOk result (λ list. length list < 2 ^ 32) }
 {
-    let (count, size) = words.split_once(' ').ok_or("no size")?;
-    list_of(alloc, count.parse::<u8>()?, size.parse::<u16>()?, HOST)
+    let [count, size] = numbers_of::<2>(words)?;
+    list_of(alloc, u8::try_from(count)?, u16::try_from(size)?, HOST)
 }
 
 /// The units of the burst of a line.
@@ -183,22 +197,15 @@ const WINDOWS: &str = "1|[1, 2, 3, 4, 5]
 4|[3, 5]
 100|[5]";
 
-/// Divides a list into the bursts of a line.
-fn divide(alloc: Global, list: &DatagramList, line: &str) -> Result<(), Fail>
-    requires sendable { AreSendable list.now }
-    requires few { length list.now < 2 ^ 32 }
-{
-    let (slots, due) = line.split_once('|').ok_or("no bar")?;
-    let ends = burst_ends(alloc, list, 256, 1, slots.parse::<u32>()?)?;
-    let ends = format!(in alloc; "{:?}", ends.as_slice())?;
-    expect(slots, &ends, due)
+/// Where the bursts of the datagrams end.
+fn ends_in(alloc: Global, slots: &str) -> Result<String, Fail> {
+    let slots = slots.parse::<u32>()?;
+    let list = list_of(alloc, 5, 100, HOST)?;
+    let ends = burst_ends(alloc, &list, 256, 1, slots)?;
+    Ok(format!(in alloc; "{:?}", ends.as_slice())?)
 }
 
 #[test]
 fn a_burst_takes_what_its_window_has_room_for(rt: HostRuntime) -> Result<(), Fail> {
-    let list = list_of(rt.alloc(), 5, 100, HOST)?;
-    for line in WINDOWS.lines() {
-        divide(rt.alloc(), &list, line)?;
-    }
-    Ok(())
+    expect_lines(rt.alloc(), ends_in, WINDOWS)
 }

@@ -18,16 +18,15 @@ const POWERS: [(u32, u8); 7] = [
 #[test]
 fn powers_are_those_by_hand(rt: HostRuntime) {
     for (exponent, want) in POWERS {
-        assert_eq!(rt; Gf(0x02).power(exponent), Gf(want));
+        assert!(rt; Gf(0x02).power(exponent).0 == want, "at {exponent}");
     }
 }
 
 #[test]
 fn sums_products_and_inverses_are_those_by_hand(rt: HostRuntime) {
-    let sum = Gf(0x53).add(Gf(0xCA));
-    let product = Gf(0x80).mul(Gf(0x02));
-    assert_eq!(rt; (sum.0, product.0), (0x99, 0x1D));
-    assert_eq!(rt; (Gf(0x02).inverse().0, Gf(0x01).inverse().0), (0x8E, 0x01));
+    assert!(rt; Gf(0x53).add(Gf(0xCA)).0 == 0x99);
+    assert!(rt; Gf(0x80).mul(Gf(0x02)).0 == 0x1D);
+    assert!(rt; Gf(0x02).inverse().0 == 0x8E && Gf(0x01).inverse().0 == 0x01);
 }
 
 /// x times the element: x^8 is x^4+x^3+x^2+1 (EN 301 192 clause 9).
@@ -57,7 +56,7 @@ fn product_of(one: u8, other: u8) -> u8 {
 fn products_are_those_bit_by_bit(rt: HostRuntime) {
     for one in 0..=255u8 {
         for other in 0..=255u8 {
-            assert_eq!(rt; Gf(one).mul(Gf(other)).0, product_of(one, other));
+            assert!(rt; Gf(one).mul(Gf(other)).0 == product_of(one, other));
         }
     }
 }

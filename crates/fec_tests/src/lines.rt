@@ -1,51 +1,54 @@
 //! What a line of a table says of bytes, as hex text.
-use std::alloc::Global;
+use std::alloc::{AllocError as OutOfMemory, Global};
 use std::fmt::Write;
 use std::test::Fail;
-use test_lines::expect;
+use test_lines::{expect, numbers_of};
 
-/// Bytes as hex text.
-fn hex_of(alloc: Global, bytes: &[u8]) -> Result<String, Fail> {
-    let mut text = String::new(alloc);
-    for byte in bytes {
-        if !text.is_empty() {
-            text.push(' ')?;
-        }
-        write!(&mut text, "{byte:02X}")?;
+/// Appends bytes as hex text.
+pub(crate) fn put_hex(text: &mut String, bytes: &[u8]) -> Result<(), OutOfMemory> {
+    for (place, byte) in bytes.iter().enumerate() {
+        let separator = if place == 0 { "" } else { " " };
+        write!(text, "{separator}{byte:02X}")?;
     }
-    Ok(text)
+    Ok(())
 }
 
-/// The hex text of so many bytes of a piece from a byte on, or of fewer where the bytes end before. Piece `number` begins where the one
-/// before ends.
-pub(crate) fn hex_at(
-    alloc: Global,
-    bytes: &[u8],
+/// So many bytes of a piece from a byte on, or fewer where the bytes end before. Piece `number` begins where the one before ends.
+pub(crate) fn bytes_at<'b>(
+    bytes: &'b [u8],
     ends: &[usize],
     number: usize,
     from: usize,
     count: usize,
-) -> Result<String, Fail> {
+) -> Option<&'b [u8]> {
     let start = match number.checked_sub(1) {
-        Some(before) => *ends.get(before).ok_or("no such piece")?,
+        Some(before) => *ends.get(before)?,
         None => 0,
     };
-    let rest = bytes
-        .get(start..)
-        .and_then(|piece| piece.get(from..))
-        .ok_or("no such byte")?;
-    hex_of(alloc, &rest[..count.min(rest.len())])
+    let rest = bytes.get(start..)?.get(from..)?;
+    Some(&rest[..count.min(rest.len())])
+}
+
+/// A place, and the bytes due there.
+fn case_of(line: &str) -> Option<(&str, &str)> {
+    let (place, said) = line.split_once('|')?;
+    let (due, _) = said.split_once('|')?;
+    Some((place, due))
 }
 
 /// Fails where a line of a table differs from the bytes.
 fn expect_line(alloc: Global, bytes: &[u8], ends: &[usize], line: &str) -> Result<(), Fail> {
-    let (place, said) = line.split_once('|').ok_or("no place")?;
-    let (due, _) = said.split_once('|').ok_or("no bytes")?;
-    let (number, byte) = place.split_once(' ').ok_or("no byte")?;
-    let number = number.parse::<usize>()?;
-    let byte = byte.parse::<usize>()?;
-    let there = hex_at(alloc, bytes, ends, number, byte, due.split(' ').count())?;
-    expect(place, &there, due)
+    let Some((place, due)) = case_of(line) else {
+        return Err(Fail::new(format_args!("{line}: no case")));
+    };
+    let [number, from] = numbers_of::<2>(place)?;
+    let count = due.split(' ').count();
+    let Some(there) = bytes_at(bytes, ends, number as usize, from as usize, count) else {
+        return Err(Fail::new(format_args!("{line}: no such byte")));
+    };
+    let mut text = String::new(alloc);
+    put_hex(&mut text, there)?;
+    expect(place, &text, due)
 }
 
 /// Fails where a table differs from the bytes.

@@ -11,7 +11,7 @@ fn the_last_data_byte_gives_the_generator(rt: HostRuntime) {
     let mut parity = [0u8; 64];
     given[190] = 1;
     encode_row(&given, &mut parity);
-    assert_eq!(rt; (parity[0], parity[63]), (0xC1, 0xF5));
+    assert!(rt; parity[0] == 0xC1 && parity[63] == 0xF5);
 }
 
 /// The parity of one row of a table of 256 rows.

@@ -117,13 +117,12 @@ const RUNS: &str =
     "1 4 190 201 2|7 as before; 0 Done, the codeword; 1 Inconsistent, as before; 0 Done, the codeword; 7 as before
 0 5 100 164 5|0 Done, the codeword; 0 Done, the codeword; 0 Done, the codeword; 0 Done, the codeword; 0 Done, the codeword";
 
-/// What `decode_row` answers for a row, and what became of the row in a run, which is the same.
-fn row_in_run(
-    alloc: Global,
+/// What `decode_row` answers for a row, where it leaves the row as the run has.
+fn answer_of(
     before: &[u8; 255],
     after: &[u8; 255],
     unknown: &ArrayVec<u8, 255>,
-) -> Result<String, Fail>
+) -> Result<&'static str, Fail>
     requires low { All (λ p. p < 255) unknown.now.items }
     requires rising { IsStrictlyIncreasing unknown.now.items }
 {
@@ -132,7 +131,7 @@ fn row_in_run(
     if alone.as_slice() != after.as_slice() {
         return Err(Fail::new("a run that does not what decode_row does"));
     }
-    Ok(format!(in alloc; "{answer}, {}", state_of(before, after))?)
+    Ok(answer)
 }
 
 /// What becomes of the rows of a table in a run.
@@ -155,10 +154,9 @@ fn rows_of(
         let separator = if row == 0 { "" } else { "; " };
         write!(&mut text, "{separator}{} ", bad[row])?;
         if from <= row && row < to {
-            text.push_str(row_in_run(alloc, &was, &is, unknown)?.as_str())?;
-        } else {
-            text.push_str(state_of(&was, &is))?;
+            write!(&mut text, "{}, ", answer_of(&was, &is, unknown)?)?;
         }
+        text.push_str(state_of(&was, &is))?;
     }
     Ok(text)
 }

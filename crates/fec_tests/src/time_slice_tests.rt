@@ -55,28 +55,27 @@ fn time(delta: u16) -> RealTime {
 }
 
 /// What a call answers.
-fn answer_of(membership: &mut Membership, words: &str) -> Result<&'static str, Fail> {
-    let (call, numbers) = words.split_once(' ').ok_or("no number")?;
-    let [moment, delta] = numbers_of::<2>(numbers)?;
-    let time = time(u16::try_from(delta)?);
+fn answer_of(membership: &mut Membership, words: &str) -> Option<&'static str> {
+    let (call, numbers) = words.split_once(' ')?;
+    let (moment, delta) = numbers.split_once(' ')?;
+    let moment = moment.parse().ok()?;
+    let time = time(delta.parse().ok()?);
     match call {
         "see" => membership.see(moment, &time),
         "forget" => membership.forget(),
-        _ => {
-            return Ok(if membership.belongs(moment, &time) {
-                "true"
-            } else {
-                "false"
-            });
-        }
+        "belongs" if membership.belongs(moment, &time) => return Some("true"),
+        "belongs" => return Some("false"),
+        _ => return None,
     }
-    Ok("")
+    Some("")
 }
 
 /// Makes the call of a line.
 fn call(membership: &mut Membership, line: &str) -> Result<(), Fail> {
-    let (words, due) = line.split_once('|').ok_or("no bar")?;
-    expect(words, answer_of(membership, words)?, due)
+    let Some((words, due)) = line.split_once('|') else {
+        return Err(Fail::new("no bar"));
+    };
+    expect(line, answer_of(membership, words).unwrap_or("no call"), due)
 }
 
 #[test]
@@ -98,15 +97,9 @@ const SLOTS: &str = "99|None
 106|Some((1, 4))
 107|None";
 
-/// Asks for the owner of the slot of a line.
-fn ask(alloc: Global, windows: &Windows<'_>, line: &str) -> Result<(), Fail> {
-    let (slot, due) = line.split_once('|').ok_or("no bar")?;
-    let owner = format!(in alloc; "{:?}", windows.owner(slot.parse::<u32>()?))?;
-    expect(slot, &owner, due)
-}
-
-#[test]
-fn each_slot_has_one_owner(rt: HostRuntime) -> Result<(), Fail> {
+/// The owner of a slot.
+fn owner_of(alloc: Global, slot: &str) -> Result<String, Fail> {
+    let slot = slot.parse::<u32>()?;
     let list = [
         Window {
             service: 3,
@@ -119,9 +112,10 @@ fn each_slot_has_one_owner(rt: HostRuntime) -> Result<(), Fail> {
             length: 5,
         },
     ];
-    let windows = Windows::over(&list);
-    for line in SLOTS.lines() {
-        ask(rt.alloc(), &windows, line)?;
-    }
-    Ok(())
+    Ok(format!(in alloc; "{:?}", Windows::over(&list).owner(slot))?)
+}
+
+#[test]
+fn each_slot_has_one_owner(rt: HostRuntime) -> Result<(), Fail> {
+    expect_lines(rt.alloc(), owner_of, SLOTS)
 }
