@@ -1,9 +1,9 @@
 -- A writer behind a buffer: what it takes, and what stays held.
-use Rattle.std.proofs.Common.{◌≡◌, ℕ, ◌+◌, ◌-◌, ◌≤◌, List, [], ◌++◌, length, take, drop, ap, sym, subst, refl, ◌∙◌, arith, append-nil, length-drop, None, Some, Option, Ok, Err, Result}
+use Rattle.std.proofs.Common.{◌≡◌, ℕ, ◌+◌, ◌-◌, ◌≤◌, List, [], length, take, drop, ap, sym, subst, ◌∙◌, arith, append-nil, length-drop, None, Some, Option, Ok, Result}
 use lib.Seq.{paste}
 use Rattle.std.proofs.lemmas.List.{drop-take}
 use Rattle.std.proofs.lemmas.List.Edits.{take-paste}
-use Rattle.std.specs.Io.KnownBytes.{Appends, Keeps, WriteAppends, append_known}
+use Rattle.std.specs.Io.KnownBytes.{Appends, Keeps, WriteAppends}
 use Rattle.std.proofs.KnownBytes.{Keeps-trans}
 
 keeps_of_none : (a b : Option (List ℕ)) → Appends a b [] → Keeps a b
@@ -16,26 +16,6 @@ pub took_none : {E : Type 0} (a b c : Option (List ℕ)) (r : Result ℕ E) (n :
     → Keeps a b → WriteAppends b c r piece → Keeps a c
 took_none a b c r n piece is none kept p =
     Keeps-trans a b c kept (keeps_of_none b c (subst (λ k. Appends b c (take k piece)) none (subst (λ s. WriteAppends b c s piece) is p)))
-
--- what is kept, and then grows
-kept_and_grown : (a b c : Option (List ℕ)) (bs : List ℕ) → Keeps a b → Appends b c bs → Appends a c bs
-kept_and_grown None b c bs p q = tt
-kept_and_grown (Some x) None c bs p q = absurd p
-kept_and_grown (Some x) (Some y) None bs p q = absurd q
-kept_and_grown (Some x) (Some y) (Some z) bs p q = q ∙ ap (λ l. l ++ bs) p
-
--- nothing is held
-none_held : (a : Option (List ℕ)) (held : List ℕ) → held ≡ [] → append_known a held ≡ a
-none_held None held none = refl
-none_held (Some x) held none = ap (λ l. Some (x ++ l)) none ∙ ap Some (append-nil x)
-
--- where nothing is held, what the writer takes comes next
-pub passed : {E : Type 0} (a b c : Option (List ℕ)) (held : List ℕ) (r : Result ℕ E) (piece : List ℕ) → held ≡ []
-    → Keeps a (append_known b held) → WriteAppends b c r piece → WriteAppends a (append_known c held) r piece
-passed a b c held (Ok n) piece none kept p =
-    subst (λ k. Appends a k (take n piece)) (sym (none_held c held none)) (kept_and_grown a b c (take n piece) (subst (Keeps a) (none_held b held none) kept) p)
-passed a b c held (Err e) piece none kept p =
-    subst (Keeps a) (sym (none_held c held none)) (Keeps-trans a b c (subst (Keeps a) (none_held b held none) kept) p)
 
 -- what is left of the front of a buffer, moved down
 pub moved_down : (xs : List ℕ) (n fill : ℕ) → n ≤ fill → fill ≤ length xs → take (fill - n) (paste xs 0 (drop n xs) (fill - n)) ≡ drop n (take fill xs)

@@ -4,3 +4,5 @@ pub mod MemFiles
 pub mod MemShelves
 pub mod Lent
 pub mod Behind
+pub mod Loaded
+pub mod Racks

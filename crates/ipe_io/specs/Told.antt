@@ -16,7 +16,7 @@ pub record OutputTold : Type 0 where
   pub flushed : Option ℕ
   pub faults : ℕ
 
--- a shelf: what the file of each name holds, and how often it has failed
+-- a shelf: what the file of each name holds, of those that it knows, as of each that was loaded; and how often it has failed
 pub record ShelfTold : Type 0 where
   pub file : List ℕ → Option (List ℕ)
   pub faults : List ℕ → ℕ

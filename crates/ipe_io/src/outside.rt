@@ -1,5 +1,5 @@
 //! The traits: what an object may tell of its content, how often it has failed, and what each call does to both.
-ghost use Rattle.std.specs.Prelude.{◌≡◌, ℕ, ◌+◌, ◌-◌, ◌*◌, ◌^◌, ◌<◌, ◌≤◌, Bool, List, [], ◌∷◌, ◌++◌, length, take, Option, None, Some, is_ok, IfOk, OnOk, OnErr, IfSome, IsErrOf, if◌then◌else◌, ◌==◌};
+ghost use Rattle.std.specs.Prelude.{◌≡◌, ◌≢◌, ℕ, ◌+◌, ◌-◌, ◌*◌, ◌^◌, ◌<◌, ◌≤◌, Bool, List, [], ◌∷◌, ◌++◌, length, take, Option, None, Some, is_ok, IfOk, OnOk, OnErr, IfSome, IsErrOf, if◌then◌else◌, ◌==◌};
 ghost use Rattle.std.specs.Borrow.{sem};
 ghost use Rattle.std.specs.Io.{ReadsAtMost};
 ghost use Rattle.std.specs.Io.BufRead.{Rests};
@@ -64,15 +64,16 @@ pub trait Sink {
 
 /// Where files are loaded from by name.
 pub trait Shelf {
-    /// What it tells of its files, and its counts by name.
+    /// What it tells of the files that it knows, and its counts by name.
     ghost told: { Self → ShelfTold };
 
-    /// The bytes of the file of that name, at most 1,048,576.
+    /// The bytes of the file of that name, at most 1,048,576. It knows them from then on, and what it knows stays.
     fn load(&mut self, alloc: Global, name: &str) -> Result<Vec<u8>, LoadFault>
-        ensures read { IfOk result (λ bytes. IfSome ((told self.old).file name.now) (λ held. bytes.items ≡ held)) }
+        ensures read { IfOk result (λ bytes. (told self.new).file name.now ≡ Some bytes.items) }
         ensures short { IfOk result (λ bytes. length bytes.items ≤ longest_file) }
-        ensures too_long { IsErrOf result LoadFault.TooLong → IfSome ((told self.old).file name.now) (λ held. longest_file < length held) }
-        ensures unchanged { (other : List ℕ) → (told self.new).file other ≡ (told self.old).file other }
+        ensures too_long { IsErrOf result LoadFault.TooLong → IfSome ((told self.new).file name.now) (λ held. longest_file < length held) }
+        ensures unchanged { (other : List ℕ) → Stays ((told self.old).file other) ((told self.new).file other) }
+        ensures others { (other : List ℕ) → other ≢ name.now → (told self.new).file other ≡ (told self.old).file other }
         ensures cause { HasLoadCause ((told self.old).faults name.now) ((told self.new).faults name.now) result }
         ensures later { (other : List ℕ) → (told self.old).faults other ≤ (told self.new).faults other }
         ensures kept { ¬ IsErrOf result LoadFault.Failed → (other : List ℕ) → (told self.new).faults other ≡ (told self.old).faults other };

@@ -1,24 +1,38 @@
 //! A writer behind a buffer: short pieces come in, and go out together.
-ghost use Rattle.std.specs.Prelude.{◌≡◌, ◌<◌, ◌≤◌, ◌-◌, ℕ, length, take, vec_len, IfOk, OnOk, OnErr};
-ghost use Rattle.std.specs.Io.KnownBytes.{Appends, Keeps, WriteAppends, append_known};
+ghost use Rattle.std.specs.Prelude.{◌≡◌, ◌+◌, ◌<◌, ◌≤◌, ℕ, [], length, take, vec_len, IfOk, OnOk};
+ghost use Rattle.std.specs.Io.KnownBytes.{Appends, Keeps, WriteAppends};
+ghost use Rattle.ipe_io.specs.Real.{all_put};
 
 use crate::Failed;
+use std::alloc::{AllocError as OutOfMemory, Global};
 use std::io::{ErrorKind, Write};
+use std::marker::Model;
 
-/// A writer behind a buffer of 64 KiB, for many short pieces. What the writer refuses stays held, in order. When it is
-/// dropped, it tries to write out what it holds.
+/// A writer behind a buffer, for many short pieces. Behind a buffer without room, each piece goes down at once. What the writer refuses stays
+/// held, in order. When it is dropped, it tries to write out what it holds.
 pub(crate) struct WriteBehind<W: Write + Drop> {
     inner: W,
     buffer: Vec<u8>,
     // So many bytes at the front of the buffer are held.
     fill: usize,
-    ghost fits: { fill ≤ vec_len buffer },
+}
+
+// It is seen as what its writer has, what waits, and how much may wait.
+impl<W: Write + Drop> Model for WriteBehind<W> {
+    ghost use Rattle.std.specs.Prelude.{◌≤◌, take, vec_len};
+    ghost use Rattle.ipe_io.specs.Real.{WriterState};
+
+    ghost Value = { WriterState };
+
+    ghost view = { λ s. record { down = W.contents s.inner; waiting = take s.fill s.buffer.items; room = vec_len s.buffer } };
+
+    ghost invariant = { λ s. s.fill ≤ vec_len s.buffer };
 }
 
 impl<W: Write + Drop> WriteBehind<W> {
     /// It holds nothing.
     pub(crate) fn over(inner: W, buffer: Vec<u8>) -> WriteBehind<W>
-        ensures { Keeps (W.contents inner) (append_known (W.contents result.inner) (take result.fill result.buffer.items)) }
+        ensures { result ≡ record { down = W.contents inner; waiting = []; room = vec_len buffer } }
     {
         WriteBehind {
             inner,
@@ -32,7 +46,8 @@ impl<W: Write + Drop> WriteBehind<W> {
     pub(crate) fn write(&mut self, piece: &[u8]) -> Result<usize, Failed>
         ensures bound { IfOk result (λ n. n ≤ length piece.now) }
         ensures some { IfOk result (λ n. 0 < length piece.now → 0 < n) }
-        ensures written { WriteAppends (append_known (W.contents self.old.inner) (take self.old.fill self.old.buffer.items)) (append_known (W.contents self.new.inner) (take self.new.fill self.new.buffer.items)) result piece.now }
+        ensures written { WriteAppends (all_put self.old) (all_put self.new) result piece.now }
+        ensures room { self.new.room ≡ self.old.room }
     {
         if piece.len() < self.buffer.len() - self.fill {
             self.hold(piece);
@@ -44,8 +59,9 @@ impl<W: Write + Drop> WriteBehind<W> {
     // The piece joins what is held.
     #[inline(always)]
     fn hold(&mut self, piece: &[u8])
-        requires { length piece.now ≤ vec_len self.old.buffer - self.old.fill }
-        ensures { Appends (append_known (W.contents self.old.inner) (take self.old.fill self.old.buffer.items)) (append_known (W.contents self.new.inner) (take self.new.fill self.new.buffer.items)) piece.now }
+        requires { length self.old.waiting + length piece.now ≤ self.old.room }
+        ensures written { Appends (all_put self.old) (all_put self.new) piece.now }
+        ensures room { self.new.room ≡ self.old.room }
     {
         let end = self.fill + piece.len();
         self.buffer[self.fill..end].copy_from_slice(piece);
@@ -58,20 +74,25 @@ impl<W: Write + Drop> WriteBehind<W> {
     fn write_out_first(&mut self, piece: &[u8]) -> Result<usize, Failed>
         ensures bound { IfOk result (λ n. n ≤ length piece.now) }
         ensures some { IfOk result (λ n. 0 < length piece.now → 0 < n) }
-        ensures written { WriteAppends (append_known (W.contents self.old.inner) (take self.old.fill self.old.buffer.items)) (append_known (W.contents self.new.inner) (take self.new.fill self.new.buffer.items)) result piece.now }
+        ensures written { WriteAppends (all_put self.old) (all_put self.new) result piece.now }
+        ensures room { self.new.room ≡ self.old.room }
     {
         self.write_held()?;
         if piece.len() < self.buffer.len() {
             self.hold(piece);
             return Ok(piece.len());
         }
+        if piece.is_empty() {
+            return Ok(0);
+        }
         write_some(&mut self.inner, piece)
     }
 
     /// Writes out what is held, and flushes the writer.
     pub(crate) fn flush(&mut self) -> Result<(), Failed>
-        ensures empty { OnOk result (self.new.fill ≡ 0) }
-        ensures kept { Keeps (append_known (W.contents self.old.inner) (take self.old.fill self.old.buffer.items)) (append_known (W.contents self.new.inner) (take self.new.fill self.new.buffer.items)) }
+        ensures empty { OnOk result (self.new.waiting ≡ []) }
+        ensures kept { Keeps (all_put self.old) (all_put self.new) }
+        ensures room { self.new.room ≡ self.old.room }
     {
         self.write_held()?;
         match self.inner.flush() {
@@ -82,9 +103,9 @@ impl<W: Write + Drop> WriteBehind<W> {
 
     // Writes out what is held. On `Failed` a part of it may be written, and the rest stays held.
     fn write_held(&mut self) -> Result<(), Failed>
-        ensures empty { OnOk result (self.new.fill ≡ 0) }
-        ensures size { vec_len self.new.buffer ≡ vec_len self.old.buffer }
-        ensures kept { Keeps (append_known (W.contents self.old.inner) (take self.old.fill self.old.buffer.items)) (append_known (W.contents self.new.inner) (take self.new.fill self.new.buffer.items)) }
+        ensures empty { OnOk result (self.new.waiting ≡ []) }
+        ensures kept { Keeps (all_put self.old) (all_put self.new) }
+        ensures room { self.new.room ≡ self.old.room }
     {
         let written = write_front(&mut self.inner, &self.buffer[..self.fill]);
         let left = self.fill - written;
@@ -103,6 +124,13 @@ impl<W: Write + Drop> Drop for WriteBehind<W> {
             fill: _,
         } = self;
     }
+}
+
+/// A buffer of zeros.
+pub(crate) fn zeros(alloc: Global, size: usize) -> Result<Vec<u8>, OutOfMemory>
+    ensures { IfOk result (λ buffer. vec_len buffer ≡ size) }
+{
+    vec![in alloc; 0; size]
 }
 
 // Writes the bytes, and answers how many were written: fewer than all where the writer failed.

@@ -5,7 +5,7 @@ use ipe_io::{
     StdSource, fill, put_all, put_file,
 };
 use std::alloc::{AllocError as OutOfMemory, Global};
-use std::fs::File;
+use std::fs::{File, Files};
 use std::io::Write;
 use std::test::Fail;
 use std::{fs, io};
@@ -20,12 +20,17 @@ fn long_text(alloc: Global, size: u32) -> Result<Vec<u8>, OutOfMemory> {
     Ok(text)
 }
 
-/// Whether the shelf loads these bytes.
+/// Whether a shelf loads these bytes.
 fn loads<S: Shelf>(alloc: Global, shelf: &mut S, name: &str, want: &[u8]) -> bool {
     match shelf.load(alloc, name) {
         Ok(bytes) => bytes.as_slice() == want,
         Err(_) => false,
     }
+}
+
+/// Whether a file holds these bytes.
+fn holds(rt: HostRuntime, name: &str, want: &[u8]) -> bool {
+    loads(rt.alloc(), &mut FileShelf::new(rt.alloc(), rt), name, want)
 }
 
 /// Adds two files, and between them one in a folder that is not there, and writes a text to each, the second in two pieces. Answers
@@ -56,15 +61,17 @@ fn add_and_write<R: Rack>(
     !flush || rack.flush(0).is_ok() && rack.flush(1).is_ok()
 }
 
-/// Whether the calls of a rack did what they must, and its second file holds nothing before the flush of all, and its text after it.
+/// Whether the calls of a rack did what they must, and its second file holds nothing before the flush of all, and its text after it. A shelf
+/// that loaded the file before the flush does not read it again.
 fn is_held_back(rt: HostRuntime) -> bool {
     let alloc = rt.alloc();
     let mut rack = FileRack::new(alloc, rt);
-    let mut shelf = FileShelf::new(rt);
+    let mut shelf = FileShelf::new(alloc, rt);
     add_and_write(alloc, &mut rack, b"", b"123", false)
         && loads(alloc, &mut shelf, "ipe_io_b", b"")
         && rack.flush_all().is_ok()
-        && loads(alloc, &mut shelf, "ipe_io_b", b"123")
+        && holds(rt, "ipe_io_b", b"123")
+        && loads(alloc, &mut shelf, "ipe_io_b", b"")
 }
 
 /// Whether the second file of a rack that was dropped without a flush holds its text.
@@ -73,12 +80,12 @@ fn is_written_at_drop(rt: HostRuntime) -> bool {
     let mut rack = FileRack::new(alloc, rt);
     let done = add_and_write(alloc, &mut rack, b"4", b"567", false);
     drop(rack);
-    done && loads(alloc, &mut FileShelf::new(rt), "ipe_io_b", b"567")
+    done && holds(rt, "ipe_io_b", b"567")
 }
 
 /// Whether the load of a file that is not there fails.
 fn is_missed(rt: HostRuntime) -> bool {
-    let loaded = FileShelf::new(rt).load(rt.alloc(), "ipe_io_none");
+    let loaded = FileShelf::new(rt.alloc(), rt).load(rt.alloc(), "ipe_io_none");
     matches!(loaded, Err(LoadFault::Failed))
 }
 
@@ -86,10 +93,9 @@ fn is_missed(rt: HostRuntime) -> bool {
 fn rewritten(rt: HostRuntime, first: &[u8], second: &[u8]) -> bool {
     let alloc = rt.alloc();
     let mut rack = FileRack::new(alloc, rt);
-    let mut shelf = FileShelf::new(rt);
     add_and_write(alloc, &mut rack, first, second, true)
-        && loads(alloc, &mut shelf, "ipe_io_a", first)
-        && loads(alloc, &mut shelf, "ipe_io_b", second)
+        && holds(rt, "ipe_io_a", first)
+        && holds(rt, "ipe_io_b", second)
 }
 
 /// Whether each of three runs over the same two files, with pieces of a text of these lengths, did what it must.
@@ -133,18 +139,18 @@ impl Write for ByteByByte {
     }
 }
 
-/// A sink, and a shelf that loads the file which it writes.
+/// A sink, and the system that has the file which it writes.
 #[derive(Drop)]
-struct Written<K: Sink + Drop, S: Shelf + Drop> {
+struct Written<K: Sink + Drop, R: Files + Copy + Drop> {
     sink: K,
-    shelf: S,
+    system: R,
 }
 
 /// `load` answers what the file holds; other calls are those of the sink.
-impl<K: Sink + Drop, S: Shelf + Drop> Calls for Written<K, S> {
+impl<K: Sink + Drop, R: Files + Copy + Drop> Calls for Written<K, R> {
     fn answer(&mut self, alloc: Global, call: &str) -> Result<String, Fail> {
         match call {
-            "load" => loaded(alloc, &mut self.shelf, "ipe_io_c"),
+            "load" => loaded(alloc, &mut FileShelf::new(alloc, self.system), "ipe_io_c"),
             _ => Ok(sink_answer(alloc, &mut self.sink, call)?),
         }
     }
@@ -166,16 +172,14 @@ load|987";
 /// Makes the calls of the first sink.
 fn write_byte_by_byte(rt: HostRuntime) -> Result<(), Fail> {
     let file = fs::create(&rt, "ipe_io_c")?;
-    let sink = StdSink::new(ByteByByte { file });
-    let shelf = FileShelf::new(rt);
-    expect_calls(rt.alloc(), &mut Written { sink, shelf }, BYTE_BY_BYTE)
+    let sink = StdSink::new(rt.alloc(), ByteByByte { file });
+    expect_calls(rt.alloc(), &mut Written { sink, system: rt }, BYTE_BY_BYTE)
 }
 
 /// Makes the calls of the second sink.
 fn write_buffered(rt: HostRuntime) -> Result<(), Fail> {
     let sink = StdSink::buffered(rt.alloc(), fs::create(&rt, "ipe_io_c")?)?;
-    let shelf = FileShelf::new(rt);
-    expect_calls(rt.alloc(), &mut Written { sink, shelf }, BUFFERED)
+    expect_calls(rt.alloc(), &mut Written { sink, system: rt }, BUFFERED)
 }
 
 /// A sink reports what its writer took, and no more. One that holds nothing back writes at once, the other at the flush.
@@ -203,11 +207,10 @@ fn put_text<K: Sink>(sink: &mut K, text: &[u8]) -> Result<(), Failed> {
 fn long_written(rt: HostRuntime, text: &[u8]) -> Result<String, Fail> {
     let alloc = rt.alloc();
     let mut sink = StdSink::buffered(alloc, fs::create(&rt, "ipe_io_d")?)?;
-    let mut shelf = FileShelf::new(rt);
     let whole = put_text(&mut sink, text);
-    let same = loads(alloc, &mut shelf, "ipe_io_d", text);
+    let same = holds(rt, "ipe_io_d", text);
     let last = put_text(&mut sink, b"8");
-    let fault = shelf.load(alloc, "ipe_io_d").err();
+    let fault = FileShelf::new(alloc, rt).load(alloc, "ipe_io_d").err();
     Ok(format!(in alloc; "{whole:?} {same} {last:?} {fault:?}")?)
 }
 

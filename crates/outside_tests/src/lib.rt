@@ -15,4 +15,6 @@ mod pcap_file_tests;
 #[cfg(test)]
 mod recording_reader_tests;
 #[cfg(test)]
+mod refusal_tests;
+#[cfg(test)]
 mod ts_record_tests;
