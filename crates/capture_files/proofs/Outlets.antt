@@ -95,6 +95,7 @@ part_given first now_first rack now (Stopped at put) front service datagram give
   files = grow_exact rack.files now.files first at service given.files.1.0 (take put (capture_record datagram)) front refuses.0
       (given.files.1.1 ∙ sym (length-take-le put (capture_record datagram) (omega (arith, refuses.1)))) given.files.1.2
       (subst (λ (i : ℕ). EndsWith rack.files now.files (i + service) (take put (capture_record datagram))) given.first refuses.2);
+  places = given.count;
   rose = given.files.0;
 }
 

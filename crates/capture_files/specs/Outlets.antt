@@ -62,4 +62,5 @@ pub record WritesPartOf (first : ℕ) (rack now : RackTold) (pairs : List (ℕ �
   pub count : ℕ
   pub less : count < length (capture_record datagram)
   pub files : Grow rack.files now.files (records_and first service (take count (capture_record datagram)) pairs)
+  pub places : now.count ≡ rack.count
   pub rose : Rose rack.faults now.faults

@@ -33,6 +33,7 @@ pub fn add_file<R: Rack>(
     ensures written { OnOk result (((R.told rack.new).count ≡ (R.told rack.old).count + 1) × AddsFile (R.told rack.old).files (R.told rack.new).files (file_with false name.now head.now)) }
     ensures failed { IsErrOf result AddFault.Failed → AddsPartOf head.now name.now (R.told rack.old).files (R.told rack.new).files }
     ensures memory { IsErrOf result AddFault.OutOfMemory → ((R.told rack.new).count ≡ (R.told rack.old).count) × Stays (R.told rack.old).files (R.told rack.new).files }
+    ensures most { (R.told rack.new).count ≤ (R.told rack.old).count + 1 }
     ensures cause { HasAddCause (R.told rack.old).faults (R.told rack.new).faults result }
 {
     let text = file_name(alloc, name)?;
@@ -49,6 +50,7 @@ fn add_capture<R: Rack>(alloc: Global, name: &str, rack: &mut R) -> Result<u32, 
     ensures written { OnOk result (((R.told rack.new).count ≡ (R.told rack.old).count + 1) × AddsFile (R.told rack.old).files (R.told rack.new).files (file_with false name.now capture_head)) }
     ensures failed { IsErrOf result AddFault.Failed → AddsPart name.now (R.told rack.old).files (R.told rack.new).files }
     ensures memory { IsErrOf result AddFault.OutOfMemory → ((R.told rack.new).count ≡ (R.told rack.old).count) × Stays (R.told rack.old).files (R.told rack.new).files }
+    ensures most { (R.told rack.new).count ≤ (R.told rack.old).count + 1 }
     ensures cause { HasAddCause (R.told rack.old).faults (R.told rack.new).faults result }
 {
     let mut head = [0u8; 24];
@@ -68,6 +70,7 @@ pub fn add_files<R: Rack>(
     ensures failed { IsErrOf result AddFault.Failed → (count : ℕ) × AddsHeadsPart (map service_seen services.now) count (R.told rack.old).files (R.told rack.new).files }
     ensures memory { IsErrOf result AddFault.OutOfMemory → (heads : AddsHeads (map service_seen services.now) (R.told rack.old).files (R.told rack.new).files)
         × ((R.told rack.new).count ≡ (R.told rack.old).count + heads.count) }
+    ensures most { (R.told rack.new).count ≤ (R.told rack.old).count + length services.now }
     ensures cause { HasAddCause (R.told rack.old).faults (R.told rack.new).faults result }
 {
     let mut last = 0;

@@ -26,7 +26,7 @@ use Rattle.capture_files.specs.Flushes.{Flush}
 use Rattle.receive_command.specs.Ends.{delivered_capture, in_heads, in_piece, at_end, in_flush}
 use Rattle.receive_command.specs.Writing.{WritesPieces}
 use Rattle.recording_reader.specs.Taken.{HasRead, TakesMostOf}
-use Rattle.receive_command.specs.Receives.{HasHeads, Captures}
+use Rattle.receive_command.specs.Receives.{HasMostFiles, HasHeads, Captures}
 use Rattle.recording_reader.proofs.Taken.{below_product}
 use Rattle.receive_command.proofs.Pairs.{capture_of_delivered}
 use Rattle.capture_files.proofs.Assembly.{pairs_grown, pairs_and_grown, captures_of_pairs, captures_flushed, captures_flushed_to}
@@ -48,14 +48,14 @@ pub heads_stopped : (e : AddFault) (plan : PlanFields) (input : InputTold) (rack
     → raised input.taken 0 ≡ input.taken → Unread
     → (unadded e ≡ Err add.Failed → (count : ℕ) × AddsHeadsPart plan.services count rack.files now_rack.files)
     → (unadded e ≡ Err add.OutOfMemory → HasHeads plan rack now_rack)
-    → HasAddCause rack.faults now_rack.faults (unadded e)
+    → HasMostFiles plan rack now_rack → HasAddCause rack.faults now_rack.faults (unadded e)
     → Captures (Err (fault_of_adding e)) plan input input rack now_rack receiver Unread
-heads_stopped add.Failed plan input rack now_rack receiver Unread none unread part heads cause = record {
-  ends = (in_heads (record { unread = refl; count = (part refl).0; files = (part refl).1 }), record { count = 0; most = omega arith; taken = sym none });
+heads_stopped add.Failed plan input rack now_rack receiver Unread none unread part heads most cause = record {
+  ends = (in_heads (record { unread = refl; count = (part refl).0; files = (part refl).1 }), most, record { count = 0; most = omega arith; taken = sym none });
   input_faults = stays _ _ _ _ (λ is. absurd (cc)) refl;
   rack_faults = rises _ _ _ (cause.failed refl);
 }
-heads_stopped add.OutOfMemory plan input rack now_rack receiver Unread none unread part heads cause = record {
+heads_stopped add.OutOfMemory plan input rack now_rack receiver Unread none unread part heads most cause = record {
   ends = (unread, heads refl);
   input_faults = stays _ _ _ _ (λ is. absurd (cc)) refl;
   rack_faults = stays _ _ _ _ (λ is. absurd (cc)) (cause.kept (λ e. absurd (cc)));
@@ -69,7 +69,8 @@ none_behind size before taken pieces behind none is =
     is ∙ ap (λ (n : ℕ). raised before n) (ap (λ (b : List ℕ). size * length pieces + length b) none ∙ omega arith)
 
 module _ (plan : PlanFields) (first : ℕ) (input now : InputTold) (rack heads mid : RackTold) (receiver : ByCarrier) (Unread : Type 0)
-    (size : IfSome rack.files (λ told. length told ≡ first)) (added : AddsCaptures false head_of plan.services rack.files heads.files) (kept : heads.faults ≡ rack.faults) where
+    (size : IfSome rack.files (λ told. length told ≡ first)) (added : AddsCaptures false head_of plan.services rack.files heads.files) (kept : heads.faults ≡ rack.faults)
+    (all : heads.count ≡ rack.count + length plan.services) where
   -- how many bytes were taken, of fewer pieces than the most
   takes_most : {answer : Result ℕ ReadFault} (wrote : WritesPieces answer plan first input now heads mid receiver) → length wrote.pieces < 2 ^ 32 → TakesMostOf (piece_size plan) input now
   takes_most wrote few = record {
@@ -85,6 +86,10 @@ module _ (plan : PlanFields) (first : ℕ) (input now : InputTold) (rack heads m
       → AddsCaptures false (capture_and service text pairs) plan.services rack.files mid.files
   grown_part pairs service text grew = pairs_and_grown plan.services service text pairs rack.files heads.files mid.files first size added grew
 
+  -- no more files than those are there
+  most_places : (count : ℕ) → count ≡ heads.count → count ≤ rack.count + length plan.services
+  most_places count same = omega (arith, same, all)
+
   stop_rose : WritesPieces (Err read.Taker) plan first input now heads mid receiver → Rose heads.faults mid.faults
   stop_rose wrote = elim wrote.ends.1 [
     | inl last ↦ last.2.stopped.rose
@@ -95,6 +100,7 @@ module _ (plan : PlanFields) (first : ℕ) (input now : InputTold) (rack heads m
   captured_part read.Source wrote = record {
     ends = (
       record { pieces = wrote.pieces; behind = wrote.behind; read = wrote.read; fewer = wrote.ends.0; files = grown_by (told_pairs plan wrote.pieces) wrote.ends.3.files },
+      wrote.ends.3.count ∙ all,
       record {
         going = wrote.ends.1;
         count = piece_size plan * length wrote.pieces + length wrote.behind;
@@ -113,6 +119,7 @@ module _ (plan : PlanFields) (first : ℕ) (input now : InputTold) (rack heads m
         limit = wrote.ends.1;
         files = grown_by (told_pairs plan wrote.pieces) wrote.ends.3.files;
       },
+      wrote.ends.3.count ∙ all,
       none_behind (piece_size plan) input.taken now.taken wrote.pieces wrote.behind wrote.ends.0 wrote.taken ∙ ap (λ (n : ℕ). raised input.taken (piece_size plan * n)) wrote.ends.1,
     );
     input_faults = stays _ _ _ _ (λ is. absurd (cc)) wrote.ends.2;
@@ -138,6 +145,7 @@ module _ (plan : PlanFields) (first : ℕ) (input now : InputTold) (rack heads m
               less = stop.stopped.less;
               files = grown_part (told_pairs plan stop.pieces ++ stop.front) stop.service (take stop.stopped.count (capture_record stop.datagram)) stop.stopped.files;
             }),
+            most_places mid.count stop.stopped.places,
             record {
               count = piece_size plan * length wrote.pieces;
               most = mul-le-mul_left (piece_size plan) last.1;
@@ -161,6 +169,7 @@ module _ (plan : PlanFields) (first : ℕ) (input now : InputTold) (rack heads m
               less = stop.stopped.less;
               files = grown_part (told_pairs plan wrote.pieces ++ stop.front) stop.service (take stop.stopped.count (capture_record stop.datagram)) stop.stopped.files;
             }),
+            most_places mid.count stop.stopped.places,
             takes_most wrote end.0,
           )
     ];
@@ -178,9 +187,9 @@ module _ (plan : PlanFields) (first : ℕ) (input now : InputTold) (rack heads m
         captures_of_pairs plan.services (told ++ last) (delivered_capture plan wrote.pieces) rack.files mid.files (capture_of_delivered plan right wrote.pieces)
         (grown_by (told ++ last) wrote.ends.5.files)
 
-    pub captured_whole : heads.count ≡ rack.count + length plan.services → now_rack.count ≡ mid.count → Flush mid.files now_rack.files first services
+    pub captured_whole : now_rack.count ≡ mid.count → Flush mid.files now_rack.files first services
         → now_rack.faults ≡ mid.faults → Captures (Ok tail) plan input now rack now_rack receiver Unread
-    captured_whole all kept_all flushed same = record {
+    captured_whole kept_all flushed same = record {
       ends = (
         record {
           ends = record {
@@ -207,9 +216,9 @@ module _ (plan : PlanFields) (first : ℕ) (input now : InputTold) (rack heads m
       rack_faults = stays _ _ _ _ (λ is. absurd (cc)) (same ∙ (wrote.ends.5.kept ∙ kept));
     }
 
-    pub captured_in_flush : (count : ℕ) × (count < services) × Flush mid.files now_rack.files first count → Rose mid.faults now_rack.faults
+    pub captured_in_flush : now_rack.count ≡ mid.count → (count : ℕ) × (count < services) × Flush mid.files now_rack.files first count → Rose mid.faults now_rack.faults
         → Captures (Err fault.Rack) plan input now rack now_rack receiver Unread
-    captured_in_flush stop rose =
+    captured_in_flush kept_all stop rose =
         record {
           ends = (
             in_flush (record {
@@ -222,6 +231,7 @@ module _ (plan : PlanFields) (first : ℕ) (input now : InputTold) (rack heads m
               less = omega (arith, stop.1, many);
               files = captures_flushed_to (delivered_capture plan wrote.pieces) plan.services rack.files mid.files now_rack.files first stop.0 size whole_files stop.2;
             }),
+            most_places now_rack.count (kept_all ∙ wrote.ends.5.count),
             takes_most wrote wrote.ends.1,
           );
           input_faults = stays _ _ _ _ (λ is. absurd (cc)) wrote.ends.4;

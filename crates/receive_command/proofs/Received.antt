@@ -97,7 +97,7 @@ module _ (plan : PlanFields) (input now : InputTold) (rack now_rack : RackTold) 
     output_faults = puts.output_faults;
   }
   reported_by (Err fault.OutOfMemory) puts = record {
-    into = into_with (Err fault.OutOfMemory) puts (inr whole);
+    into = into_with (Err fault.OutOfMemory) puts (inr (whole, captures.ends.1, captures.ends.2));
     unchanged = λ not. puts.ends;
     output_faults = puts.output_faults;
   }

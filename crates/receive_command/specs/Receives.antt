@@ -1,5 +1,5 @@
 -- What a command that receives ensures, by its answer: one record, a field a sentence.
-use Rattle.std.specs.Prelude.{◌≡◌, ◌⊎◌, ℕ, ◌+◌, ◌*◌, true, List, length, Result, Ok, Err, OnErr, IsErrOf, ⊤}
+use Rattle.std.specs.Prelude.{◌≡◌, ◌⊎◌, ℕ, ◌+◌, ◌*◌, ◌≤◌, true, List, length, Result, Ok, Err, OnErr, IsErrOf, ⊤}
 use Rattle.wire_spec.specs.Causes.{raised}
 use Rattle.wire_spec.specs.Content.{Stays}
 use Rattle.ipe_io.specs.Told.{InputTold, RackTold, OutputTold}
@@ -20,6 +20,10 @@ use Rattle.recording_reception.specs.Reception.{IsGiven}
 abbrev pub HasAllFiles : PlanFields → RackTold → RackTold → Type 0
 HasAllFiles plan rack now = now.count ≡ rack.count + length plan.services
 
+-- it has no more than those
+abbrev pub HasMostFiles : PlanFields → RackTold → RackTold → Type 0
+HasMostFiles plan rack now = now.count ≤ rack.count + length plan.services
+
 -- it has those of fewer than all, with their heads
 pub record HasHeads (plan : PlanFields) (rack now : RackTold) : Type 0 where
   pub heads : AddsHeads plan.services rack.files now.files
@@ -29,11 +33,11 @@ pub record HasHeads (plan : PlanFields) (rack now : RackTold) : Type 0 where
 abbrev pub ReceiveEnds : {T : Type 0} → Result T ReceiveFault → PlanFields → InputTold → InputTold → RackTold → RackTold → (Done : T → Type 0) → (LacksMemory Fails : Type 0) → Type 0
 ReceiveEnds (Ok it) plan input now rack now_rack Done LacksMemory Fails = Done it × HasAllFiles plan rack now_rack × TakesAllOf (piece_size plan) input now
 ReceiveEnds (Err fault.Source) plan input now rack now_rack Done LacksMemory Fails =
-    EndsFront plan input.left now.left rack.files now_rack.files × TakesFrontOf (piece_size plan) input now
+    EndsFront plan input.left now.left rack.files now_rack.files × HasAllFiles plan rack now_rack × TakesFrontOf (piece_size plan) input now
 ReceiveEnds (Err fault.TooLong) plan input now rack now_rack Done LacksMemory Fails =
-    EndsAtLimit plan input.left now.left rack.files now_rack.files × (now.taken ≡ raised input.taken (piece_size plan * most_pieces))
+    EndsAtLimit plan input.left now.left rack.files now_rack.files × HasAllFiles plan rack now_rack × (now.taken ≡ raised input.taken (piece_size plan * most_pieces))
 ReceiveEnds (Err fault.Rack) plan input now rack now_rack Done LacksMemory Fails =
-    EndsInFiles plan input.left now.left rack.files now_rack.files × TakesMostOf (piece_size plan) input now
+    EndsInFiles plan input.left now.left rack.files now_rack.files × HasMostFiles plan rack now_rack × TakesMostOf (piece_size plan) input now
 ReceiveEnds (Err fault.OutOfMemory) plan input now rack now_rack Done LacksMemory Fails = LacksMemory
 ReceiveEnds (Err fault.Sink) plan input now rack now_rack Done LacksMemory Fails = Fails
 
@@ -57,11 +61,16 @@ ReceivesFiles result plan input now rack now_rack Unread =
     (λ done. EndsWhole plan input.left now.left rack.files now_rack.files)
     (Unread × (now_rack.count ≡ rack.count) × Stays rack.files now_rack.files) ⊥
 
+-- the input was read to its end, and all files are whole, flushed, and there
+abbrev pub TakesWhole : PlanFields → InputTold → InputTold → RackTold → RackTold → Type 0
+TakesWhole plan input now rack now_rack =
+    EndsWhole plan input.left now.left rack.files now_rack.files × HasAllFiles plan rack now_rack × TakesAllOf (piece_size plan) input now
+
 -- the captures, and then the report on an output: without it, where memory runs out after the captures; part of it, where the output fails
 pub record Receives (result : Result ⊤ ReceiveFault) (plan : PlanFields) (input now : InputTold) (rack now_rack : RackTold) (output now_output : OutputTold) (Unread Silent : Type 0) : Type 0 where
   pub into : ReceivesInto result plan input now rack now_rack
       (λ done. EndsReported plan input.left now.left rack.files now_rack.files output.held now_output.held × IsFlushed now_output.held now_output.flushed)
-      ((Unread × HasHeads plan rack now_rack) ⊎ EndsWhole plan input.left now.left rack.files now_rack.files)
+      ((Unread × HasHeads plan rack now_rack) ⊎ TakesWhole plan input now rack now_rack)
       (EndsInReport plan input.left now.left rack.files now_rack.files output.held now_output.held × Stays output.flushed now_output.flushed
       × HasAllFiles plan rack now_rack × TakesAllOf (piece_size plan) input now)
   pub unchanged : ¬ IsErrOf result fault.Sink → OnErr result Silent

@@ -68,14 +68,14 @@ pub head_stopped : (e : AddFault) (carrier : BridgeCarrier) (input : InputTold) 
     → raised input.taken 0 ≡ input.taken → Unread
     → (unadded e ≡ Err add.Failed → AddsPartOf ethernet_head bridge_name rack.files now_rack.files)
     → (unadded e ≡ Err add.OutOfMemory → (now_rack.count ≡ rack.count) × Stays rack.files now_rack.files)
-    → HasAddCause rack.faults now_rack.faults (unadded e)
+    → HasAddCause rack.faults now_rack.faults (unadded e) → now_rack.count ≤ rack.count + 1
     → Unbridges (Err (fault_of_adding e)) carrier input input rack now_rack Unread
-head_stopped add.Failed carrier input rack now_rack Unread none unread part memory cause = record {
-  ends = (in_head (record { unread = refl; file = part refl }), record { count = 0; most = omega arith; taken = sym none });
+head_stopped add.Failed carrier input rack now_rack Unread none unread part memory cause fewer = record {
+  ends = (in_head (record { unread = refl; file = part refl }), record { count = 0; most = omega arith; taken = sym none }, fewer);
   input_faults = stays _ _ _ _ (λ is. absurd (cc)) refl;
   rack_faults = rises _ _ _ (cause.failed refl);
 }
-head_stopped add.OutOfMemory carrier input rack now_rack Unread none unread part memory cause =
+head_stopped add.OutOfMemory carrier input rack now_rack Unread none unread part memory cause fewer =
     lacks carrier input rack now_rack Unread unread (memory refl).0 (memory refl).1 (cause.kept (λ e. absurd (cc)))
 
 -- The file has its head.
@@ -105,7 +105,8 @@ last_piece pieces before last are = elim (by_last pieces) [
 ]
 
 module _ (carrier : BridgeCarrier) (place : ℕ) (input now : InputTold) (rack heads mid : RackTold) (Unread : Type 0)
-    (many : IfSome rack.files (λ told. length told ≡ place)) (added : AddsBridge false ethernet_head rack.files heads.files) (kept : heads.faults ≡ rack.faults) where
+    (many : IfSome rack.files (λ told. length told ≡ place)) (added : AddsBridge false ethernet_head rack.files heads.files) (kept : heads.faults ≡ rack.faults)
+    (one : heads.count ≡ rack.count + 1) where
   abbrev Wrote : Result ℕ ReadFault → Type 0
   Wrote result = Reads result plain (size_of_piece carrier) input now (λ records. HasWritten carrier place heads mid records) (λ records. HasStopped carrier place heads mid records)
 
@@ -135,6 +136,7 @@ module _ (carrier : BridgeCarrier) (place : ℕ) (input now : InputTold) (rack h
         fewer = below_product (size_of_piece carrier) (length reads.pieces) (length reads.behind) reads.ends.0 reads.short;
         taken = reads.taken;
       },
+      reads.ends.3.count ∙ one,
     );
     input_faults = rises _ _ _ reads.ends.2;
     rack_faults = stays _ _ _ _ (λ is. absurd (cc)) (reads.ends.3.kept ∙ kept);
@@ -151,6 +153,7 @@ module _ (carrier : BridgeCarrier) (place : ℕ) (input now : InputTold) (rack h
       },
       none_behind (size_of_piece carrier) input.taken now.taken reads.pieces reads.behind reads.ends.0 reads.taken
           ∙ ap (λ (n : ℕ). raised input.taken (size_of_piece carrier * n)) reads.ends.1,
+      reads.ends.3.count ∙ one,
     );
     input_faults = stays _ _ _ _ (λ is. absurd (cc)) reads.ends.2;
     rack_faults = stays _ _ _ _ (λ is. absurd (cc)) (reads.ends.3.kept ∙ kept);
@@ -196,6 +199,7 @@ module _ (carrier : BridgeCarrier) (place : ℕ) (input now : InputTold) (rack h
         most = mul-le-mul_left (size_of_piece carrier) reads.ends.1;
         taken = none_behind (size_of_piece carrier) input.taken now.taken reads.pieces reads.behind reads.ends.0 reads.taken;
       },
+      omega (arith, reads.ends.3.places, one),
     );
     input_faults = stays _ _ _ _ (λ is. absurd (cc)) reads.ends.2;
     rack_faults = rises _ _ _ (reads.ends.3.rose ∙ ap (λ (n : ℕ). raised n 1) kept);
@@ -208,9 +212,9 @@ module _ (carrier : BridgeCarrier) (place : ℕ) (input now : InputTold) (rack h
 
   -- and the flush
   module _ (now_rack : RackTold) (tail : ℕ) (reads : Wrote (Ok tail)) where
-    pub ended_whole : (done : ⊤) → heads.count ≡ rack.count + 1 → now_rack.count ≡ mid.count → ChangesFile mid.files now_rack.files place flushed_file
+    pub ended_whole : (done : ⊤) → now_rack.count ≡ mid.count → ChangesFile mid.files now_rack.files place flushed_file
         → now_rack.faults ≡ mid.faults → Unbridges (Ok done) carrier input now rack now_rack Unread
-    ended_whole done one count flushed same = record {
+    ended_whole done count flushed same = record {
       ends = (
         record {
           pieces = reads.pieces;
@@ -232,8 +236,8 @@ module _ (carrier : BridgeCarrier) (place : ℕ) (input now : InputTold) (rack h
       rack_faults = stays _ _ _ _ (λ is. absurd (cc)) (same ∙ (reads.ends.5.kept ∙ kept));
     }
 
-    pub ended_in_flush : Stays mid.files now_rack.files → Rose mid.faults now_rack.faults → Unbridges (Err fault.Rack) carrier input now rack now_rack Unread
-    ended_in_flush unflushed rose =
+    pub ended_in_flush : now_rack.count ≡ mid.count → Stays mid.files now_rack.files → Rose mid.faults now_rack.faults → Unbridges (Err fault.Rack) carrier input now rack now_rack Unread
+    ended_in_flush count unflushed rose =
         let bound : size_of_piece carrier * length reads.pieces + length reads.behind < size_of_piece carrier * 2 ^ 32 =
         below_product (size_of_piece carrier) (length reads.pieces) (length reads.behind) reads.ends.1 reads.short in
         record {
@@ -251,6 +255,7 @@ module _ (carrier : BridgeCarrier) (place : ℕ) (input now : InputTold) (rack h
               most = omega (arith, bound);
               taken = reads.taken;
             },
+            omega (arith, count, reads.ends.5.count, one),
           );
           input_faults = stays _ _ _ _ (λ is. absurd (cc)) reads.ends.4;
           rack_faults = rises _ _ _ (rose ∙ ap (λ (n : ℕ). raised n 1) (reads.ends.5.kept ∙ kept));

@@ -78,5 +78,6 @@ module _ (carrier : BridgeCarrier) (place : ℕ) (rack had now_rack : RackTold) 
         less = part.less;
         files = subst (λ (k : ℕ). Grow rack.files now_rack.files (records_and place k text (pairs_of 0 (told ++ own.before)))) own.zero_is
             (subst (λ (pairs : List (ℕ × List ℕ)). Grow rack.files now_rack.files (records_and place stop.stops.service text pairs)) front_is part.files);
+        places = part.places;
         rose = part.rose;
       }

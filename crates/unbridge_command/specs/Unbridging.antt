@@ -1,6 +1,6 @@
 -- What `unbridge` ensures, by its answer. Its pieces are those of a carrier: transport packets for a PID, baseband frames for an ISI; its
 -- file is bridge.pcap, a capture of Ethernet frames. An input or a rack that tells no content has None, and then what is said of it holds.
-use Rattle.std.specs.Prelude.{◌≡◌, ℕ, ◌+◌, ◌*◌, ◌<◌, Bool, true, false, List, [], ◌∷◌, ◌++◌, length, take, codes, Option, Result, Ok, Err, ⊤}
+use Rattle.std.specs.Prelude.{◌≡◌, ℕ, ◌+◌, ◌≤◌, ◌*◌, ◌<◌, Bool, true, false, List, [], ◌∷◌, ◌++◌, length, take, codes, Option, Result, Ok, Err, ⊤}
 use Rattle.std.specs.Io.KnownBytes.{IsAtEnd}
 use Rattle.wire_spec.specs.Causes.{raised}
 use Rattle.wire_spec.specs.Content.{File, AddsFile, Stays}
@@ -97,11 +97,12 @@ abbrev pub UnbridgeEnds : Result ⊤ ReceiveFault → BridgeCarrier → InputTol
 UnbridgeEnds (Ok done) carrier input now rack now_rack Unread =
     EndsWhole carrier input.left now.left rack.files now_rack.files × TakesAllOf (size_of_piece carrier) input now × (now_rack.count ≡ rack.count + 1)
 UnbridgeEnds (Err fault.Source) carrier input now rack now_rack Unread =
-    EndsFront carrier input.left now.left rack.files now_rack.files × TakesFrontOf (size_of_piece carrier) input now
+    EndsFront carrier input.left now.left rack.files now_rack.files × TakesFrontOf (size_of_piece carrier) input now × (now_rack.count ≡ rack.count + 1)
 UnbridgeEnds (Err fault.TooLong) carrier input now rack now_rack Unread =
     EndsAtLimit carrier input.left now.left rack.files now_rack.files × (now.taken ≡ raised input.taken (size_of_piece carrier * most_pieces))
+    × (now_rack.count ≡ rack.count + 1)
 UnbridgeEnds (Err fault.Rack) carrier input now rack now_rack Unread =
-    EndsInFile carrier input.left now.left rack.files now_rack.files × TakesMostOf (size_of_piece carrier) input now
+    EndsInFile carrier input.left now.left rack.files now_rack.files × TakesMostOf (size_of_piece carrier) input now × (now_rack.count ≤ rack.count + 1)
 UnbridgeEnds (Err fault.OutOfMemory) carrier input now rack now_rack Unread = Unread × (now_rack.count ≡ rack.count) × Stays rack.files now_rack.files
 UnbridgeEnds (Err fault.Sink) carrier input now rack now_rack Unread = ⊥
 

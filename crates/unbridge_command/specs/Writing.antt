@@ -27,4 +27,5 @@ pub record HasStopped (carrier : BridgeCarrier) (place : ℕ) (rack now : RackTo
   pub count : ℕ
   pub less : count < length (capture_record frame)
   pub files : Grow rack.files now.files (records_and place 0 (take count (capture_record frame)) (pairs_of 0 (frames_of_records carrier before ++ front)))
+  pub places : now.count ≡ rack.count
   pub rose : Rose rack.faults now.faults

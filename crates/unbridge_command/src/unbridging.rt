@@ -103,6 +103,7 @@ fn add_bridge_file<R: Rack>(alloc: Global, rack: &mut R) -> Result<u32, AddFault
     ensures written { OnOk result (((R.told rack.new).count ≡ (R.told rack.old).count + 1) × AddsBridge false ethernet_head (R.told rack.old).files (R.told rack.new).files) }
     ensures failed { IsErrOf result AddFault.Failed → AddsPartOf ethernet_head bridge_name (R.told rack.old).files (R.told rack.new).files }
     ensures memory { IsErrOf result AddFault.OutOfMemory → ((R.told rack.new).count ≡ (R.told rack.old).count) × Stays (R.told rack.old).files (R.told rack.new).files }
+    ensures most { (R.told rack.new).count ≤ (R.told rack.old).count + 1 }
     ensures cause { HasAddCause (R.told rack.old).faults (R.told rack.new).faults result }
 {
     let mut head = [0u8; 24];

@@ -14,7 +14,7 @@ returns-in_err-first g c =
     let failed = comes_up c.from_residual.result (fault_of_adding c.in_err-first.field-0.0) (fault_of_adding c.in_err-first.field-0.0) c.from_residual.ensures.1 refl in
     record {
       captures = rw failed (heads_stopped c.in_err-first.field-0.0 (plan_fields c.args.plan.now) (g.I.Source.told c.args.input.now) (g.R.Rack.told c.args.rack.now) (g.R.Rack.told c.add_files.new.rack)
-          c.args.reception.now.receiver (c.args.input.now ≡ c.args.input.now) (search rules) refl c.in_err-first.ensures.failed (λ e. let begun = c.in_err-first.ensures.memory e in record { heads = begun.0; many = begun.1 }) c.in_err-first.ensures.cause);
+          c.args.reception.now.receiver (c.args.input.now ≡ c.args.input.now) (search rules) refl c.in_err-first.ensures.failed (λ e. let begun = c.in_err-first.ensures.memory e in record { heads = begun.0; many = begun.1 }) (omega (arith, c.in_err-first.ensures.most, length-map c.args.plan.now.services service_seen)) c.in_err-first.ensures.cause);
     }
 
 pub returns-in_err-tail : goal.returns-in_err-tail
@@ -25,7 +25,7 @@ returns-in_err-tail g c =
       captures = rw failed (captured_part plan c.in_ok-first.first (g.I.Source.told c.args.input.now) (g.I.Source.told c.write_pieces.new.input)
           (g.R.Rack.told c.args.rack.now) (g.R.Rack.told c.add_files.new.rack) (g.R.Rack.told c.write_pieces.new.rack) c.write_pieces.new.reception.receiver (c.write_pieces.new.input ≡ c.args.input.now)
           (sized (g.R.Rack.told c.args.rack.now).files (g.R.Rack.told c.args.rack.now).count c.in_ok-first.first c.in_ok-first.ensures.place.0 (g.met.R.Rack.as_many c.args.rack.now))
-          c.in_ok-first.ensures.written.1 (c.in_ok-first.ensures.cause.kept (λ f. absurd (cc)))
+          c.in_ok-first.ensures.written.1 (c.in_ok-first.ensures.cause.kept (λ f. absurd (cc))) (omega (arith, c.in_ok-first.ensures.written.0, length-map c.args.plan.now.services service_seen))
           c.in_err-tail.field-0.0 c.in_err-tail.ensures.writes);
     }
 
@@ -50,10 +50,10 @@ returns-in-Ok g c = record {
       captured_whole plan c.in_ok-first.first (g.I.Source.told c.args.input.now) (g.I.Source.told c.write_pieces.new.input)
       (g.R.Rack.told c.args.rack.now) (g.R.Rack.told c.add_files.new.rack) (g.R.Rack.told c.write_pieces.new.rack) c.write_pieces.new.reception.receiver (c.write_pieces.new.input ≡ c.args.input.now)
       (sized (g.R.Rack.told c.args.rack.now).files (g.R.Rack.told c.args.rack.now).count c.in_ok-first.first c.in_ok-first.ensures.place.0 (g.met.R.Rack.as_many c.args.rack.now))
-      c.in_ok-first.ensures.written.1 (c.in_ok-first.ensures.cause.kept (λ f. absurd (cc)))
+      c.in_ok-first.ensures.written.1 (c.in_ok-first.ensures.cause.kept (λ f. absurd (cc))) (omega (arith, c.in_ok-first.ensures.written.0, length-map c.args.plan.now.services service_seen))
       (g.R.Rack.told c.flush_files.new.rack) c.in_ok-tail.tail c.len-services.result (changes_right plan c.args.plan.now.whole)
       (c.len-services.ensures.read ∙ sym (length-map c.args.plan.now.services service_seen))
-      c.in_ok-tail.ensures.writes (omega (arith, c.in_ok-first.ensures.written.0, length-map c.args.plan.now.services service_seen)) c.in-Ok.ensures.count c.in-Ok.ensures.flushed c.in-Ok.ensures.cause.kept;
+      c.in_ok-tail.ensures.writes c.in-Ok.ensures.count c.in-Ok.ensures.flushed c.in-Ok.ensures.cause.kept;
 }
 
 pub returns-in-Err : goal.returns-in-Err
@@ -63,8 +63,8 @@ returns-in-Err g c = record {
       captured_in_flush plan c.in_ok-first.first (g.I.Source.told c.args.input.now) (g.I.Source.told c.write_pieces.new.input)
       (g.R.Rack.told c.args.rack.now) (g.R.Rack.told c.add_files.new.rack) (g.R.Rack.told c.write_pieces.new.rack) c.write_pieces.new.reception.receiver (c.write_pieces.new.input ≡ c.args.input.now)
       (sized (g.R.Rack.told c.args.rack.now).files (g.R.Rack.told c.args.rack.now).count c.in_ok-first.first c.in_ok-first.ensures.place.0 (g.met.R.Rack.as_many c.args.rack.now))
-      c.in_ok-first.ensures.written.1 (c.in_ok-first.ensures.cause.kept (λ f. absurd (cc)))
+      c.in_ok-first.ensures.written.1 (c.in_ok-first.ensures.cause.kept (λ f. absurd (cc))) (omega (arith, c.in_ok-first.ensures.written.0, length-map c.args.plan.now.services service_seen))
       (g.R.Rack.told c.flush_files.new.rack) c.in_ok-tail.tail c.len-services.result (changes_right plan c.args.plan.now.whole)
       (c.len-services.ensures.read ∙ sym (length-map c.args.plan.now.services service_seen))
-      c.in_ok-tail.ensures.writes c.in-Err.ensures.stopped c.in-Err.ensures.cause.failed;
+      c.in_ok-tail.ensures.writes c.in-Err.ensures.count c.in-Err.ensures.stopped c.in-Err.ensures.cause.failed;
 }
