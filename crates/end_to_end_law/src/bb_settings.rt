@@ -16,6 +16,7 @@ use bb_stream_law::there_is_one_baseband_stream;
 use carrier_law::there_is_one_sent_stream;
 use pcap_file::a_capture_tells_one_thing;
 use settings_law::{accepted_settings_give_a_plan, accepted_settings_give_bytes};
+use stream_law::a_capture_of_bytes_has_records_of_bytes;
 
 /// For all settings that are accepted and all captures there is a stream, in transport packets or in baseband frames as the settings say,
 /// of the records that the capture tells.
@@ -38,6 +39,7 @@ pub fn each_capture_is_sent_in_frames()
         → (k : ℕ) → offered_to plan capture told k ≡ offered_in_all plan (given_by capture told) k }
 {
     each_capture_tells_records();
+    a_capture_of_bytes_has_records_of_bytes();
     a_capture_tells_one_thing();
     accepted_settings_give_a_plan();
     accepted_settings_give_bytes();

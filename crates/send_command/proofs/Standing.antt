@@ -19,7 +19,7 @@ sends_all plan bytes offer tally a b gathered writes =
     record {
       captured = gathered.captured;
       stream = wrote.stream;
-      is = record { told = gathered.told; stream_is = wrote.stream_is };
+      is = record { told = gathered.told; of_bytes = gathered.of_bytes; stream_is = wrote.stream_is };
       written = wrote.written;
       numbers = wrote.numbers;
     }
@@ -32,7 +32,7 @@ sends_to_fault plan bytes offer tally found a b gathered writes =
     record {
       captured = gathered.captured;
       stream = wrote.stream;
-      is = record { told = gathered.told; stream_is = wrote.stream_is };
+      is = record { told = gathered.told; of_bytes = gathered.of_bytes; stream_is = wrote.stream_is };
       written = wrote.written;
       place_is = gathered.places;
     }
@@ -46,7 +46,7 @@ sends_front plan bytes offer found a b gathered writes =
       captured = gathered.captured;
       fault = option_map (λ (found : PlacedFault). found.fault) found;
       stream = wrote.stream;
-      is = record { told = gathered.told; stream_is = wrote.stream_is };
+      is = record { told = gathered.told; of_bytes = gathered.of_bytes; stream_is = wrote.stream_is };
       count = wrote.count;
       written = wrote.written;
     }

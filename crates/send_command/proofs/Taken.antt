@@ -2,6 +2,8 @@
 use Rattle.std.proofs.Common.{◌≡◌, ℕ, ◌-◌, ◌<◌, ◌≤◌, ◌^◌, true, false, Bool, List, [], ◌∷◌, ◌++◌, length, map, Option, Some, None, Ok, Err, IfSome, option_map, refl, ap, sym, ◌∙◌, subst, inl, inr, arith}
 use Rattle.std.specs.Prelude.{not, ◌&&◌, ◌⊎◌, Result, OnOk}
 use Rattle.std.proofs.lemmas.List.{map_push, length-map}
+use Rattle.std.proofs.lemmas.List.Elements.{All-append, All-cons, All-nil}
+use Rattle.wire_spec.specs.Bytes.{AreBytes}
 use Rattle.ipe_io.specs.Told.{InputTold}
 use Rattle.pcap_file.specs.Reading.{link_at, most_records}
 use Rattle.pcap_file.specs.Captured.{captured_datagram}
@@ -67,17 +69,18 @@ has_room start now link captured had few = record {
 }
 
 pub offers_more : {T E : Type 0} (r : Result T E) (start old new : PlanTaker) (link : LinkType) (captured : List (List ℕ)) (lent : List ℕ) (given : Option (List ℕ))
-    → OffersRecords start old link captured → new.plan.now ≡ old.plan.now → given ≡ captured_datagram link lent
+    → AreBytes lent → OffersRecords start old link captured → new.plan.now ≡ old.plan.now → given ≡ captured_datagram link lent
     → ((records : Records) → IsOffered (plan_fields old.plan.now) records old.offered → OnOk r (IsOffered (plan_fields old.plan.now) (records ++ given ∷ []) new.offered))
     → OnOk r (OffersRecords start new link (captured ++ lent ∷ []))
-offers_more (Ok done) start old new link captured lent given had same is offers = record {
+offers_more (Ok done) start old new link captured lent given bytes had same is offers = record {
+  of_bytes = All-append AreBytes captured (lent ∷ []) had.of_bytes (All-cons AreBytes lent [] bytes (All-nil AreBytes));
   plan = same ∙ had.plan;
   offered = subst (λ plan. IsOffered (plan_fields plan) (given_in link (captured ++ lent ∷ [])) new.offered) had.plan
       (subst (λ (records : Records). IsOffered (plan_fields old.plan.now) records new.offered)
       (ap (λ g. given_in link captured ++ g ∷ []) is ∙ sym (map_push (datagram_in (Some link)) captured lent))
       (offers (given_in link captured) (subst (λ plan. IsOffered (plan_fields plan) (given_in link captured) old.offered) (sym had.plan) had.offered)));
 }
-offers_more (Err e) start old new link captured lent given had same is offers = tt
+offers_more (Err e) start old new link captured lent given bytes had same is offers = tt
 
 -- All of a capture.
 
@@ -99,6 +102,7 @@ gathered start now found left bytes has is =
     let told = of_told left bytes (λ bytes. IsToldBy every_link bytes has.link has.captured found) has.told is in
     record {
       captured = has.captured;
+      of_bytes = has.took.of_bytes;
       told = told_of_every bytes has.captured (option_map (λ found. found.fault) found) told.told;
       offered = subst (λ (records : Records). IsOffered (plan_fields start.plan.now) records now.offered) (given_is bytes has.link has.captured told.link_is) has.took.offered;
       places = placed found (place_in_wanted every_link bytes has.captured) (place_of_fault bytes has.captured) (place_in_every bytes has.captured) told.place_is;

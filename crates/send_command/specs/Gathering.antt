@@ -1,5 +1,6 @@
 -- What was read of a capture and offered.
-use Rattle.std.specs.Prelude.{◌≡◌, ℕ, List, map, option_map, Option, Some, IfSome}
+use Rattle.std.specs.Prelude.{◌≡◌, ℕ, List, map, option_map, Option, Some, IfSome, All}
+use Rattle.wire_spec.specs.Bytes.{AreBytes}
 use Rattle.pcap_file.specs.Told.{Tells, place_of_fault}
 use Rattle.pcap_file.specs.declared.captured.LinkType.{LinkType}
 use Rattle.plan_spec.specs.Plan.{PlanFields}
@@ -18,11 +19,13 @@ given_in link captured = map (datagram_in (Some link)) captured
 -- under the plan that it began with, what these records give was offered
 pub record OffersRecords (start now : PlanTaker) (link : LinkType) (captured : List (List ℕ)) : Type 0 where
   pub plan : now.plan.now ≡ start.plan.now
+  pub of_bytes : All AreBytes captured
   pub offered : IsOffered (plan_fields start.plan.now) (given_in link captured) now.offered
 
 -- of all the bytes: their records were offered, and this fault was found, or none
 pub record IsGathered (plan : PlanFields) (bytes : List ℕ) (offer : Offered) (found : Option PlacedFault) : Type 0 where
   pub captured : List (List ℕ)
+  pub of_bytes : All AreBytes captured
   pub told : Tells bytes captured (option_map (λ found. found.fault) found)
   pub offered : IsOffered plan (given_by bytes captured) offer
   pub places : IfSome found (λ found. found.place ≡ place_of_fault bytes captured)

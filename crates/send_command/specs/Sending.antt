@@ -1,5 +1,6 @@
 -- What a send makes of a capture, and what stands after each of its ends.
-use Rattle.std.specs.Prelude.{◌≡◌, ℕ, List, take, Option, Some, None, ⊤}
+use Rattle.std.specs.Prelude.{◌≡◌, ℕ, List, take, Option, Some, None, ⊤, All}
+use Rattle.wire_spec.specs.Bytes.{AreBytes}
 use Rattle.std.specs.Io.KnownBytes.{Appends}
 use Rattle.wire_spec.specs.Lists.{joined}
 use Rattle.ipe_io.specs.Told.{InputTold}
@@ -16,10 +17,11 @@ use Rattle.capture_intake.specs.declared.ends.CaptureEnd.TheVariants as ends
 use Rattle.send_command.specs.Tally.{IsTally}
 use Rattle.send_command.specs.declared.ends.Tally.{Tally}
 
--- the bytes tell these records of a capture and this fault, or none, and that is the stream of what services take of the records, each in
+-- the bytes tell these records of a capture, each of bytes, and this fault, or none, and that is the stream of what services take of the records, each in
 -- the version of its record
 pub record IsSendOf (plan : PlanFields) (bytes : List ℕ) (captured : List (List ℕ)) (fault : Option CaptureFault) (stream : List (List ℕ)) : Type 0 where
   pub told : Tells bytes captured fault
+  pub of_bytes : All AreBytes captured
   pub stream_is : IsSentStream plan (offered_in plan (given_by bytes captured)) stream
 
 -- a capture without fault: all of its stream was written, and these are the numbers

@@ -1,4 +1,5 @@
 //! The records of a capture -> what their datagrams offer to the services of a plan.
+use byte_slices::as_bytes;
 use capture_intake::CaptureTaker;
 use datagram_routing::Offered;
 use pcap_file::{LinkType, datagram_of};
@@ -28,6 +29,7 @@ impl<'p> CaptureTaker for PlanTaker<'p> {
     }
 
     fn take(&mut self, link: LinkType, captured: &[u8]) -> Result<(), OutOfMemory> {
+        let captured = as_bytes(captured);
         self.offered.offer(self.plan, datagram_of(link, captured))
     }
 }

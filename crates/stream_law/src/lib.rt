@@ -14,7 +14,9 @@ mod table;
 mod times;
 
 pub use appended::packetizations_go_on;
-pub use captures::{a_capture_gives_datagrams, a_capture_is_carried};
+pub use captures::{
+    a_capture_gives_datagrams, a_capture_is_carried, a_capture_of_bytes_has_records_of_bytes,
+};
 pub use carried::{a_stream_carries_what_was_offered, the_pids_of_a_service_have_all_datagrams};
 pub use slots::{
     a_part_ends_where_all_packets_are_out, a_part_sends_all_packets,

@@ -20,7 +20,7 @@ pub returns : goal.returns
 returns c = record {
   carries = λ plan capture told frames sent.
       c.a_baseband_stream_carries_what_was_offered.ensures.carries plan sent.accepted sent.of_bytes (given_by capture told)
-      (all_datagrams plan capture told frames sent (c.a_capture_gives_datagrams.ensures.are capture told sent.fault sent.capture_bytes sent.tells))
+      (all_datagrams plan capture told frames sent (c.a_capture_gives_datagrams.ensures.are capture told sent.fault sent.told_bytes sent.tells))
       frames sent.stream;
   pdus = λ plan capture told frames sent k isi address known kind.
       let unicast : List ℕ = (service_at plan k).unicast in

@@ -28,7 +28,7 @@ returns c = record {
       (order_datagrams service.urgent (offered_to plan capture told k) offered
       (c.a_baseband_stream_carries_what_was_offered.ensures.classes plan sent.accepted sent.of_bytes (given_by capture told) frames sent.stream k service
       (slice_get-get_or plan.services k no_service is.service))
-      (are_datagrams plan capture told frames sent (c.a_capture_gives_datagrams.ensures.are capture told sent.fault sent.capture_bytes sent.tells) k))
+      (are_datagrams plan capture told frames sent (c.a_capture_gives_datagrams.ensures.are capture told sent.fault sent.told_bytes sent.tells) k))
       (c.each_datagram_is_sent_in_a_pdu.ensures.pdus plan capture told frames sent k isi kind.0 is.service kind.1)
       (c.the_pdus_say_what_is_delivered.ensures.delivered carried_by_pdu service.filter isi frames)
       is_recorded.channel (delivered_of plan k recorded) (delivers.each isi is));

@@ -15,7 +15,7 @@ returns c = record {
         record {
           accepted = whole;
           of_bytes = λ version within. c.accepted_settings_give_bytes.ensures.versions settings plan version accepted;
-          capture_bytes = bytes;
+          told_bytes = c.a_capture_of_bytes_has_records_of_bytes.ensures.bytes capture told.0 told.1 bytes told.2;
           fault = told.1;
           tells = told.2;
           stream = found.1;
