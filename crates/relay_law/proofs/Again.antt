@@ -1,5 +1,5 @@
 -- A relay's stream is that of a capture, and what arrives of it.
-use Rattle.std.proofs.Common.{◌≡◌, inl, inr, ℕ, ◌<◌, ◌≤◌, Bool, true, false, List, [], length, flat_map, refl, ap, sym, ◌∙◌, subst, arith, Option, Some, None}
+use Rattle.std.proofs.Common.{◌≡◌, inl, inr, ℕ, ◌<◌, ◌≤◌, Bool, true, false, List, [], ◌∷◌, length, map, fold, flat_map, refl, ap, sym, ◌∙◌, subst, arith, Option, Some, None}
 use Rattle.std.specs.Prelude.{All, filter}
 use Rattle.std.proofs.lemmas.Bool.{cases_Bool}
 use Rattle.wire_spec.specs.Bytes.{AreBytes}
@@ -15,7 +15,9 @@ use Rattle.addr_rules.specs.declared.rules.Rule.{Rule}
 use Rattle.gse_spec.specs.Classes.{Class, is_of_class, datagrams_of_class}
 use Rattle.gse_law.proofs.ClassOrder.{filter_within}
 use Rattle.carrier_spec.specs.Stream.{piece_size}
-use Rattle.plan_spec.specs.Changes.{pids_in, versions, has_wrong_change}
+use Rattle.plan_spec.specs.Changes.{pid_in, pids_in, with_pid_behind, versions, has_wrong_change}
+use Rattle.plan_law.proofs.Plans.{changes_right}
+use Rattle.reception_law.proofs.OtherPid.{none_stays}
 use Rattle.plan_spec.specs.Wholes.{is_whole_plan}
 use Rattle.plan_spec.specs.Offered.{Records, offered_in, offered_in_all}
 use Rattle.stream_spec.specs.Stream.{IsStream}
@@ -40,7 +42,7 @@ use Rattle.recording_spec.specs.Pieces.{records_in, delivered_of}
 use Rattle.recording_spec.specs.Relayed.{relayed, as_records}
 use Rattle.recording_law.specs.Hop.{CarriesInPieces, in_packets, in_frames, IsRecordedInPieces, wanted_in, DeliversWanted}
 use Rattle.recording_law.proofs.Twice.{packets_from, frames_from}
-use Rattle.relay_law.specs.Relay.{IsRelay, reoffered, reordered, wants_on, wanted_again, ArrivesAgain}
+use Rattle.relay_law.specs.Relay.{IsRelay, reoffered, reordered, wants_on, wanted_again, KeepsOrder, ArrivesAgain}
 
 -- The capture of what is relayed.
 
@@ -59,7 +61,7 @@ module _
   sent_in_packets outer stream relay is = record {
     accepted = relay.accepted;
     of_bytes = relay.of_bytes;
-    capture_bytes = bytes (relayed inner pieces) relay.bytes;
+    told_bytes = relay.bytes;
     fault = None;
     tells = tells (relayed inner pieces) relay.bytes (are inner pieces) relay.fits.count relay.fits.size;
     stream = subst (λ (records : Records). IsStream outer (offered_in outer records) stream) (sym gives_relayed) (relay.stream_is.in_records is);
@@ -70,7 +72,7 @@ module _
   sent_in_frames outer stream relay is = record {
     accepted = relay.accepted;
     of_bytes = relay.of_bytes;
-    capture_bytes = bytes (relayed inner pieces) relay.bytes;
+    told_bytes = relay.bytes;
     fault = None;
     tells = tells (relayed inner pieces) relay.bytes (are inner pieces) relay.fits.count relay.fits.size;
     stream = subst (λ (records : Records). IsBasebandStream outer (offered_in outer records) stream) (sym gives_relayed) (relay.stream_is.in_frames is);
@@ -84,6 +86,20 @@ no_order size unicast rules (ule own address packing) pid datagrams is = refl
 no_order size unicast rules (mpe own) pid datagrams is = refl
 no_order size unicast rules (fec own rows parity window) pid datagrams is = refl
 no_order size unicast rules (gse isi address) pid datagrams is = absurd (cc)
+
+-- A service without a PID has none in any version.
+
+none_behind : {X : Type 0} (pid_at : X → Option ℕ) (xs : List X) → ((x : X) → pid_at x ≡ None) → fold with_pid_behind [] (map pid_at xs) ≡ []
+none_behind pid_at [] none = refl
+none_behind pid_at (x ∷ xs) none = ap (λ (o : Option ℕ). fold with_pid_behind (with_pid_behind [] o) (map pid_at xs)) (none x) ∙ none_behind pid_at xs none
+
+first_pid : (plan : PlanFields) (k : ℕ) → pid_in plan 0 k ≡ pid_of (service_at plan k).kind
+unfolding pid_in
+first_pid plan k = refl
+
+no_pids : (plan : PlanFields) (k : ℕ) → pid_of (service_at plan k).kind ≡ None → pids_in plan k ≡ []
+unfolding pids_in
+no_pids plan k none = none_behind (λ version. pid_in plan version k) (versions plan) (λ version. none_stays plan 0 version k (first_pid plan k ∙ none))
 
 -- What the stream carries, and what arrives of it.
 
@@ -263,7 +279,7 @@ module _
                   ∙ keeps outer capture told stream sent j known class
                   ∙ ap (λ (xs : List (List ℕ)). datagrams_of_class (service_at outer j).urgent class xs) (reoffered_is inner outer pieces j));
               some = λ none onto again is_recorded.
-                  some_of_relayed inner outer pieces stream again j known onto is_recorded (one_class outer (piece_size outer) j (reoffered inner outer pieces j) none);
+                  some_of_relayed inner outer pieces stream again j known onto is_recorded (one_class outer (piece_size outer) j (reoffered inner outer pieces j) (none is));
             }
 
     -- one service alone
@@ -277,7 +293,7 @@ module _
         pub arrives_by_class : ((inner outer : PlanFields) (pieces stream : List (List ℕ)) → IsRelay inner outer pieces stream → (j : ℕ) → j < length outer.services
             → ArrivesAgain inner outer pieces stream j)
             → (inner outer : PlanFields) (sent carried : List (List ℕ)) (carries : CarriesInPieces inner 0 sent carried) (pieces stream again : List (List ℕ))
-            → has_wrong_change inner ≡ false → length inner.services ≡ 1 → IsRecordedInPieces inner 0 sent carried carries pieces
+            → is_whole_plan inner ≡ true → length inner.services ≡ 1 → IsRecordedInPieces inner 0 sent carried carries pieces
             → IsRelay inner outer pieces stream → (j : ℕ) → j < length outer.services → (onward : CarriesInPieces outer j stream (reordered inner outer pieces j))
             → IsRecordedInPieces outer j stream (reordered inner outer pieces j) onward again → (class : Class)
             → IsSubsequence (datagrams_of_class (service_at outer j).urgent class (delivered_of outer j again))
@@ -292,23 +308,44 @@ module _
             (datagrams_of_class rules class (wanted_in inner 0 sent carried carries))
             ((arrives inner outer pieces stream relay j known).classes onward again second class)
             (filter_within test (relayed inner pieces) (wanted_in inner 0 sent carried carries)
-            (subst (λ (xs : List (List ℕ)). IsSubsequence xs (wanted_in inner 0 sent carried carries)) (one inner pieces right single) hop.were_wanted)) in (
+            (subst (λ (xs : List (List ℕ)). IsSubsequence xs (wanted_in inner 0 sent carried carries)) (one inner pieces (changes_right inner right) single) hop.were_wanted)) in (
               wanted,
               subsequence_through (datagrams_of_class rules class (delivered_of outer j again)) (datagrams_of_class rules class (wanted_in inner 0 sent carried carries))
                   (datagrams_of_class rules class carried) wanted (filter_within test (wanted_in inner 0 sent carried carries) carried hop.were_sent),
             )
 
+        -- where the order is kept, what is delivered is some of what was relayed
+        in_order : (inner outer : PlanFields) (pieces stream again : List (List ℕ)) (j : ℕ) → j < length outer.services
+            → (onward : CarriesInPieces outer j stream (reordered inner outer pieces j))
+            → IsRecordedInPieces outer j stream (reordered inner outer pieces j) onward again → KeepsOrder outer j
+            → IsSubsequence (delivered_of outer j again) (relayed inner pieces)
+        in_order inner outer pieces stream again j known (in_frames is carries) second keeps =
+            some_of_relayed inner outer pieces stream again j known (in_frames is carries) second (one_class outer (piece_size outer) j (reoffered inner outer pieces j) (keeps is))
+        in_order inner outer pieces stream again j known (in_packets is datagrams carries same) second keeps = by_pid (pid_of (service_at outer j).kind) refl
+          where
+            onward : CarriesInPieces outer j stream (reordered inner outer pieces j)
+            onward = in_packets is datagrams carries same
+
+            by_pid : (o : Option ℕ) → pid_of (service_at outer j).kind ≡ o → IsSubsequence (delivered_of outer j again) (relayed inner pieces)
+            by_pid (Some pid) own =
+                some_of_relayed inner outer pieces stream again j known onward second
+                (no_order (piece_size outer) (service_at outer j).unicast (service_at outer j).urgent (service_at outer j).kind pid (reoffered inner outer pieces j) own)
+            by_pid None own =
+                subsequence_through (delivered_of outer j again) [] (relayed inner pieces)
+                (subst (IsSubsequence (delivered_of outer j again)) (same ∙ ap (flat_map datagrams) (no_pids outer j own)) (some_of_carried inner outer pieces stream again j known onward second))
+                tt
+
         pub arrives_alone : (inner outer : PlanFields) (sent carried : List (List ℕ)) (carries : CarriesInPieces inner 0 sent carried) (pieces stream again : List (List ℕ))
-            → has_wrong_change inner ≡ false → length inner.services ≡ 1 → IsRecordedInPieces inner 0 sent carried carries pieces
+            → is_whole_plan inner ≡ true → length inner.services ≡ 1 → IsRecordedInPieces inner 0 sent carried carries pieces
             → (j : ℕ) → j < length outer.services → (onward : CarriesInPieces outer j stream (reordered inner outer pieces j))
-            → IsRecordedInPieces outer j stream (reordered inner outer pieces j) onward again → (service_at outer j).urgent ≡ []
+            → IsRecordedInPieces outer j stream (reordered inner outer pieces j) onward again → KeepsOrder outer j
             → IsSubsequence (delivered_of outer j again) (wanted_in inner 0 sent carried carries) × IsSubsequence (delivered_of outer j again) carried
-        arrives_alone inner outer sent carried carries pieces stream again right single first j known onward second none =
+        arrives_alone inner outer sent carried carries pieces stream again right single first j known onward second keeps =
             let hop = delivers inner 0 (omega (arith, single)) sent carried carries pieces first in
             let wanted : IsSubsequence (delivered_of outer j again) (wanted_in inner 0 sent carried carries) =
             subsequence_through (delivered_of outer j again) (relayed inner pieces) (wanted_in inner 0 sent carried carries)
-            (some_of_relayed inner outer pieces stream again j known onward second (one_class outer (piece_size outer) j (reoffered inner outer pieces j) none))
-            (subst (λ (xs : List (List ℕ)). IsSubsequence xs (wanted_in inner 0 sent carried carries)) (one inner pieces right single) hop.were_wanted) in
+            (in_order inner outer pieces stream again j known onward second keeps)
+            (subst (λ (xs : List (List ℕ)). IsSubsequence xs (wanted_in inner 0 sent carried carries)) (one inner pieces (changes_right inner right) single) hop.were_wanted) in
             (wanted, subsequence_through (delivered_of outer j again) (wanted_in inner 0 sent carried carries) carried wanted hop.were_sent)
 
 -- on either carrier

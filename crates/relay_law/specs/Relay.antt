@@ -44,9 +44,13 @@ wants_on false service datagram = wants_datagram service datagram
 abbrev pub wanted_again : (inner outer : PlanFields) → List (List ℕ) → ℕ → List (List ℕ)
 wanted_again inner outer pieces j = filter (wants_on (is_baseband outer) (service_at outer j)) (reordered inner outer pieces j)
 
+-- the stream keeps the order of service j: it is in packets, or the service has no urgent rules
+abbrev pub KeepsOrder : PlanFields → ℕ → Type 0
+KeepsOrder outer j = is_baseband outer ≡ true → (service_at outer j).urgent ≡ []
+
 -- For service j of the outer plan: the stream carries what was offered to it of the relayed datagrams; it is a recording of itself, and of it
 -- the service delivers all that it wants of that; and of each recording of it the service delivers some of what it wants, so of each class some
--- of all relayed datagrams of that class, unchanged and in order; without urgent rules some of all of them
+-- of all relayed datagrams of that class, unchanged and in order; where the stream keeps their order, some of all of them
 pub record ArrivesAgain (inner outer : PlanFields) (pieces stream : List (List ℕ)) (j : ℕ) : Type 0 where
   pub carries : CarriesInPieces outer j stream (reordered inner outer pieces j)
   pub itself : IsRecordedInPieces outer j stream (reordered inner outer pieces j) carries stream
@@ -57,7 +61,7 @@ pub record ArrivesAgain (inner outer : PlanFields) (pieces stream : List (List �
       → IsRecordedInPieces outer j stream (reordered inner outer pieces j) onward again → (class : Class)
       → IsSubsequence (datagrams_of_class (service_at outer j).urgent class (delivered_of outer j again))
       (datagrams_of_class (service_at outer j).urgent class (relayed inner pieces))
-  pub some : (service_at outer j).urgent ≡ [] → (onward : CarriesInPieces outer j stream (reordered inner outer pieces j)) (again : List (List ℕ))
+  pub some : KeepsOrder outer j → (onward : CarriesInPieces outer j stream (reordered inner outer pieces j)) (again : List (List ℕ))
       → IsRecordedInPieces outer j stream (reordered inner outer pieces j) onward again → IsSubsequence (delivered_of outer j again) (relayed inner pieces)
 
 -- what was relayed is merged of what each service of the inner plan delivers, and this is some of what the service wants of what was sent to it

@@ -1,9 +1,9 @@
 //! From a relay's stream to what a second receiver delivers of it, on either carrier.
-ghost use Rattle.std.specs.Prelude.{◌≡◌, ℕ, ◌<◌, List, [], length, true, false};
+ghost use Rattle.std.specs.Prelude.{◌≡◌, ℕ, ◌<◌, List, length, true, false};
 ghost use Rattle.wire_spec.specs.Lists.{IsSubsequence};
 ghost use Rattle.pcap_file.specs.Capture.{capture_text};
 ghost use Rattle.plan_spec.specs.Plan.{PlanFields, is_baseband};
-ghost use Rattle.plan_spec.specs.Changes.{has_wrong_change};
+ghost use Rattle.plan_spec.specs.Wholes.{is_whole_plan};
 ghost use Rattle.stream_law.specs.Captures.{given_by};
 ghost use Rattle.gse_spec.specs.Classes.{Class, datagrams_of_class};
 ghost use Rattle.bb_reception_spec.specs.Delivered.{service_at};
@@ -12,7 +12,7 @@ ghost use Rattle.end_to_end_law.specs.BbSent.{IsSentInFrames};
 ghost use Rattle.recording_spec.specs.Pieces.{delivered_of};
 ghost use Rattle.recording_spec.specs.Relayed.{relayed, as_records};
 ghost use Rattle.recording_law.specs.Hop.{CarriesInPieces, IsRecordedInPieces, wanted_in};
-ghost use Rattle.relay_law.specs.Relay.{IsRelay, reordered, ArrivesAgain, ArrivesMerged};
+ghost use Rattle.relay_law.specs.Relay.{IsRelay, reordered, KeepsOrder, ArrivesAgain, ArrivesMerged};
 
 use bb_loss_law::{
     a_frame_stream_is_a_recording_of_itself, each_gse_service_delivers_what_arrived_intact,
@@ -47,21 +47,22 @@ pub fn a_relayed_stream_is_that_of_a_capture()
 ///
 /// Whatever became of the records or frames of the second stream on their way, what a service delivers of it is a subsequence of what its
 /// filter wants of what was offered to it, in the order in which the stream carries it; so of each class it is a subsequence of that class of
-/// all that the first recording delivered, and without urgent rules of all of it. Where nothing is lost it is all that was offered and is
-/// wanted. Nothing is asked of the second stream but its channel, as that service has it. All that the first recording delivered is merged of
-/// what each service of the first plan delivers, a subsequence of what its filter wants of what was sent to it. Where the first plan has one
-/// service, what arrives in the end is a subsequence of that; of a service of the second plan with urgent rules, each class of it.
+/// all that the first recording delivered, and in packets or without urgent rules of all of it. Where nothing is lost it is all that was
+/// offered and is wanted. Nothing is asked of the second stream but its channel, as that service has it. All that the first recording
+/// delivered is merged of what each service of the first plan delivers, a subsequence of what its filter wants of what was sent to it. Where
+/// the first plan has one service, what arrives in the end is a subsequence of that; of a service of the second plan with urgent rules, each
+/// class of it.
 pub fn what_arrives_of_a_relayed_stream()
     ensures second { (inner outer : PlanFields) (pieces stream : List (List ℕ)) → IsRelay inner outer pieces stream
         → (j : ℕ) → j < length outer.services → ArrivesAgain inner outer pieces stream j }
-    ensures first { (inner : PlanFields) (sent pieces : List (List ℕ)) → has_wrong_change inner ≡ false → ArrivesMerged inner sent pieces }
+    ensures first { (inner : PlanFields) (sent pieces : List (List ℕ)) → is_whole_plan inner ≡ true → ArrivesMerged inner sent pieces }
     ensures alone { (inner outer : PlanFields) (sent carried : List (List ℕ)) (carries : CarriesInPieces inner 0 sent carried) (pieces stream again : List (List ℕ))
-        → has_wrong_change inner ≡ false → length inner.services ≡ 1 → IsRecordedInPieces inner 0 sent carried carries pieces
+        → is_whole_plan inner ≡ true → length inner.services ≡ 1 → IsRecordedInPieces inner 0 sent carried carries pieces
         → (j : ℕ) → j < length outer.services → (onward : CarriesInPieces outer j stream (reordered inner outer pieces j))
-        → IsRecordedInPieces outer j stream (reordered inner outer pieces j) onward again → (service_at outer j).urgent ≡ []
+        → IsRecordedInPieces outer j stream (reordered inner outer pieces j) onward again → KeepsOrder outer j
         → IsSubsequence (delivered_of outer j again) (wanted_in inner 0 sent carried carries) × IsSubsequence (delivered_of outer j again) carried }
     ensures alone_by_class { (inner outer : PlanFields) (sent carried : List (List ℕ)) (carries : CarriesInPieces inner 0 sent carried) (pieces stream again : List (List ℕ))
-        → has_wrong_change inner ≡ false → length inner.services ≡ 1 → IsRecordedInPieces inner 0 sent carried carries pieces
+        → is_whole_plan inner ≡ true → length inner.services ≡ 1 → IsRecordedInPieces inner 0 sent carried carries pieces
         → IsRelay inner outer pieces stream → (j : ℕ) → j < length outer.services → (onward : CarriesInPieces outer j stream (reordered inner outer pieces j))
         → IsRecordedInPieces outer j stream (reordered inner outer pieces j) onward again → (class : Class)
         → IsSubsequence (datagrams_of_class (service_at outer j).urgent class (delivered_of outer j again))

@@ -1,5 +1,6 @@
 use Rattle.std.proofs.Common.{ℕ, ◌<◌, List, length}
 use Rattle.plan_spec.specs.Plan.{PlanFields}
+use Rattle.plan_law.proofs.Plans.{changes_right}
 use Rattle.relay_law.specs.Relay.{IsRelay, ArrivesAgain}
 use Rattle.relay_law.proofs.Again.{arrives_in_packets, arrives_in_frames, on_either, arrives_alone, arrives_by_class}
 use Rattle.relay_law.proofs.relayed.what_arrives_of_a_relayed_stream.Goals as goal
@@ -24,7 +25,7 @@ returns c =
       second = second;
       first = λ inner sent pieces right.
           record {
-            merged = c.a_recording_delivers_its_services_merged.ensures.merged inner pieces right;
+            merged = c.a_recording_delivers_its_services_merged.ensures.merged inner pieces (changes_right inner right);
             wanted = λ k known carried carries is_recorded. hop.delivers inner k known sent carried carries pieces is_recorded;
           };
       alone = arrives_alone capture.gives hop.within offered hop.delivers c.what_one_service_delivers_is_relayed.ensures.all c.each_class_of_a_capture_arrives_in_order.ensures.one;
