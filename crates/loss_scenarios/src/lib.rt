@@ -1,8 +1,8 @@
 //! What is sent, damaged on its way, and received: datagrams and settings -> [scenario_runs] -> a stream -> [scenario_runs] -> what comes
 //! of it.
 //!
-//! Tests alone. Begin with `pair` and `change_plans`, which say what is sent; `pair_losses`, `change_moves`, `change_losses` and
-//! `hostile_cases` are the tables of what happens to it, and `received` says how they are read.
+//! Tests alone. Begin with `pair` and `change_plans`, which say what is sent; `pair_losses`, `change_moves`, `change_losses`,
+//! `undetected_errors` and `hostile_cases` are the tables of what happens to it, and `received` says how they are read.
 #![tactic(auto)]
 
 #[cfg(test)]
@@ -33,3 +33,5 @@ mod pair_losses;
 mod received;
 #[cfg(test)]
 mod settings_words;
+#[cfg(test)]
+mod undetected_errors;

@@ -5,7 +5,8 @@
 //!
 //! - `heard=23 units=12` are lines of the report, as `test_recordings::put_scope` reads them: a line that is not named is 0. `version=3` is
 //!   the last one of the table, which has none where it is not named.
-//! - `gives 0 3-13` after them are the numbers of a service's datagrams, `0*101` a datagram 101 times.
+//! - `gives 0 3-13` after them are the numbers of a service's datagrams, `0*101` a datagram 101 times. `altered 1@60` after these says that
+//!   the second that is given has other bytes from byte 60 on, as `undetected_errors` has them.
 //! - `rules 239.1.0.0/16 239.2.0.0/16` after them are the rules of the table, with component_tag 0, 1 and so on.
 //!
 //! A scope without a column has that of `whole`.
@@ -14,7 +15,7 @@ use crate::settings_words::settings_of;
 use scenario_runs::expect;
 use std::alloc::{AllocError as OutOfMemory, Global};
 use std::test::Fail;
-use test_recordings::{FileLeft, Left, capture_of, faultless, put_scope};
+use test_recordings::{Datagram, FileLeft, Left, capture_of, faultless, put_scope};
 
 /// The name of a service, and the list of datagrams of which it has some.
 pub type Service = (&'static str, &'static str);
@@ -26,6 +27,9 @@ pub struct Reception<'a> {
     pub services: &'a [Service],
     pub whole: &'a str,
 }
+
+/// The bits of five bytes that are flipped where an error goes undetected: the generator polynomial of a CRC-32 (ISO/IEC 13818-1 Annex A).
+pub const UNDETECTED: [u8; 5] = [0x01, 0x04, 0xC1, 0x1D, 0xB7];
 
 /// What must be left: the report, and the captures of the services in their order.
 #[derive(Drop)]
@@ -61,14 +65,37 @@ fn expect_scopes(columns: &str, services: &[Service]) -> Result<(), Fail> {
     Ok(())
 }
 
+/// Flips the bits of five bytes that leave a CRC-32 right, in the capture's datagram of a number, from a place of it on.
+///
+/// A capture has 24 bytes before its first record, and 16 before each datagram.
+fn alter(capture: &mut [u8], given: &[Datagram], word: &str) -> Result<(), Fail> {
+    let (number, place) = word.split_once('@').ok_or("no place")?;
+    let mut at = 40usize.saturating_add(place.parse()?);
+    for datagram in given.iter().take(number.parse()?) {
+        at = at
+            .saturating_add(16)
+            .saturating_add(usize::from(datagram.size));
+    }
+    for bits in UNDETECTED {
+        *capture.get_mut(at).ok_or("no such byte")? ^= bits;
+        at = at.saturating_add(1);
+    }
+    Ok(())
+}
+
 /// Appends the lines of a service, and its capture.
 fn put_service(alloc: Global, due: &mut Due, service: &Service, words: &str) -> Result<(), Fail> {
     let (name, list) = *service;
     let (words, numbers) = words.split_once("gives").unwrap_or((words, ""));
+    let (numbers, altered) = numbers.split_once("altered").unwrap_or((numbers, ""));
     let given = datagrams_of(alloc, list, numbers)?;
     let words = format!(in alloc; "{words} datagrams={}", given.len())?;
     put_scope(&mut due.report, name, &words)?;
-    due.captures.push(capture_of(alloc, &given)?)?;
+    let mut capture = capture_of(alloc, &given)?;
+    for word in altered.split_whitespace() {
+        alter(&mut capture, &given, word)?;
+    }
+    due.captures.push(capture)?;
     Ok(())
 }
 
@@ -121,6 +148,7 @@ fn file_of<'a>(service: &Service, bytes: &'a [u8]) -> FileLeft<'a> {
     let (name, _) = *service;
     match name {
         "lecture" => FileLeft::whole("lecture.pcap", bytes),
+        "maps" => FileLeft::whole("maps.pcap", bytes),
         _ => FileLeft::whole("files.pcap", bytes),
     }
 }
