@@ -101,11 +101,12 @@ module _ (pid : ℕ) (within : pid ≤ 8190) (shelf : ShelfTold) (input taken : 
       without_files (to_find pid) SourceFault (status_line SourceFault) before after same refl refl
       (unjudged (to_find pid) SourceFault before same refl (λ e. absurd (cc))) (used SourceFault refl (inl (of_output (all.unchanged (λ f. absurd (cc))))))
       (record { shelf = keeps_same (to_find pid) shelf; input = all.input_rose refl; output = all.output_kept (λ f. absurd (cc)); rack = refl }) (
-        all.ends.going,
         takes all.ends.pieces all.ends.behind (λ count most. count < most) all.ends.read
             (few_bytes (length all.ends.pieces) (length all.ends.behind) all.ends.fewer all.ends.read.short),
+        all.ends.going,
+        λ e. absurd (cc),
       )
-      (λ plan bytes is told. tt) (λ plan is e. absurd (cc)) refl
+      (λ plan bytes is told. all.ends) (λ plan is e. absurd (cc)) refl
   find_fails fault.Sink all =
       without_files (to_find pid) SinkFault (status_line SinkFault) before after same refl refl
       (unjudged (to_find pid) SinkFault before same refl (λ e. absurd (cc))) (used SinkFault refl (inr refl))
@@ -124,11 +125,11 @@ module _ (pid : ℕ) (within : pid ≤ 8190) (shelf : ShelfTold) (input taken : 
       without_files (to_find pid) TooLong (status_line TooLong) before after same refl refl
       (unjudged (to_find pid) TooLong before same refl (λ e. absurd (cc))) (used TooLong refl (inl (of_output (all.unchanged (λ f. absurd (cc))))))
       (record { shelf = keeps_same (to_find pid) shelf; input = all.input_kept (λ f. absurd (cc)); output = all.output_kept (λ f. absurd (cc)); rack = refl })
-      (takes all.ends.pieces [] (λ count most. count ≡ most) all.ends.read (omega (arith, all.ends.limit)))
-      (λ plan bytes is told. tt) (λ plan is e. absurd (cc)) refl
+      (takes all.ends.pieces [] (λ count most. count ≡ most) all.ends.read (omega (arith, all.ends.limit)), λ e. absurd (cc))
+      (λ plan bytes is told. all.ends) (λ plan is e. absurd (cc)) refl
   find_fails fault.OutOfMemory all =
       without_files (to_find pid) OutOfMemory (status_line OutOfMemory) before after same refl refl
       (unjudged (to_find pid) OutOfMemory before same refl (λ e. absurd (cc))) (used OutOfMemory refl (inl (of_output (all.unchanged (λ f. absurd (cc))))))
       (record { shelf = keeps_same (to_find pid) shelf; input = all.input_kept (λ f. absurd (cc)); output = all.output_kept (λ f. absurd (cc)); rack = refl })
-      tt
+      (λ files. absurd (cc))
       (λ plan bytes is told. tt) (λ plan is e. in_memory (λ files. absurd (cc)) refl (stays-refl rack.files)) refl

@@ -1,9 +1,17 @@
 -- Ethernet frames that are received: what arrived of those sent, whatever others carry; and what stands of them in the file.
-use Rattle.std.proofs.Common.{◌≡◌, ◌≢◌, inl, ℕ, true, List, [], ◌∷◌, refl, sym, subst}
+use Rattle.std.proofs.Common.{◌≡◌, ◌≢◌, inl, ℕ, true, List, [], ◌∷◌, map, flat_map, refl, sym, subst}
+use Rattle.std.proofs.lemmas.List.Folds.{flat_map-map}
+use Rattle.wire_spec.specs.Lists.{IsSubsequence}
 use Rattle.wire_spec.specs.Content.{Stays}
 use Rattle.ipe_io.specs.Told.{RackTold}
 use Rattle.ipe_io.proofs.Told.{stays-refl}
-use Rattle.ts_spec.specs.Recording.{plain, records_of}
+use Rattle.ts_spec.specs.Recording.{plain, records_of, Record}
+use Rattle.ts_spec.specs.Reassembly.{PlacedUnit, accepted_units}
+use Rattle.ts_spec.specs.Packetized.{unit_at}
+use Rattle.channel_law.proofs.Subsequences.{subsequence_flat}
+use Rattle.channel_law.proofs.Sndu.{sndu_lawful}
+use Rattle.intact_law.proofs.Chosen.{intact_among}
+use Rattle.intact_law.proofs.Pdus.{pdus_delivered}
 use Rattle.ts_spec.specs.Sndu.{sndu_form}
 use Rattle.channel_law.proofs.Member.{contains_member}
 use Rattle.channel_law.proofs.Spans.{whole_is_span}
@@ -17,7 +25,7 @@ use Rattle.unbridge_command.specs.Unbridging.{bridge_capture, AddsBridge}
 use Rattle.unbridge_command.specs.Parts.{HasBridgePart}
 use Rattle.ipencap_engine.specs.World.{World}
 use Rattle.ipencap_engine.specs.Jobs.{Job}
-use Rattle.ipencap_engine.specs.Laws.{TellsFrames, DeliversFrames, FramesArrive, SameOnCarrier}
+use Rattle.ipencap_engine.specs.Laws.{TellsFrames, DeliversFrames, DeliversIntactFrames, FramesArrive, SameOnCarrier}
 use Rattle.ipencap_engine.specs.declared.status.Status.{Status}
 use Rattle.ipencap_engine.specs.declared.status.Status.TheVariants.{Done}
 
@@ -28,6 +36,19 @@ delivered (on_pid pid) pieces = λ sent frames carries channel no_error.
     (contains_member (pid ∷ []) pid (inl refl)) frames carries no_error
 delivered (on_isi isi) pieces = λ sent frames carries channel no_error.
     delivers_intact (isi ∷ []) sent pieces channel isi (contains_member (isi ∷ []) isi (inl refl)) no_error frame_of_pdu [] frames carries
+
+-- those that arrived intact are received
+intact_delivered : (carrier : BridgeCarrier) (pieces : List (List ℕ)) → DeliversIntactFrames carrier pieces (received_ethernet_frames carrier pieces)
+intact_delivered (on_pid pid) pieces = λ sent units begin packetized channel intact are.
+    let recorded : List Record = records_of plain pieces in
+    subst (λ (l : List (List ℕ)). IsSubsequence l (received_ethernet_frames (on_pid pid) pieces)) (flat_map-map frame_of_sndu (unit_at units) intact)
+    (subst (λ (l : List (List ℕ)). IsSubsequence (flat_map frame_of_sndu (map (unit_at units) intact)) l)
+    (flat_map-map frame_of_sndu (λ (x : PlacedUnit). x.unit) (accepted_units sndu_form pid recorded))
+    (subsequence_flat frame_of_sndu (map (unit_at units) intact) (map (λ (x : PlacedUnit). x.unit) (accepted_units sndu_form pid recorded))
+    (intact_among (pid ∷ []) sent recorded channel recorded (whole_is_span recorded) sndu_form pid (contains_member (pid ∷ []) pid (inl refl)) units begin
+    (record { lawful = sndu_lawful; packetized = packetized }) intact are.rising are.each)))
+intact_delivered (on_isi isi) pieces = λ sent channel intact are.
+    pdus_delivered (isi ∷ []) sent pieces channel isi (contains_member (isi ∷ []) isi (inl refl)) intact are.rising are.each frame_of_pdu []
 
 -- and does not depend on others
 received_alike : (carrier : BridgeCarrier) (pieces others : List (List ℕ)) → SameOnCarrier carrier pieces others
@@ -50,7 +71,8 @@ pub frames_come : (job : Job) (end : Status) (before after : World) → HasFrame
     → (carrier : BridgeCarrier) (pieces : List (List ℕ)) → TellsFrames job before carrier pieces → FramesArrive carrier pieces end before after
 frames_come job end before after part whole carrier pieces tells = record {
   received = received_ethernet_frames carrier pieces;
-  holds = delivered carrier pieces;
+  intact = intact_delivered carrier pieces;
+  arrived = delivered carrier pieces;
   whole = whole carrier pieces tells;
   front = part carrier pieces tells;
 }

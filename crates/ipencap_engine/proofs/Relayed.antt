@@ -23,7 +23,7 @@ use Rattle.relay_command.specs.declared.ends.RelayEnd.TheVariants as ends
 use Rattle.ipencap_engine.specs.Statuses.{status_line, status_of, outcome_line, outcome_of_relay}
 use Rattle.ipencap_engine.specs.World.{World, world, Object, the_shelf, the_input, the_output, the_rack}
 use Rattle.ipencap_engine.specs.Jobs.{to_relay, may_use, IsPlanOf}
-use Rattle.ipencap_engine.specs.Settings.{GivesPlan, GivesOuter, IsRefusedBy, in_first, in_outer}
+use Rattle.ipencap_engine.specs.Settings.{GivesPlan, GivesOuter, IsRefusedBy, in_first, in_outer, HasSettings}
 use Rattle.ipencap_engine.specs.Counts.{KeepsShelf}
 use Rattle.ipencap_engine.specs.Made.{Made, MakesRelayed, IsRelayOf, numbers_line}
 use Rattle.ipencap_engine.specs.Reads.{TakesPieces, ReadsAll}
@@ -31,7 +31,7 @@ use Rattle.ipencap_engine.specs.Stands.{Stands, in_memory}
 use Rattle.ipencap_engine.specs.Runs.{Runs}
 use Rattle.ipencap_engine.specs.declared.status.Status.{Status}
 use Rattle.ipencap_engine.specs.declared.status.Status.TheVariants.{Done, SourceFault, SinkFault, OutOfMemory, TooLong}
-use Rattle.ipencap_engine.proofs.Plans.{IsFileOf, RefusesNone, told_of, told_name, gives_plan, given_is}
+use Rattle.ipencap_engine.proofs.Plans.{IsFileOf, RefusesNone, known_of, told_name, gives_plan, given_is, is_given, is_outer}
 use Rattle.ipencap_engine.proofs.Received.{read_cut}
 use Rattle.ipencap_engine.proofs.Sent.{numbers_are}
 use Rattle.ipencap_engine.proofs.Settings.{judged, without_files}
@@ -39,8 +39,8 @@ use Rattle.settings_law.proofs.Spellings.{one_plan}
 
 module _ (first second : List ℕ) (inner outer : PlanFields) (whole : is_whole_plan inner ≡ true) (old new : ShelfTold) (input taken : InputTold) (output held : OutputTold)
     (rack : RackTold) (same : Object → Type 0) (shelf : KeepsShelf (to_relay first second) false old new)
-    (read_first : IsFileOf (old.file first) inner) (none_first : RefusesNone (old.file first))
-    (read_second : IsFileOf (old.file second) outer) (none_second : RefusesNone (old.file second))
+    (read_first : IsFileOf (new.file first) inner) (none_first : RefusesNone (new.file first))
+    (read_second : IsFileOf (new.file second) outer) (none_second : RefusesNone (new.file second))
     (of_rack : same the_rack) (Silent : Type 0) (of_output : Silent → same the_output) where
   abbrev before : World
   before = world old input output rack
@@ -50,21 +50,27 @@ module _ (first second : List ℕ) (inner outer : PlanFields) (whole : is_whole_
 
   -- Settings: both files give their plans.
 
-  gives_second : (text : List ℕ) → old.file second ≡ Some text → IsAcceptedFile text outer
-  gives_second text told = told_of (λ b. IsAcceptedFile b outer) (old.file second) text told read_second
+  gives_second : (text : List ℕ) → new.file second ≡ Some text → IsAcceptedFile text outer
+  gives_second text told = known_of (λ b. IsAcceptedFile b outer) (new.file second) text told read_second
 
-  answer : (bytes : List ℕ) → (n : List ℕ) × (Some first ≡ Some n) × (old.file n ≡ Some bytes) → GivesPlan bytes × GivesOuter (to_relay first second) old
+  answer : (bytes : List ℕ) → (n : List ℕ) × (Some first ≡ Some n) × (new.file n ≡ Some bytes) → GivesPlan bytes × GivesOuter (to_relay first second) new
   answer bytes told = (
-    gives_plan (to_relay first second) first old inner refl read_first bytes told,
-    λ text of_text. (outer, gives_second text (told_name (Some second) second old text refl of_text)),
+    gives_plan (to_relay first second) first new inner refl read_first bytes told,
+    λ text of_text. (outer, gives_second text (told_name (Some second) second new text refl of_text)),
   )
 
-  not_refused : (refusal : _) → IsRefusedBy (to_relay first second) old refusal → ⊥
-  not_refused refusal (in_first bytes told refuses) = none_first bytes refusal (told_name (Some first) first old bytes refl told) refuses
-  not_refused refusal (in_outer plan given bytes told refuses) = none_second bytes refusal (told_name (Some second) second old bytes refl told) refuses
+  not_refused : (refusal : _) → IsRefusedBy (to_relay first second) new refusal → ⊥
+  not_refused refusal (in_first bytes told refuses) = none_first bytes refusal (told_name (Some first) first new bytes refl told) refuses
+  not_refused refusal (in_outer plan given bytes told refuses) = none_second bytes refusal (told_name (Some second) second new bytes refl told) refuses
 
-  one_inner : (plan : PlanFields) → IsPlanOf (to_relay first second) old plan → inner ≡ plan
-  one_inner plan given = given_is (to_relay first second) first old inner refl read_first plan given
+  has_both : HasSettings (to_relay first second) new
+  has_both = record {
+    first = inr (inner, is_given (to_relay first second) first new inner refl read_first);
+    outer = inr (outer, is_outer (to_relay first second) second new outer refl read_second);
+  }
+
+  one_inner : (plan : PlanFields) → IsPlanOf (to_relay first second) new plan → inner ≡ plan
+  one_inner plan given = given_is (to_relay first second) first new inner refl read_first plan given
 
   -- What was read.
 
@@ -100,7 +106,7 @@ module _ (first second : List ℕ) (inner outer : PlanFields) (whole : is_whole_
   made_of datagrams stream = record { files = []; output = joined stream; line = numbers_line outer (as_records datagrams); status = Done }
 
   makes : (datagrams stream : List (List ℕ)) (bytes : List ℕ) → Receives inner input taken datagrams → IsSentStream outer (offered_in outer (as_records datagrams)) stream
-      → input.left ≡ Some bytes → MakesRelayed second old inner bytes taken.left (made_of datagrams stream)
+      → input.left ≡ Some bytes → MakesRelayed second new inner bytes taken.left (made_of datagrams stream)
   makes datagrams stream bytes receives is told =
       let gathers = receives.gathers in
       record {
@@ -126,7 +132,7 @@ module _ (first second : List ℕ) (inner outer : PlanFields) (whole : is_whole_
   relay_done tally all =
       let sends = all.stands in
       without_files (to_relay first second) Done (tally_line tally) before after same refl refl
-      (judged (to_relay first second) Done before same answer (λ e. absurd (cc)) not_refused) (used Done refl refl (inr refl))
+      (judged (to_relay first second) Done new same answer has_both (λ e. absurd (cc)) not_refused) (used Done refl refl (inr refl))
       (record { shelf = shelf; input = all.input_kept (λ e. absurd (cc)); output = all.output_kept (λ e. absurd (cc)); rack = refl })
       (reads_all sends.receives.gathers.read.takes)
       (λ plan bytes is told. subst (λ (q : PlanFields). Stands (to_relay first second) q bytes Done (tally_line tally) before after) (one_inner plan is)
@@ -146,7 +152,7 @@ module _ (first second : List ℕ) (inner outer : PlanFields) (whole : is_whole_
   relay_sink_fault all =
       let sends = all.stands in
       without_files (to_relay first second) SinkFault (status_line SinkFault) before after same refl refl
-      (judged (to_relay first second) SinkFault before same answer (λ e. absurd (cc)) not_refused) (used SinkFault refl refl (inr refl))
+      (judged (to_relay first second) SinkFault new same answer has_both (λ e. absurd (cc)) not_refused) (used SinkFault refl refl (inr refl))
       (record { shelf = shelf; input = all.input_kept (λ e. absurd (cc)); output = all.sink refl; rack = refl })
       (reads_all sends.receives.gathers.read.takes)
       (λ plan bytes is told. subst (λ (q : PlanFields). Stands (to_relay first second) q bytes SinkFault (status_line SinkFault) before after) (one_inner plan is)
@@ -168,11 +174,12 @@ module _ (first second : List ℕ) (inner outer : PlanFields) (whole : is_whole_
       → Runs (to_relay first second) SourceFault (status_line SourceFault) before after same
   relay_source_fault all =
       without_files (to_relay first second) SourceFault (status_line SourceFault) before after same refl refl
-      (judged (to_relay first second) SourceFault before same answer (λ e. absurd (cc)) not_refused)
+      (judged (to_relay first second) SourceFault new same answer has_both (λ e. absurd (cc)) not_refused)
       (used SourceFault refl refl (inl (of_output (silent all.unchanged))))
       (record { shelf = shelf; input = all.stands.rose; output = all.output_kept (λ e. absurd (cc)); rack = refl }) (
-        all.stands.takes.going,
         record { plan = inner; whole = whole; is = one_inner; count = all.stands.takes.count; is_bound = all.stands.takes.fewer; taken = all.stands.takes.taken },
+        all.stands.takes.going,
+        λ e. absurd (cc),
       )
       (λ plan bytes is told. subst (λ (q : PlanFields). FailsToRead q input taken) (one_inner plan is) all.stands)
       (λ plan is e. absurd (cc)) refl
@@ -181,7 +188,7 @@ module _ (first second : List ℕ) (inner outer : PlanFields) (whole : is_whole_
       → Runs (to_relay first second) TooLong (status_line TooLong) before after same
   relay_too_long all =
       without_files (to_relay first second) TooLong (status_line TooLong) before after same refl refl
-      (judged (to_relay first second) TooLong before same answer (λ e. absurd (cc)) not_refused)
+      (judged (to_relay first second) TooLong new same answer has_both (λ e. absurd (cc)) not_refused)
       (used TooLong refl refl (inl (of_output (silent all.unchanged))))
       (record { shelf = shelf; input = all.input_kept (λ e. absurd (cc)); output = all.output_kept (λ e. absurd (cc)); rack = refl })
       (reads_many all.stands)
@@ -192,10 +199,10 @@ module _ (first second : List ℕ) (inner outer : PlanFields) (whole : is_whole_
       → Runs (to_relay first second) OutOfMemory (status_line OutOfMemory) before after same
   relay_lacking all =
       without_files (to_relay first second) OutOfMemory (status_line OutOfMemory) before after same refl refl
-      (judged (to_relay first second) OutOfMemory before same (λ bytes told. tt) (λ e. absurd (cc)) not_refused)
+      (judged (to_relay first second) OutOfMemory new same (λ bytes told. tt) has_both (λ e. absurd (cc)) not_refused)
       (used OutOfMemory refl refl (inl (of_output (silent all.unchanged))))
       (record { shelf = shelf; input = all.input_kept (λ e. absurd (cc)); output = all.output_kept (λ e. absurd (cc)); rack = refl })
-      tt
+      (λ files. absurd (cc))
       (λ plan bytes is told. subst (λ (q : PlanFields). RelayLacksMemory q input taken) (one_inner plan is) all.stands)
       (λ plan is e. in_memory (λ files. absurd (cc)) refl (stays-refl rack.files)) refl
 

@@ -19,7 +19,7 @@ puts : (name : List ℕ) → PutsText (to_tables name)
 puts name = record { no_intake = refl; puts = refl; no_files = refl; one_file = refl; command = refl }
 
 module _ (name : List ℕ) (plan : PlanFields) (old new : ShelfTold) (input : InputTold) (held now : OutputTold) (rack : RackTold) (same : Object → Type 0)
-    (shelf : KeepsShelf (to_tables name) false old new) (read : IsFileOf (old.file name) plan) (none : RefusesNone (old.file name))
+    (shelf : KeepsShelf (to_tables name) false old new) (read : IsFileOf (new.file name) plan) (none : RefusesNone (new.file name))
     (of_input : same the_input) (of_rack : same the_rack) (Silent : Type 0) (silent : Silent → now ≡ held) (of_output : Silent → same the_output) where
   pub tables_done : (done : ⊤) → WritesTables (Ok done) plan held now Silent
       → Runs (to_tables name) Done (status_line Done) (world old input held rack) (world new input now rack) same

@@ -54,7 +54,7 @@ text_lacking job old new input held now rack same command shelf of_shelf of_inpu
 
 module _ (job : Job) (puts : PutsText job) (text : List ℕ) (old new : ShelfTold) (input : InputTold) (held now : OutputTold) (rack : RackTold) (same : Object → Type 0)
     (shelf : KeepsShelf job false old new) (of_shelf : is_some (row job).settings ≡ false → same the_shelf) (of_input : same the_input) (of_rack : same the_rack)
-    (makes : (plan : PlanFields) (bytes : List ℕ) → IsPlanOf job old plan → Makes job old plan bytes input.left (puts_out text)) where
+    (makes : (plan : PlanFields) (bytes : List ℕ) → IsPlanOf job new plan → Makes job new plan bytes input.left (puts_out text)) where
   abbrev before : World
   before = world old input held rack
 
@@ -62,7 +62,7 @@ module _ (job : Job) (puts : PutsText job) (text : List ℕ) (old new : ShelfTol
   after = world new input now rack
 
   -- the whole text was put out
-  pub text_done : JudgesSettings job Done before same → Appends held.held now.held text → IsFlushed now.held now.flushed → now.faults ≡ held.faults
+  pub text_done : JudgesSettings job Done after.shelf same → Appends held.held now.held text → IsFlushed now.held now.flushed → now.faults ≡ held.faults
       → Runs job Done (status_line Done) before after same
   text_done settings written flushed count =
       without_files job Done (status_line Done) before after same puts.no_files puts.command settings unused
@@ -86,7 +86,7 @@ module _ (job : Job) (puts : PutsText job) (text : List ℕ) (old new : ShelfTol
       unused the_rack f = of_rack
 
   -- the output failed
-  pub text_part : (count : ℕ) → JudgesSettings job SinkFault before same → Appends held.held now.held (take count text) → Stays held.flushed now.flushed
+  pub text_part : (count : ℕ) → JudgesSettings job SinkFault after.shelf same → Appends held.held now.held (take count text) → Stays held.flushed now.flushed
       → Rose held.faults now.faults → Runs job SinkFault (status_line SinkFault) before after same
   text_part count settings written unflushed rose =
       without_files job SinkFault (status_line SinkFault) before after same puts.no_files puts.puts settings unused
@@ -110,12 +110,12 @@ module _ (job : Job) (puts : PutsText job) (text : List ℕ) (old new : ShelfTol
 
 -- The same of a job that makes its text of the plan that its settings give.
 module _ (job : Job) (puts : PutsText job) (text : PlanFields → List ℕ) (name : List ℕ) (plan : PlanFields) (old new : ShelfTold) (input : InputTold)
-    (held now : OutputTold) (rack : RackTold) (same : Object → Type 0) (of_name : (row job).settings ≡ Some name) (given : (p : PlanFields) → IsPlanOf job old p → IsGiven job old p)
-    (makes : (p : PlanFields) (bytes : List ℕ) → Makes job old p bytes input.left (puts_out (text p))) (shelf : KeepsShelf job false old new) (read : IsFileOf (old.file name) plan)
-    (none : RefusesNone (old.file name)) (of_input : same the_input) (of_rack : same the_rack) where
-  made_of : (p : PlanFields) (bytes : List ℕ) → IsPlanOf job old p → Makes job old p bytes input.left (puts_out (text plan))
+    (held now : OutputTold) (rack : RackTold) (same : Object → Type 0) (of_name : (row job).settings ≡ Some name) (given : (p : PlanFields) → IsPlanOf job new p → IsGiven job new p)
+    (makes : (p : PlanFields) (bytes : List ℕ) → Makes job new p bytes input.left (puts_out (text p))) (shelf : KeepsShelf job false old new) (read : IsFileOf (new.file name) plan)
+    (none : RefusesNone (new.file name)) (of_input : same the_input) (of_rack : same the_rack) where
+  made_of : (p : PlanFields) (bytes : List ℕ) → IsPlanOf job new p → Makes job new p bytes input.left (puts_out (text plan))
   made_of p bytes is =
-      subst (λ (q : PlanFields). Makes job old p bytes input.left (puts_out (text q))) (sym (given_is job name old plan of_name read p (given p is))) (makes p bytes)
+      subst (λ (q : PlanFields). Makes job new p bytes input.left (puts_out (text q))) (sym (given_is job name new plan of_name read p (given p is))) (makes p bytes)
 
   used_shelf : is_some (row job).settings ≡ false → same the_shelf
   used_shelf f = absurd (let some : is_some (row job).settings ≡ true = ap is_some of_name in cc)
@@ -124,13 +124,13 @@ module _ (job : Job) (puts : PutsText job) (text : PlanFields → List ℕ) (nam
       → Runs job Done (status_line Done) (world old input held rack) (world new input now rack) same
   loaded_done =
       text_done job puts (text plan) old new input held now rack same shelf used_shelf of_input of_rack made_of
-      (judged_loaded job name Done (world old input held rack) same of_name puts.one_file (λ e. absurd (cc)) (gives job name old plan of_name puts.one_file read) none)
+      (judged_loaded job name Done new same of_name puts.one_file (λ e. absurd (cc)) (gives job name new plan of_name puts.one_file read) none plan read)
 
   pub loaded_part : (count : ℕ) → Appends held.held now.held (take count (text plan)) → Stays held.flushed now.flushed → Rose held.faults now.faults
       → Runs job SinkFault (status_line SinkFault) (world old input held rack) (world new input now rack) same
   loaded_part count =
       text_part job puts (text plan) old new input held now rack same shelf used_shelf of_input of_rack made_of count
-      (judged_loaded job name SinkFault (world old input held rack) same of_name puts.one_file (λ e. absurd (cc)) (gives job name old plan of_name puts.one_file read) none)
+      (judged_loaded job name SinkFault new same of_name puts.one_file (λ e. absurd (cc)) (gives job name new plan of_name puts.one_file read) none plan read)
 
   pub loaded_lacking : now ≡ held → same the_output → Runs job OutOfMemory (status_line OutOfMemory) (world old input held rack) (world new input now rack) same
   loaded_lacking = text_lacking job old new input held now rack same puts.command shelf used_shelf of_input of_rack

@@ -16,7 +16,7 @@ use Rattle.unbridge_command.proofs.Prefixes.{bridge_part}
 use Rattle.command_words.specs.declared.carrier.Carrier.{Carrier}
 use Rattle.ipencap_engine.specs.Statuses.{status_line, status_of_fault}
 use Rattle.ipencap_engine.specs.World.{World, world, Object, the_shelf, the_input, the_output, the_rack}
-use Rattle.ipencap_engine.specs.Jobs.{a_recording, an_ethernet_recording, to_unbridge, bridge_carrier, may_end, may_use}
+use Rattle.ipencap_engine.specs.Jobs.{a_recording, a_relayed, an_ethernet_recording, to_unbridge, bridge_carrier, may_end, may_use}
 use Rattle.ipencap_engine.specs.Counts.{CountsFaults}
 use Rattle.ipencap_engine.specs.Reads.{ReadsFrames}
 use Rattle.ipencap_engine.specs.Stands.{Stands, LacksMemory, in_memory}
@@ -76,6 +76,9 @@ module _ (on : Carrier) (shelf : ShelfTold) (input taken : InputTold) (output : 
   no_datagrams : an_ethernet_recording carrier ≡ a_recording → ⊥
   no_datagrams e = cc
 
+  no_relay : an_ethernet_recording carrier ≡ a_relayed → ⊥
+  no_relay e = cc
+
   reception : (end : Status) (line : List ℕ) → may_end (to_unbridge on) end ≡ true → end ≢ Settings
       → same the_input ⊎ (may_use (to_unbridge on) end the_input ≡ true) → may_use (to_unbridge on) end the_rack ≡ true
       → CountsFaults (to_unbridge on) end before after → ReadsFrames carrier end before after
@@ -95,6 +98,7 @@ module _ (on : Carrier) (shelf : ShelfTold) (input taken : InputTold) (output : 
     loss_in_frames = λ plan frames tells baseband. absurd (no_datagrams tells.reads);
     isolation = λ plan pieces tells packets recordings alike e. absurd (no_datagrams tells.reads);
     isolation_in_frames = λ plan frames tells baseband recordings alike e. absurd (no_datagrams tells.reads);
+    loss_of_relay = λ plan pieces tells. absurd (no_relay tells.reads);
     loss_of_ethernet_frames = frames_come (to_unbridge on) end before after some all;
     isolation_of_ethernet_frames = frames_by_themselves (to_unbridge on) end before after all;
   }
@@ -130,17 +134,17 @@ module _ (on : Carrier) (shelf : ShelfTold) (input taken : InputTold) (output : 
   unbridge_fails fault.Source all =
       reception SourceFault (status_line SourceFault) refl (λ e. absurd (cc)) (inr refl) refl
       (record { shelf = keeps_same (to_unbridge on) shelf; input = all.input_faults.rose refl; output = refl; rack = all.rack_faults.kept (λ f. absurd (cc)) })
-      all.ends.1 (λ plan bytes told. all.ends.0) (λ plan e. absurd (cc)) refl (part (Err fault.Source) all) (λ c pieces tells done. absurd (cc))
+      (all.ends.1, all.ends.2) (λ plan bytes told. all.ends.0) (λ plan e. absurd (cc)) refl (part (Err fault.Source) all) (λ c pieces tells done. absurd (cc))
   unbridge_fails fault.Sink all = absurd all.ends
   unbridge_fails fault.Rack all =
       reception RackFault (status_line RackFault) refl (λ e. absurd (cc)) (inr refl) refl
       (record { shelf = keeps_same (to_unbridge on) shelf; input = all.input_faults.kept (λ f. absurd (cc)); output = refl; rack = all.rack_faults.rose refl })
-      all.ends.1 (λ plan bytes told. all.ends.0) (λ plan e. absurd (cc)) refl (part (Err fault.Rack) all) (λ c pieces tells done. absurd (cc))
+      (all.ends.1, all.ends.2) (λ plan bytes told. all.ends.0) (λ plan e. absurd (cc)) refl (part (Err fault.Rack) all) (λ c pieces tells done. absurd (cc))
   unbridge_fails fault.TooLong all =
       reception TooLong (status_line TooLong) refl (λ e. absurd (cc)) (inr refl) refl
       (record { shelf = keeps_same (to_unbridge on) shelf; input = all.input_faults.kept (λ f. absurd (cc)); output = refl; rack = all.rack_faults.kept (λ f. absurd (cc)) })
-      all.ends.1 (λ plan bytes told. all.ends.0) (λ plan e. absurd (cc)) refl (part (Err fault.TooLong) all) (λ c pieces tells done. absurd (cc))
+      (all.ends.1, all.ends.2) (λ plan bytes told. all.ends.0) (λ plan e. absurd (cc)) refl (part (Err fault.TooLong) all) (λ c pieces tells done. absurd (cc))
   unbridge_fails fault.OutOfMemory all =
       reception OutOfMemory (status_line OutOfMemory) refl (λ e. absurd (cc)) (inl (of_input all.ends.0)) refl
       (record { shelf = keeps_same (to_unbridge on) shelf; input = all.input_faults.kept (λ f. absurd (cc)); output = refl; rack = all.rack_faults.kept (λ f. absurd (cc)) })
-      tt (λ plan bytes told. tt) (λ plan e. in_memory (λ r. unread all.ends.0) all.ends.1 all.ends.2) refl (part (Err fault.OutOfMemory) all) (λ c pieces tells done. absurd (cc))
+      (unread all.ends.0) (λ plan bytes told. tt) (λ plan e. in_memory (λ r. unread all.ends.0) all.ends.1 all.ends.2) refl (part (Err fault.OutOfMemory) all) (λ c pieces tells done. absurd (cc))

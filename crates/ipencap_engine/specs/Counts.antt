@@ -1,6 +1,7 @@
 -- Counts of faults: each fault has its cause in the count of its object, and no fault is passed over.
-use Rattle.std.specs.Prelude.{◌≡◌, ℕ, ◌≤◌, Bool, true, false, List, Some}
+use Rattle.std.specs.Prelude.{◌≡◌, ◌≢◌, ℕ, ◌≤◌, Bool, true, false, List, Some}
 use Rattle.wire_spec.specs.Causes.{Rose}
+use Rattle.wire_spec.specs.Content.{Stays}
 use Rattle.ipe_io.specs.Told.{ShelfTold}
 use Rattle.ipencap_engine.specs.World.{World, Object, the_shelf, the_input, the_output, the_rack}
 use Rattle.ipencap_engine.specs.Jobs.{Job, row, TellsSettings}
@@ -24,12 +25,18 @@ IsCount false before after = after ≡ before
 -- the count rose which the job's settings have, or that of its second settings file, where the first one gives a plan
 pub data ShelfRose (job : Job) (before after : ShelfTold) : Type 0 where
   of_settings : (name : List ℕ) → (row job).settings ≡ Some name → Rose (before.faults name) (after.faults name) → ShelfRose job before after
-  of_outer : (name : List ℕ) → (row job).outer ≡ Some name → ((bytes : List ℕ) → TellsSettings job before bytes → GivesPlan bytes)
+  of_outer : (name : List ℕ) → (row job).outer ≡ Some name → ((bytes : List ℕ) → TellsSettings job after bytes → GivesPlan bytes)
       → Rose (before.faults name) (after.faults name) → ShelfRose job before after
 
--- of a shelf that is blamed, such a count rose; no count of it falls, and its files stay
+-- the name is that of no settings file of the job
+pub record IsOther (job : Job) (name : List ℕ) : Type 0 where
+  pub first : (row job).settings ≢ Some name
+  pub second : (row job).outer ≢ Some name
+
+-- of a shelf that is blamed, such a count rose; no count of it falls; the files that it knows stay, and it knows no more but the job's settings
 pub record KeepsShelf (job : Job) (is_blamed : Bool) (before after : ShelfTold) : Type 0 where
-  pub files : (name : List ℕ) → after.file name ≡ before.file name
+  pub files : (name : List ℕ) → Stays (before.file name) (after.file name)
+  pub others : (name : List ℕ) → IsOther job name → after.file name ≡ before.file name
   pub later : (name : List ℕ) → before.faults name ≤ after.faults name
   pub rose : is_blamed ≡ true → ShelfRose job before after
   pub kept : (name : List ℕ) → is_blamed ≡ false → after.faults name ≡ before.faults name

@@ -2,7 +2,7 @@
 use Rattle.std.specs.Prelude.{◌≡◌, ℕ, true, List, []}
 use Rattle.pcap_file.specs.Reader.{is_cut}
 use Rattle.pcap_file.specs.declared.faults.CaptureFault.{CaptureFault}
-use Rattle.settings_load.specs.Settings.{Refusal}
+use Rattle.settings_load.specs.Settings.{Refusal, too_long}
 use Rattle.settings_load.specs.Lines.{refusal_line}
 use Rattle.send_command.specs.Sending.{ShowsFault}
 use Rattle.send_command.specs.Lines.{tally_line, fault_line}
@@ -28,10 +28,11 @@ IsDoneLine a_relayed line = (tally : Tally) × (line ≡ tally_line tally)
 IsDoneLine an_ethernet_capture line = (tally : BridgeTally) × (line ≡ bridge_tally_line tally)
 IsDoneLine (an_ethernet_recording carrier) line = line ≡ []
 
--- the line of refused settings says why the first file of them is refused that is
-pub record IsRefusalLine (job : Job) (before : World) (line : List ℕ) : Type 0 where
+-- the line of refused settings says why the first file of them is refused that is; of one that the shelf does not know, that it is too long
+pub record IsRefusalLine (job : Job) (after : World) (line : List ℕ) : Type 0 where
   pub refusal : Refusal
-  pub is : (bytes : List ℕ) → TellsSettings job before.shelf bytes → IsRefusalOf job before.shelf bytes refusal
+  pub is : (bytes : List ℕ) → TellsSettings job after.shelf bytes → IsRefusalOf job after.shelf bytes refusal
+  pub unknown : ((bytes : List ℕ) → TellsSettings job after.shelf bytes → ⊥) → refusal ≡ too_long
   pub line_is : line ≡ refusal_line refusal
 
 -- the bytes of a capture, of datagrams or of Ethernet frames, show this fault at this record
@@ -54,6 +55,6 @@ pub record IsFaultLine (intake : Intake) (before after : World) (line : List ℕ
 -- the line of a status
 abbrev pub IsLine : Job → Status → List ℕ → World → World → Type 0
 IsLine job status.Done line before after = IsDoneLine (row job).intake line
-IsLine job status.Settings line before after = IsRefusalLine job before line
+IsLine job status.Settings line before after = IsRefusalLine job after line
 IsLine job status.Capture line before after = IsFaultLine (row job).intake before after line
 IsLine job end line before after = line ≡ status_line end

@@ -1,5 +1,5 @@
 -- How much of its input a run reads, whether the input tells its bytes or not.
-use Rattle.std.specs.Prelude.{◌≡◌, ℕ, ◌+◌, ◌*◌, ◌<◌, ◌≤◌, true, false, List, length, None, Some, ⊤}
+use Rattle.std.specs.Prelude.{◌≡◌, ◌⊎◌, ℕ, ◌+◌, ◌*◌, ◌<◌, ◌≤◌, true, false, List, length, None, Some, ⊤}
 use Rattle.wire_spec.specs.Causes.{raised}
 use Rattle.pcap_file.specs.Told.{Tells}
 use Rattle.pcap_file.specs.Reader.{Takes, IsReadAhead, ShowsNoFault}
@@ -22,28 +22,38 @@ use Rattle.ipencap_engine.specs.declared.status.Status.TheVariants as status
 pub record TakesPieces (job : Job) (before after : World) (bound : ℕ → ℕ → Type 0) : Type 0 where
   pub plan : PlanFields
   pub whole : is_whole_plan plan ≡ true
-  pub is : (told : PlanFields) → IsPlanOf job before.shelf told → plan ≡ told
+  pub is : (told : PlanFields) → IsPlanOf job after.shelf told → plan ≡ told
   pub count : ℕ
   pub is_bound : bound count (piece_size plan * most_records)
   pub taken : after.input.taken ≡ raised before.input.taken count
 
--- a recording was read to its end, and where the job adds files, the rack has one more for each service
+-- where the job adds files, the rack has one more for each service of this plan
+abbrev pub AddsEach : Job → PlanFields → World → World → Type 0
+AddsEach job plan before after = (row job).has_files ≡ true → after.rack.count ≡ before.rack.count + length plan.services
+
+-- it has no more than those
+abbrev pub AddsMost : Job → PlanFields → World → World → Type 0
+AddsMost job plan before after = (row job).has_files ≡ true → after.rack.count ≤ before.rack.count + length plan.services
+
+-- a recording was read to its end, and all files are there
 pub record ReadsAll (job : Job) (before after : World) : Type 0 where
   pub ended : after.input.ended ≡ true
   pub takes : TakesPieces job before after (λ count most. count < most)
-  pub files : (row job).has_files ≡ true → after.rack.count ≡ before.rack.count + length takes.plan.services
+  pub files : AddsEach job takes.plan before after
 
 -- an input that had not ended has not ended where it failed
 abbrev pub GoesOn : InputTold → InputTold → Type 0
 GoesOn before after = before.ended ≡ false → after.ended ≡ false
 
--- how much of a recording was read, by status: so many records or frames
+-- how much of a recording was read, by status: so many records or frames; where memory ran out of a job that adds files, nothing or all of it
 abbrev pub ReadsRecording : Job → Status → World → World → Type 0
 ReadsRecording job status.Done before after = ReadsAll job before after
 ReadsRecording job status.SinkFault before after = ReadsAll job before after
-ReadsRecording job status.SourceFault before after = GoesOn before.input after.input × TakesPieces job before after (λ count most. count < most)
-ReadsRecording job status.RackFault before after = TakesPieces job before after (λ count most. count ≤ most)
-ReadsRecording job status.TooLong before after = TakesPieces job before after (λ count most. count ≡ most)
+ReadsRecording job status.SourceFault before after =
+    (takes : TakesPieces job before after (λ count most. count < most)) × GoesOn before.input after.input × AddsEach job takes.plan before after
+ReadsRecording job status.RackFault before after = (takes : TakesPieces job before after (λ count most. count ≤ most)) × AddsMost job takes.plan before after
+ReadsRecording job status.TooLong before after = (takes : TakesPieces job before after (λ count most. count ≡ most)) × AddsEach job takes.plan before after
+ReadsRecording job status.OutOfMemory before after = (row job).has_files ≡ true → (after.input ≡ before.input) ⊎ ReadsAll job before after
 ReadsRecording job end before after = ⊤
 
 -- of a relay: too many records, or too many datagrams or bytes of them
@@ -51,12 +61,13 @@ abbrev pub ReadsRelayed : Job → Status → World → World → Type 0
 ReadsRelayed job status.TooLong before after = TakesPieces job before after (λ count most. count ≤ most)
 ReadsRelayed job end before after = ReadsRecording job end before after
 
--- how much was read of pieces that carry Ethernet frames, for which there is no plan; where they were read to the end, the rack has one file more
+-- how much was read of pieces that carry Ethernet frames, for which there is no plan; once anything was, the rack has one file more
 abbrev pub ReadsFrames : BridgeCarrier → Status → World → World → Type 0
 ReadsFrames carrier status.Done before after = TakesAllOf (size_of_piece carrier) before.input after.input × (after.rack.count ≡ before.rack.count + 1)
-ReadsFrames carrier status.SourceFault before after = TakesFrontOf (size_of_piece carrier) before.input after.input
-ReadsFrames carrier status.RackFault before after = TakesMostOf (size_of_piece carrier) before.input after.input
-ReadsFrames carrier status.TooLong before after = after.input.taken ≡ raised before.input.taken (size_of_piece carrier * most_records)
+ReadsFrames carrier status.SourceFault before after = TakesFrontOf (size_of_piece carrier) before.input after.input × (after.rack.count ≡ before.rack.count + 1)
+ReadsFrames carrier status.RackFault before after = TakesMostOf (size_of_piece carrier) before.input after.input × (after.rack.count ≤ before.rack.count + 1)
+ReadsFrames carrier status.TooLong before after = (after.input.taken ≡ raised before.input.taken (size_of_piece carrier * most_records)) × (after.rack.count ≡ before.rack.count + 1)
+ReadsFrames carrier status.OutOfMemory before after = after.input ≡ before.input
 ReadsFrames carrier end before after = ⊤
 
 -- these bytes of a capture were taken, no more after its last record than a reader reads ahead, and so much holds of them

@@ -39,34 +39,39 @@ use std::alloc::Global;
 /// delivers under the second.
 ///
 /// Whatever job the words ask for, one line is reported, whole or, where `complaints` failed, a prefix of it; and what
-/// happened is a run of that job: specs/Runs.antt says in fourteen sentences what that is.
+/// happened is a run of that job: specs/Runs.antt says in fifteen sentences what that is.
 ///
 /// - ends: the table of jobs and their statuses;
 /// - settings: Settings comes only where the settings are refused, and then nothing else is used; where they are, the run ends with it, or
-///   with a fault of the shelf or out of memory;
+///   with a fault of the shelf or out of memory; at each status after them but OutOfMemory the shelf knows them, and they give plans;
 /// - unused: what a job does not use, and what it had no turn to use, stays as it was;
-/// - counts: each fault has its cause in the count of its object, and no count rises at another status;
-/// - reads: how much of the input was read; Done says that it has ended, and where files are added, that there is one for each service, or `bridge.pcap`;
+/// - counts: each fault has its cause in the count of its object, and no count rises at another status; the shelf knows no other file than
+///   before but the job's settings;
+/// - reads: how much of the input was read, and where files are added, how many were: at each status after the input was begun one for each service, or
+///   `bridge.pcap`; Done says that the input has ended, and OutOfMemory of a job that adds files that nothing was read, or all;
 /// - stands: what files and output hold after each status, to the byte;
 /// - memory: what they hold where memory ran out;
 /// - line_is: the line that is reported;
 /// - loss: the loss law in transport packets, of each service by itself, whatever became of others. Premises: the packets of its PIDs
-///   carried datagrams; records were lost, damaged or, if kept, repeated before a packet of their PID with other bytes, all in order, and any
-///   inserted in which nothing is read on its PIDs; no damaged or spliced unit of it passes its CRC-32; of any 4,095 MPE-FEC frames in a row
+///   carried units of its kind; records were lost, damaged or, if kept, repeated before a packet of their PID with other bytes, all in order,
+///   and any inserted in which nothing is read on its PIDs. Then, whatever errors go undetected, its file has the wanted datagrams of all units that arrived
+///   intact, in order (`intact`). Where besides no damaged or spliced unit of it passes its CRC-32, and of any 4,095 MPE-FEC frames in a row
 ///   between two that are received one is received, or with time slicing accepted sections come at times that separate the frames as delta_t
-///   announces. Then its file has wanted datagrams that were sent, unchanged, in order, those of each unit at most once, among them each
-///   wanted one whose unit arrived intact, and of MPE-FEC frames each of a frame in which no row lacks more than 64 of its 255 bytes; at every status
-///   but Done a prefix of such a file, or none;
-/// - loss_in_frames: the same in baseband frames. Premises: the frames of its ISI carried datagrams; each frame was dropped, or kept once, in
-///   order; anywhere stand frames that are refused or of other ISIs, so a damaged one counts as dropped where it is refused or reads as one
-///   of another ISI; each PDU that is reassembled from fragments was sent, with that label, and the same packet ended it. Then its file has
-///   wanted datagrams that were sent, unchanged, in order, that of each PDU at most once, among them each whose frames were all kept; at
-///   every status but Done a prefix of such a file, or none;
-/// - isolation, isolation_in_frames: at Done no service's file depends on packets of other PIDs, but where the plan changes on the bytes of the
-///   INT's, nor on moments, but with time slicing on those of its own packets; nor on frames of other ISIs;
-/// - loss_of_ethernet_frames, isolation_of_ethernet_frames: the same of Ethernet frames on a PID or an ISI: those received are a subsequence of
-///   those sent, unchanged, with every one whose SNDU arrived intact or whose baseband frames all came, and they don't depend on what other
-///   PIDs or ISIs carry.
+///   announces, it has nothing but wanted datagrams that were sent, unchanged, in order, those of each unit at most once, and of MPE-FEC
+///   frames each of a frame in which no row lacks more than 64 of its 255 bytes (`arrived`). So at Done and at SinkFault; at every other status a
+///   prefix of such a file, or none;
+/// - loss_in_frames: the same in baseband frames. Premises: each frame of its ISI was dropped, or kept once, in order; anywhere stand frames that
+///   are refused or of other ISIs, so a damaged one counts as dropped where it is refused or reads as one of another ISI. Then its file has the
+///   wanted datagrams of all PDUs whose frames were all kept (`intact`). Where besides the frames carried datagrams, and each PDU that is
+///   reassembled from fragments was sent, with that label, and the same packet ended it, it has nothing but wanted datagrams that were sent,
+///   unchanged, in order, that of each PDU at most once (`arrived`);
+/// - isolation, isolation_in_frames: at Done and at SinkFault no service's file depends on packets of other PIDs, but where the plan changes on
+///   the bytes of the INT's, nor on moments, but with time slicing on those of its own packets; nor on frames of other ISIs;
+/// - loss_of_relay: the loss law of what a relay reads: all that it sends on are the lists that its services deliver, merged, and of each of these
+///   the loss law says the same as of a file of `receive`;
+/// - loss_of_ethernet_frames, isolation_of_ethernet_frames: the same of Ethernet frames on a PID or an ISI: those received have among them, in
+///   order, every one whose SNDU arrived intact or whose baseband frames all came, whatever errors go undetected; where none does, they are a
+///   subsequence of those sent, unchanged; and they don't depend on what other PIDs or ISIs carry.
 pub fn run<S: Shelf, I: Source, O: Sink, R: Rack, E: Sink>(
     alloc: Global,
     words: &[String],
