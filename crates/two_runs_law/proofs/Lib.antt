@@ -1,0 +1,5 @@
+pub mod Known
+pub mod Sends
+pub mod Receives
+pub mod Relays
+pub mod Bridges

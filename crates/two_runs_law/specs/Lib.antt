@@ -1,0 +1,4 @@
+pub mod Sent
+pub mod Runs
+pub mod Arrives
+pub mod Bridged
