@@ -11,3 +11,4 @@ pub mod EachFound
 pub mod InVersions
 pub mod HasPid
 pub mod Printed
+pub mod CutTables

@@ -6,6 +6,8 @@
 
 ghost use Rattle.std.specs.Prelude.{◌≡◌, ℕ, ◌<◌, ◌≤◌, true, false, ◌&&◌, ◌==◌, nat_lt, List, [], ◌∷◌, ◌++◌, map, flat_map, All, Some};
 ghost use Rattle.std.specs.List.{list_any};
+ghost use Rattle.wire_spec.specs.Lists.{joined, IsCut};
+ghost use Rattle.ipe_io.specs.Told.{InputTold};
 ghost use Rattle.ts_spec.specs.Form.{IsUnit};
 ghost use Rattle.ts_spec.specs.Recording.{plain, records_of};
 ghost use Rattle.section_spec.specs.Section.{section_form};
@@ -18,7 +20,10 @@ ghost use Rattle.psi_spec.specs.Pat.{ProgramFields, PatFields, IsWritablePat, is
 ghost use Rattle.psi_spec.specs.Pmt.{PmtFields, IsWritablePmt, is_pmt, is_pmt_of, pmt_bytes, pmt_fields};
 ghost use Rattle.psi_spec.specs.Named.{NamedRule, sections_on, int_on, pid_named, rules_of_entry, ReadsAs, AreNamed};
 ghost use Rattle.psi_spec.specs.Tables.{laid, numbers_of, is_among, programs_of, table_packets_of};
+ghost use Rattle.settings_spec.specs.Refusal.{IsAccepted};
 ghost use Rattle.psi_tables.specs.Text.{IsFindText};
+ghost use Rattle.tables_command.specs.Writing.{bytes_of_tables};
+ghost use Rattle.find_command.specs.Finding.{IsFoundIn};
 ghost use Rattle.psi_law.specs.OnPid.{HasNone};
 ghost use Rattle.psi_law.specs.Order.{Rise, Fall};
 ghost use Rattle.psi_law.specs.Programs.{IsApart, has_names};
@@ -26,8 +31,10 @@ ghost use Rattle.psi_law.specs.Printed.{PrintsEntry};
 
 use int_table::{a_section_carries_one_table, a_table_is_told_by_its_bytes};
 use plan_law::each_version_is_a_plan;
+use settings_law::{accepted_settings_give_a_plan, accepted_settings_give_bytes};
 use stream_law::the_table_reads_back_to_the_rules;
 use ts_packet::{null_packet_is_read, written_packets_are_read};
+use ts_record::cuts_are_unique;
 
 /// A PAT that is written is one, and says what was written.
 pub fn a_pat_reads_back()
@@ -96,4 +103,35 @@ pub fn each_service_is_printed()
         → IsFindText int.pid (records_of plain (table_packets_of plan)) text → PrintsEntry (entry_of plan.packet_rate service) pid text }
 {
     each_service_is_found();
+}
+
+/// The bytes that `tables` writes are cut into the packets of the tables again, and in no other way; and nothing is left.
+pub fn written_tables_are_cut_into_their_packets()
+    ensures cut { (plan : PlanFields) → IsCut 188 (bytes_of_tables plan) (table_packets_of plan) [] }
+    ensures one { (plan : PlanFields) (pieces : List (List ℕ)) (tail : List ℕ) → IsCut 188 (bytes_of_tables plan) pieces tail → (pieces ≡ table_packets_of plan) × (tail ≡ []) }
+{
+    cuts_are_unique();
+}
+
+/// Of accepted settings with an INT: in the text of the records of what `tables` writes, and so in what `find` prints where it reads these bytes,
+/// there is a line with its PID for each rule of each service with a service_id above 0, whose pair of service_id and component_tag no service before it has.
+pub fn what_tables_writes_is_found()
+    ensures pid { (settings : List ℕ) (plan : PlanFields) (int : IntFields) (service : ServiceFields) (earlier later : List ServiceFields) → IsAccepted settings plan
+        → plan.table ≡ Some int → plan.services ≡ earlier ++ service ∷ later → (pid : ℕ) × (pid_of service.kind ≡ Some pid) }
+    ensures text { (settings : List ℕ) (plan : PlanFields) (int : IntFields) (service : ServiceFields) (pid : ℕ) (earlier later : List ServiceFields) → IsAccepted settings plan
+        → plan.table ≡ Some int → plan.services ≡ earlier ++ service ∷ later → 0 < service.service_id → pid_of service.kind ≡ Some pid
+        → list_any (has_names service.service_id service.component_tag) earlier ≡ false
+        → (pieces : List (List ℕ)) (tail text : List ℕ) → IsCut 188 (bytes_of_tables plan) pieces tail → IsFindText int.pid (records_of plain pieces) text
+        → PrintsEntry (entry_of plan.packet_rate service) pid text }
+    ensures found { (settings : List ℕ) (plan : PlanFields) (int : IntFields) (service : ServiceFields) (pid : ℕ) (earlier later : List ServiceFields) → IsAccepted settings plan
+        → plan.table ≡ Some int → plan.services ≡ earlier ++ service ∷ later → 0 < service.service_id → pid_of service.kind ≡ Some pid
+        → list_any (has_names service.service_id service.component_tag) earlier ≡ false
+        → (input now : InputTold) (text : List ℕ) → input.left ≡ Some (bytes_of_tables plan) → IsFoundIn int.pid input now text
+        → PrintsEntry (entry_of plan.packet_rate service) pid text }
+{
+    written_tables_are_cut_into_their_packets();
+    accepted_settings_give_a_plan();
+    accepted_settings_give_bytes();
+    each_service_is_found();
+    each_service_is_printed();
 }

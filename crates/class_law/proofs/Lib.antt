@@ -1,0 +1,5 @@
+pub mod Ongoing
+pub mod Obeyed
+pub mod Packed
+pub mod Streams
+pub mod Small

@@ -1,0 +1,2 @@
+pub mod Yielding
+pub mod Examples
